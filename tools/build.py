@@ -4,17 +4,21 @@
 The crates of the program are proved from the lowest, several at a time (as many as there are processors, as far as there are 2.5 GB of memory
 for each, or as RT_JOBS says), and a crate that is proved is not proved again until it or one below it changes. An `rt` keeps others out of
 all crates below its own, so each that runs has a copy of the sources, and what it proved is handed on. How far it is goes to standard error,
-all that `rt` prints to crates/pico_main/out/build.log. Status 0: the program stands in crates/pico_main/out/pico_main; 1: it does not.
+all that `rt` prints to crates/pico_main/out/build.log. Where a build runs already, this one waits for it. The program that was there stays
+until the new one is linked. Status 0: the program stands in crates/pico_main/out/pico_main; 1: it does not.
 """
+import fcntl
 import os
 import shutil
+import signal
 import subprocess
 import sys
 import time
 
 TOP = os.path.dirname(os.path.dirname(os.path.abspath(__file__)))
 MAIN = "pico_main"
-LOG = f"{TOP}/crates/{MAIN}/out/build.log"
+OUT = f"{TOP}/crates/{MAIN}/out"
+PROGRAM, LOG = f"{OUT}/{MAIN}", f"{OUT}/build.log"
 
 
 def say(text):
@@ -192,10 +196,26 @@ class Build:
     def link(self):
         """Proves the program itself, and links it."""
         say(f"linking after {self.minutes()} minutes")
+        if os.path.exists(PROGRAM):
+            os.remove(PROGRAM)  # a build counts only where it made the program anew
         words = ["rt", "run", "--"]
-        where = f"{TOP}/crates/{MAIN}"
-        subprocess.run(words, cwd=where, stdin=subprocess.DEVNULL, stdout=self.log, stderr=subprocess.STDOUT)
-        return os.path.exists(f"{where}/out/{MAIN}")
+        subprocess.run(words, cwd=f"{TOP}/crates/{MAIN}", stdin=subprocess.DEVNULL, stdout=self.log, stderr=subprocess.STDOUT)
+        return os.path.exists(PROGRAM)
+
+
+def is_alone(lock):
+    """Whether no other build runs; where one does, it is waited for."""
+    try:
+        fcntl.flock(lock, fcntl.LOCK_EX | fcntl.LOCK_NB)
+    except BlockingIOError:
+        say("the program is being built already; waiting for that build")
+        fcntl.flock(lock, fcntl.LOCK_EX)
+        return False
+    return True
+
+
+def interrupt(*_):
+    raise KeyboardInterrupt
 
 
 def main():
@@ -203,13 +223,27 @@ def main():
     if "-h" in words or "--help" in words:
         print(__doc__.strip())
         return 0
-    os.makedirs(os.path.dirname(LOG), exist_ok=True)
+    for number in (signal.SIGTERM, signal.SIGHUP):
+        signal.signal(number, interrupt)
+    os.makedirs(OUT, exist_ok=True)
+    begun = time.time()
+    with open(f"{OUT}/build.lock", "w") as lock:
+        if is_alone(lock):
+            return build(at_a_time(words))
+    if os.path.exists(PROGRAM) and os.path.getmtime(PROGRAM) >= begun:
+        return 0
+    say(f"that build did not make the program; log: {LOG}")
+    return 1
+
+
+def build(jobs):
+    """Builds the program; the status."""
     with open(LOG, "w") as log:
-        build = Build(at_a_time(words), log)
-        say(f"proving and building the program, {len(build.order)} crates, {build.jobs} at a time; log: {LOG}")
+        made = Build(jobs, log)
+        say(f"proving and building the program, {len(made.order)} crates, {made.jobs} at a time; log: {LOG}")
         try:
-            if build.prove() and build.link():
-                say(f"built in {build.minutes()} minutes")
+            if made.prove() and made.link():
+                say(f"built in {made.minutes()} minutes")
                 return 0
         except KeyboardInterrupt:
             say("interrupted; what is proved is kept")
@@ -224,4 +258,7 @@ def main():
 
 
 if __name__ == "__main__":
-    sys.exit(main())
+    try:
+        sys.exit(main())
+    except KeyboardInterrupt:
+        sys.exit(1)

@@ -23,9 +23,8 @@ from dataclasses import dataclass
 from xml.sax.saxutils import escape, quoteattr
 
 sys.path.insert(0, os.path.dirname(os.path.abspath(__file__)))
-from runs import Refused, main, parser, say, write  # noqa: E402
+from runs import NOT_BUILT, TOP, Refused, is_built, main, parser, ran, say, write  # noqa: E402
 
-TOP = os.path.dirname(os.path.dirname(os.path.abspath(__file__)))
 SHOWN = 20  # lines of a difference
 
 
@@ -66,24 +65,29 @@ def difference(wanted, got):
 def tried(case, program, seconds, is_writing):
     """Runs a case."""
     begin = time.monotonic()
-    words = case.part(".args").decode().splitlines()
-    wanted, status = case.part(".stdout"), int(case.part(".status") or b"0")
+    words = case.part(".args").decode(errors="surrogateescape").splitlines()
+    wanted, number = case.part(".stdout"), (case.part(".status") or b"0").strip()
     wrong, is_written = None, False
+    if not number.isdigit():
+        return Done(case, f"{case.path}.status is no number", 0)
+    status = int(number)
     try:
-        done = subprocess.run([program, *words], input=case.part(".stdin") or b"", capture_output=True, timeout=seconds, check=False)
+        got, out, told = ran([program, *words], seconds, case.part(".stdin") or b"", subprocess.PIPE)
     except subprocess.TimeoutExpired:
         wrong = f"it did not end within {seconds} seconds"
     else:
-        told = done.stderr.decode(errors="replace").strip()[-500:]
-        if done.returncode != status:
-            wrong = f"its status is {done.returncode}, not {status}" + (f"\n{told}" if told else "")
+        told = told.decode(errors="replace").strip()[-500:]
+        if got != status:
+            wrong = f"its status is {got}, not {status}" + (f"\n{told}" if told else "")
+            if words and " " in words[0]:
+                wrong += f"\nin {case.path}.args each word has to stand on a line of its own"
         elif wanted is None and is_writing:
-            write(case.path + ".stdout", done.stdout)
+            write(case.path + ".stdout", out)
             is_written = True
         elif wanted is None:
             wrong = f"there is no {case.path}.stdout; --write makes it"
-        elif done.stdout != wanted:
-            wrong = f"it does not print {case.path}.stdout\n{difference(wanted, done.stdout)}"
+        elif out != wanted:
+            wrong = f"it does not print {case.path}.stdout\n{difference(wanted, out)}"
     return Done(case, wrong, time.monotonic() - begin, is_written)
 
 
@@ -144,8 +148,10 @@ def tool():
     if not os.access(given.program, os.X_OK) or os.path.isdir(given.program):
         raise Refused(f"{given.program} is no program", 2)
     program = os.path.abspath(given.program)
-    if program == f"{TOP}/pico" and subprocess.run([f"{TOP}/.ci/program"], capture_output=True, check=False).returncode != 0:
-        raise Refused("the program is not built, or is older than a source: ./pico run examples/five.uf2 --cycles 10 builds it", 2)
+    if program == f"{TOP}/pico" and not is_built():
+        raise Refused(NOT_BUILT, 2)
+    if given.junit and not os.path.isdir(os.path.dirname(os.path.abspath(given.junit))):
+        raise Refused(f"{given.junit} cannot be written: there is no such folder", 2)
     results = []
     with concurrent.futures.ThreadPoolExecutor(given.jobs) as pool:
         waiting = [pool.submit(tried, case, program, given.seconds, given.write) for case in cases]

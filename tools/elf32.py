@@ -6,6 +6,7 @@ from runs import Refused
 
 MAGIC = b"\x7fELF"
 ARM, EXECUTABLE, OBJECT, LOAD, SYMBOLS, NO_BITS, ALLOCATED = 40, 2, 1, 1, 2, 8, 2
+OBJECTS, FUNCTIONS = 1, 2  # kinds of symbols
 
 
 @dataclass
@@ -49,7 +50,8 @@ class Elf:
             self.segments = list(self._segments())
             self.headers = [self._header(number) for number in range(self.section_count)]
             self.sections = list(self._sections())
-        except struct.error:
+            self.found = list(self._symbols())
+        except (struct.error, IndexError):
             raise Refused(f"{name} is cut: its tables lie behind its end") from None
 
     def _segments(self):
@@ -65,8 +67,9 @@ class Elf:
         return struct.unpack_from("<10I", self.data, self.section_table + self.section_size * number)
 
     def _text(self, table, offset):
+        """A name of at most 1000 bytes, without its end where the file ends before."""
         begin = self.headers[table][4] + offset
-        return self.data[begin:self.data.index(b"\0", begin)].decode(errors="replace")
+        return self.data[begin:begin + 1000].partition(b"\0")[0].decode(errors="replace")
 
     def _sections(self):
         """The sections in memory, each at the address where its segment loads it."""
@@ -79,18 +82,23 @@ class Elf:
                     break
             yield Section(self._text(self.names, name), address, 0 if kind == NO_BITS else size)
 
-    def functions(self):
-        """The functions in order: begin, size and name."""
-        found = []
+    def _symbols(self):
+        """The kind, begin, size and name of each symbol of the program's sections."""
         for _, kind, _, _, offset, size, link, *_ in self.headers:
             if kind != SYMBOLS:
                 continue
             for at in range(offset, offset + size, 16):
                 name, value, length, info, _, section = struct.unpack_from("<IIIBBH", self.data, at)
                 text = self._text(link, name) if name else ""
-                if info & 15 in (0, 2) and 0 < section < 0xFF00 and text and not text.startswith("$"):
-                    found.append((value & ~1, length, text))
-        return sorted(found)
+                if 0 < section < 0xFF00 and text and not text.startswith("$"):
+                    yield info & 15, value if info & 15 == OBJECTS else value & ~1, length, text
+
+    def symbols(self, kinds):
+        """The symbols of these kinds in order: begin, size and name."""
+        return sorted(rest for kind, *rest in self.found if kind in kinds)
+
+    def functions(self):
+        return self.symbols((0, FUNCTIONS))
 
     def function_of(self, address):
         """The function in which an address lies, with the distance from its begin; None outside all of them."""
@@ -99,3 +107,8 @@ class Elf:
             if begin <= address and (address < begin + length or length == 0):
                 best = (name, address - begin)
         return best
+
+    def object_of(self, address):
+        """The variable in which an address lies, with the distance from its begin; None outside all of them."""
+        found = [(name, address - begin) for begin, length, name in self.symbols((OBJECTS,)) if begin <= address < begin + length]
+        return found[-1] if found else None

@@ -3,8 +3,8 @@
 
 ./pico runs the program through this. What the program prints and its status are handed on as they are. Where the status is 2 to 12,
 standard error gets what docs/USAGE.md says of that line: for words the first that is not understood and the usage of the command; for
-a file why it cannot be read; for a fault in a source the line that has it. An ELF file in the place of an image is packed by
-tools/uf2.py into an image for this run alone.
+a file why it cannot be read; for a fault in a source the line that has it. Of a run that stopped outside it gets what is there. An ELF
+file in the place of an image is packed by tools/uf2.py into an image for this run alone.
 """
 import difflib
 import os
@@ -16,8 +16,9 @@ import tempfile
 
 sys.path.insert(0, os.path.dirname(os.path.abspath(__file__)))
 from elf32 import MAGIC  # noqa: E402
-from runs import Refused, read_bytes, write  # noqa: E402
+from runs import STOP, Refused, read_bytes, write  # noqa: E402
 from uf2 import image, parts_of  # noqa: E402
+from where import area_of, vector_of  # noqa: E402
 
 TOP = os.path.dirname(os.path.dirname(os.path.abspath(__file__)))
 NUMBERS = {"--cycles": (1, 1_000_000_000), "--workers": (0, 8), "--side": (0, 5), "--opt": (0, 1)}
@@ -41,8 +42,10 @@ class Page:
         try:
             with open(f"{TOP}/docs/USAGE.md", encoding="utf-8") as file:
                 self.text = file.read()
+            with open(f"{TOP}/docs/THUMB.md", encoding="utf-8") as file:
+                self.thumb = file.read()
         except OSError:
-            self.text = ""
+            self.text = self.thumb = ""
         lines = re.findall(r"^pico (\w+) .*$", self.text.partition("\n## ")[0], re.M)
         found = re.findall(r"^pico .*$", self.text.partition("\n## ")[0], re.M)
         self.forms = dict(zip(lines, found))
@@ -69,17 +72,37 @@ class Page:
 
     def thumb_fault(self, number):
         """What docs/THUMB.md says to do about a fault."""
-        try:
-            with open(f"{TOP}/docs/THUMB.md", encoding="utf-8") as file:
-                found = re.search(rf"^\| {number} \| \w+ \| (.*?) *\|$", file.read(), re.M)
-        except OSError:
-            found = None
+        found = re.search(rf"^\| {number} \| \w+ \| (.*?) *\|$", self.thumb, re.M)
         return found[1].replace("`", "") if found else None
+
+    def thumb_forms(self):
+        """The forms of docs/THUMB.md, each as its mnemonic or directive, its operands and what is said of their numbers."""
+        part = self.thumb.partition("\n## Directives\n")[2].partition("\n## Faults\n")[0]
+        for line in part.splitlines():
+            if line.startswith("| `"):
+                cell, numbers = (it.strip() for it in line.split("|")[1:3])
+                for piece in cell.split(";"):
+                    yield from ((*form, numbers.replace("`", "")) for form in forms_in(piece))
+
+    def commands(self):
+        """The commands of a session, with their words."""
+        part = self.text.partition("\n## `debug`")[2].partition("\n## ")[0]
+        return ", ".join(form for row in re.findall(r"^\| (`[a-z].*?) \|", part, re.M) for form in re.findall(r"`([^`]*)`", row))
 
     def todo(self, status):
         """What the table of statuses says of one."""
         rows = re.findall(rf"^\| {status} \| .* \| (.*?) *\|$", self.text, re.M)
         return rows[0] if rows else ""
+
+
+def forms_in(cell):
+    """The forms that a cell of docs/THUMB.md lists: mnemonics `and` their operands, or whole forms, or mnemonics without operands."""
+    heads, joined, tails = cell.partition(" and `")
+    spans = [re.findall(r"`([^`]*)`", it) for it in (heads, joined[-1:] + tails)]
+    if joined:
+        return [(name, operands) for span in spans[0] for name in span.split() for operands in spans[1]]
+    alone = [span for span in spans[0] if span.count(" ") > 1 and span.replace(" ", "").isalnum()]
+    return [(name, "") for span in alone for name in span.split()] + [span.partition(" ")[::2] for span in spans[0] if span not in alone]
 
 
 def near(word, known):
@@ -201,11 +224,15 @@ def told_words(page, words):
 def told_file(words, name):
     """Why a file cannot be read, and which word names it."""
     why = "it is a folder" if os.path.isdir(name) else None
-    try:
-        with open(name, "rb"):
-            pass
-    except OSError as error:
-        why = why or error.strerror
+    if why is None and (os.path.isfile(name) or not os.path.exists(name)):
+        try:
+            with open(name, "rb"):
+                pass
+        except OSError as error:
+            why = error.strerror
+    if not name:
+        say("a word that has to name a file is empty, as behind --pio 0:0:")
+        return
     entries = [f"--pio {entry}" for word in words for entry in word.split(",") if re.fullmatch(rf"[01]:[0-3]:{re.escape(name)}", entry)]
     named = f", which {entries[0]} names," if entries else ""
     say(f"{name}{named} cannot be read: {why or 'reading it failed'}")
@@ -220,30 +247,51 @@ def told_large(name, length):
     say(f"{name} has {length} bytes; an image has at most 16 MiB, a script 4 MiB, a source 1 MiB")
 
 
+def is_text(data):
+    try:
+        return "\0" not in data.decode()
+    except UnicodeDecodeError:
+        return False
+
+
 def told_image(page, words, number, name):
     path = image_of(page, words)
     said = page.fault("an image", f"{number} {name}")
     say(f"{path or 'the image'} is refused: " + (": ".join(said) or f"fault {number} {name}"))
     try:
-        data = read_bytes(path) if path else b""
+        data = read_bytes(path) if path and os.path.isfile(path) else b""
     except (OSError, Refused):
         return
     if data[:1] == b":":
         say(f"{path} looks like an Intel HEX file: give the ELF file in its place")
+    elif data[:6] == b"error ":
+        say(f"{path} has the line of a refusal: {data.splitlines()[0].decode(errors='replace')[:120]}")
+    elif number in ("2", "3") and is_text(data):
+        say(f"{path} is a text: run takes a UF2 or an ELF file, which docs/FIRMWARE.md tells to make; of a Thumb source ./pico thumb makes one")
     elif data and number in ("2", "3") and data[:4] != b"UF2\n":
         say(f"if it is a raw binary for SRAM, this makes an image of it: {TOP}/tools/uf2.py {path} {os.path.splitext(path)[0]}.uf2 20000000")
 
 
+def line_in(path, number):
+    """A line of a source; None where there is none."""
+    try:
+        if number < 1 or not os.path.isfile(path):
+            return None
+        with open(path, encoding="utf-8", errors="replace") as file:
+            return file.read().split("\n")[number - 1]
+    except (OSError, IndexError):
+        return None
+
+
 def shown_line(path, number, column=None):
     """Shows a line of a source, with a mark below the column."""
-    try:
-        with open(path, encoding="utf-8", errors="replace") as file:
-            line = file.read().split("\n")[number - 1]
-    except (OSError, IndexError):
+    line = line_in(path, number)
+    if line is None:
         return
-    say(f"{path}:{number}: {line[:120]}")
+    shown = "".join(c if c == "\t" or c.isprintable() else "?" for c in line[:120])
+    say(f"{path}:{number}: {shown}")
     if column is not None and 0 < column <= 120:
-        say(" " * (len(f"{path}:{number}: ") + column - 1) + "^")
+        say(" " * len(f"{path}:{number}: ") + re.sub(r"[^\t]", " ", line[:column - 1]) + "^")
 
 
 def pio_files(words):
@@ -279,11 +327,31 @@ def told_pio(page, program, words, line):
         shown_line(path, int(more[0]), int(more[1]) if len(more) > 1 else None)
 
 
-def told_thumb(page, words, number, name, line=None):
+def told_forms(page, line):
+    """Tells the forms of a line's mnemonic or directive, and those with an `s` behind it."""
+    found = re.match(r"(?:\s*\w+:)?\s*([\w.]+)", line.partition(";")[0])
+    if not found:
+        return
+    word, forms = found[1], list(page.thumb_forms())
+    names = {"bhs": ["bcs"], "blo": ["bcc"]}.get(word, [word.lower(), word.lower() + "s"])
+    said = [f"{name} {operands}".strip() + (f" ({numbers})" if numbers else "") for name, operands, numbers in forms if name in names]
+    if said:
+        say("docs/THUMB.md has " + "; ".join(said))
+    elif word[0] == ".":
+        say(f"there is no directive {word}, but {', '.join(dict.fromkeys(name for name, *_ in forms if name[0] == '.'))}")
+    else:
+        say(f"there is no mnemonic {word}{near(word, {name for name, *_ in forms})}")
+
+
+def told_thumb(page, words, number, name, line="0"):
     path = split(page, words)[0][0]
     say(f"{path} is refused: {name}: {page.thumb_fault(number) or f'fault {number}'} (docs/THUMB.md)")
-    if line:
-        shown_line(path, int(line))
+    text, column = line_in(path, int(line)), None
+    if name == "Char" and (found := re.search(r"[^A-Za-z0-9 \t\r_.,:#\[\]{}!+;-]", text or "")):
+        column = found.start() + 1
+    shown_line(path, int(line), column)
+    if name in ("Syntax", "Range", "Register"):
+        told_forms(page, text or "")
 
 
 def told_start(page, words, address):
@@ -323,6 +391,13 @@ def explain(page, program, words, status, line):
         say(f"status {status}: docs/USAGE.md tells what it means")
 
 
+def told_outside(address):
+    """Says what is where a run stopped outside of the machine."""
+    area = area_of(int(address, 16))
+    say(f"{address} is {f'in {area}' if area else 'in no block'}{vector_of(int(address, 16))}; docs/FIRMWARE.md has what is left out, "
+        "and tools/where.py names the line of the program")
+
+
 def image_of(page, words):
     """The word that names the image of a run or a session."""
     if not words or words[0] not in ("run", "debug") or words[0] not in page.forms:
@@ -341,16 +416,19 @@ def packed(page, words, folder):
             return words
     made = f"{folder}/{os.path.splitext(os.path.basename(path))[0]}.uf2"
     write(made, image(parts_of(path, read_bytes(path))))
-    say(f"{path} is an ELF file; this run has the image that tools/uf2.py makes of it")
     at = words.index(path, 1)
     return [*words[:at], made, *words[at + 1:]]
 
 
-def handed_on(pipe):
-    """Hands on what the program prints; its last bytes, and the error where standard output takes no more."""
+def handed_on(page, pipe, is_session):
+    """Hands on what the program prints; its last bytes, and the error where standard output takes no more. The first line of a session
+    that is a `bad command` is explained."""
     last = b""
     while data := os.read(pipe.fileno(), 1 << 16):
         last = (last + data)[-1 << 13:]
+        if is_session and re.search(rb"^bad command\n", last, re.M):
+            say(f"commands are {page.commands()}; numbers are decimal, addresses eight hexadecimal digits (docs/USAGE.md)")
+            is_session = False
         while data:
             try:
                 data = data[os.write(1, data):]
@@ -360,22 +438,28 @@ def handed_on(pipe):
     return last, None
 
 
-def run(page, program, words):
-    """Runs the program, and answers its status."""
-    process = subprocess.Popen([program, *words], stdout=subprocess.PIPE)
+def run(page, program, given, words):
+    """Runs the program with words, those given with an image in the place of an ELF file, and answers its status."""
+    # a word may name an open pipe, as /dev/fd/63
+    process = subprocess.Popen([program, *words], stdout=subprocess.PIPE, close_fds=False)
     for number in (signal.SIGTERM, signal.SIGHUP, signal.SIGINT):
         signal.signal(number, lambda got, _: process.send_signal(got))
-    last, error = handed_on(process.stdout)
+    last, error = handed_on(page, process.stdout, given[:1] == ["debug"])
     status = process.wait()
     if error is not None:
-        gone = "its reader has gone" if isinstance(error, BrokenPipeError) else error.strerror
-        say(f"status 7: {page.todo(7) or 'standard output could not be written'}: {gone}")
+        if not isinstance(error, BrokenPipeError):  # a reader like `head` has what it wants
+            say(f"status 7: {page.todo(7) or 'standard output could not be written'}: {error.strerror}")
         return 7
     if status < 0:
         return 128 - status
+    lines = last.decode(errors="replace").splitlines()
     if 2 <= status <= 12:
-        lines = [line for line in last.decode(errors="replace").splitlines() if line.startswith("error ")]
-        explain(page, program, words, status, lines[-1] if lines else "")
+        errors = [line for line in lines if line.startswith("error ")]
+        explain(page, program, given, status, errors[-1] if errors else "")
+    elif given[:1] == ["run"]:
+        for found in filter(None, map(STOP.fullmatch, lines)):
+            if found[2]:
+                told_outside(found[2])
     return status
 
 
@@ -384,9 +468,10 @@ def main():
         print(__doc__, end="")
         return 0 if len(sys.argv) > 1 else 2
     page, program, words = Page(), sys.argv[1], sys.argv[2:]
+    sys.argv[0] = "pico"  # what the tools say is said in this name
     with tempfile.TemporaryDirectory(prefix="pico-") as folder:
         try:
-            return run(page, program, packed(page, words, folder))
+            return run(page, program, words, packed(page, words, folder))
         except Refused as refused:
             say(refused)
             return 4

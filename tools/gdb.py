@@ -162,7 +162,7 @@ class Session:
             while source not in select.select([source, link.source], [], [])[0]:
                 link.look()
         except (EOFError, Interrupted) as ended:
-            self.debug.process.kill()
+            self.debug.process.terminate()
             if isinstance(ended, Interrupted):
                 self.begin()
             raise
@@ -546,9 +546,20 @@ def turned(word):
     return word[6:8] + word[4:6] + word[2:4] + word[0:2]
 
 
+def port(text):
+    number = int(text)
+    if not 0 <= number < 1 << 16:
+        raise ValueError
+    return number
+
+
 def listen(port, make):
     """Serves one connection after another at a port of this machine."""
-    with socket.create_server(("localhost", port)) as server:
+    try:
+        server = socket.create_server(("localhost", port))
+    except OSError as error:
+        raise Refused(f"port {port} cannot be opened: {error.strerror.partition(' (')[0]}") from None
+    with server:
         say(f"waiting at localhost:{server.getsockname()[1]}")
         while True:
             connection, _ = server.accept()
@@ -565,7 +576,7 @@ def tool():
     words.add_argument("--pio", help="as of pico debug")
     words.add_argument("--part", help="as of pico debug")
     words.add_argument("--table", action="store_true", help="as of pico debug")
-    words.add_argument("--listen", type=int, metavar="PORT", help="waits for GDB at a port of this machine, in place of a pipe")
+    words.add_argument("--listen", type=port, metavar="PORT", help="waits for GDB at a port of this machine, in place of a pipe")
     given = words.parse_args()
 
     def make():

@@ -6,10 +6,10 @@
 
     with johvelni.Debug("firmware.elf", 200000) as session:
         session.end()
-        print(session.lastwrite(0x20000098))
+        print(session.mem(johvelni.symbols("firmware.elf")["count"]))
 
-The program is ./pico of this repository, or the one that the environment names as JOHVELNI. An image is a UF2 file; where the
-program is ./pico, it may be an ELF file.
+The program is ./pico of this repository, which has to be built, or the one that the environment names as JOHVELNI. An image is a UF2 file;
+where the program is ./pico, it may be an ELF file.
 """
 from __future__ import annotations
 
@@ -20,9 +20,12 @@ import tempfile
 from dataclasses import dataclass
 
 sys.path.insert(0, os.path.dirname(os.path.abspath(__file__)))
-from runs import NAMES, Run, moved, read_run  # noqa: E402
+import runs  # noqa: E402
+from elf32 import FUNCTIONS, OBJECTS, Elf  # noqa: E402
+from runs import NAMES, NOT_BUILT, Run, is_built, moved, ran, read_bytes, read_run  # noqa: E402
 
 TOP = os.path.dirname(os.path.dirname(os.path.abspath(__file__)))
+BAD = "bad command"
 
 
 class Refused(Exception):
@@ -49,9 +52,27 @@ class Result:
         return levels[-1] if levels else 0
 
 
+def send(cycle, pin, data, baud):
+    """The line of a script by which a serial line sends bytes (at most 256) to a pin from a cycle on; the script's first line is `version 2`,
+    and before the first of these a line as (0, pin, 1) makes the pin high."""
+    return f"send {cycle} {pin} {round(500_000_000 / baud)} {bytes(data).hex()}"
+
+
+def symbols(path):
+    """The addresses of the variables and functions of an ELF file by their names."""
+    try:
+        elf = Elf(path, read_bytes(path))
+    except runs.Refused as refused:
+        raise Refused(refused) from None
+    return {name: address for kinds in ((0, FUNCTIONS), (OBJECTS,)) for address, _, name in elf.symbols(kinds)}
+
+
 def program():
-    """The program that is run."""
-    return os.environ.get("JOHVELNI", f"{TOP}/pico")
+    """The program that is run. Refused where ./pico would prove and build it first: a test is no place for that."""
+    named = os.environ.get("JOHVELNI")
+    if not named and not is_built():
+        raise Refused(NOT_BUILT)
+    return named or f"{TOP}/pico"
 
 
 def words_of(folder, script=None, pio=None, probes=None, parts=None, table=False):
@@ -82,13 +103,17 @@ def result_of(status, text):
     return Result(status, text, errors[-1] if errors else None, run.stop, run.cycle, run.cores, [run.sent(0), run.sent(1)], edges, run.rest)
 
 
-def run(image, cycles, seconds=None, **more):
-    """Runs an image for at most so many cycles; seconds limits the time. More are script, pio as {(block, machine): file}, probes as
-    {probe: pin}, parts as {part: [pin, ..]}, and table=True for the table of routines."""
+def run(image, cycles, seconds=None, check=True, **more):
+    """Runs an image for at most so many cycles. A run that takes more than so many seconds raises subprocess.TimeoutExpired, one that the
+    program refuses Refused; with check=False the latter is a result with its status and error alone. More are script, pio as {(block,
+    machine): file}, probes as {probe: pin}, parts as {part: [pin, ..]}, and table=True for the table of routines."""
     with tempfile.TemporaryDirectory() as folder:
         words = [program(), "run", os.fspath(image), "--cycles", str(cycles), *words_of(folder, **more)]
-        done = subprocess.run(words, stdin=subprocess.DEVNULL, stdout=subprocess.PIPE, timeout=seconds, check=False)
-    return result_of(done.returncode, done.stdout.decode())
+        status, out, _ = ran(words, seconds)
+    result = result_of(status, out.decode())
+    if check and result.status != 0:
+        raise Refused(result.error or f"the run ended with status {result.status}")
+    return result
 
 
 class Debug:
@@ -123,7 +148,10 @@ class Debug:
     def ask(self, command, lines=1):
         """The lines with which the session answers a command."""
         self.put(command)
-        return self.take(lines)
+        try:
+            return self.take(lines)
+        except Refused as refused:
+            raise Refused(f"{BAD}: {command.splitlines()[0]}" if str(refused) == BAD else refused) from None
 
     def put(self, command):
         """Says a command, whose answer is taken later."""
@@ -138,7 +166,7 @@ class Debug:
         found = []
         while len(found) < lines:
             line = self.process.stdout.readline().rstrip("\n")
-            if not line or line.startswith("error ") or line == "bad command":
+            if not line or line.startswith("error ") or line == BAD:
                 raise Refused(line or f"the session ended with status {self.process.wait()}")
             found.append(line)
         return found
@@ -170,9 +198,12 @@ class Debug:
         return [None if row == ["asleep"] else dict(zip(NAMES, (int(word, 16) for word in row))) for row in words]
 
     def mem(self, address, count=1):
-        """1 to 16 words of SRAM."""
-        (line,) = self.ask(f"mem {address:08x} {count}")
-        return [int(word, 16) for word in line.split()[2:]]
+        """Words of SRAM."""
+        found = []
+        for done in range(0, count, 16):
+            (line,) = self.ask(f"mem {address + 4 * done:08x} {min(16, count - done)}")
+            found += [int(word, 16) for word in line.split()[2:]]
+        return found
 
     def pins(self):
         """The levels of the pads 0 to 29."""

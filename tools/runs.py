@@ -3,12 +3,15 @@ messages of one line in place of tracebacks. It is no tool itself."""
 from __future__ import annotations
 
 import argparse
+import functools
 import os
 import re
+import subprocess
 import sys
 import tempfile
 from dataclasses import dataclass, field
 
+TOP = os.path.dirname(os.path.dirname(os.path.abspath(__file__)))
 CYCLE_NS = 8  # a cycle of 125 MHz
 
 PIN = re.compile(r"(\d+) pin (\d+) ([01])")
@@ -17,6 +20,7 @@ STOP = re.compile(r"stop (limit|bkpt core[01]|lockup core[01]|outside (?:core0|c
 CORE = re.compile(r"core([01]) (asleep|[0-9a-f]{8}(?: [0-9a-f]{8}){16})")
 LAST = re.compile(r"probe \d+ pin \d+ .*|windows \d+ cycles \d+")
 NAMES = [f"r{n}" for n in range(13)] + ["sp", "lr", "pc", "xpsr"]
+NOT_BUILT = "the program is not built, or is older than a source: ./pico run examples/five.uf2 --cycles 10 builds it"
 
 
 class Refused(Exception):
@@ -45,6 +49,24 @@ class Run:
     def edges(self, pin):
         """The changes of this pin: (cycle, level)."""
         return [(cycle, level) for cycle, number, level in self.pins if number == pin]
+
+
+@functools.cache
+def is_built():
+    """Whether the program stands built in this repository, and no source is newer."""
+    return subprocess.run([f"{TOP}/.ci/program"], capture_output=True, check=False).returncode == 0
+
+
+def ran(words, seconds, given=b"", stderr=None):
+    """Runs a command: its status, its output and what it told. Where it takes longer, or this is interrupted, it is asked to end, which ./pico
+    hands on to the program."""
+    with subprocess.Popen(words, stdin=subprocess.PIPE, stdout=subprocess.PIPE, stderr=stderr) as process:
+        try:
+            out, told = process.communicate(given, seconds)
+        except BaseException:
+            process.terminate()
+            raise
+    return process.returncode, out, told
 
 
 def moved(line):
@@ -79,14 +101,14 @@ def read_run(text):
 
 
 def tell_end(run):
-    """Says on standard error how a run ended, and answers the status for it: a limit is silent, and a BKPT is as good an end."""
+    """Says on standard error how a run ended, and answers the status for it: the limit and a BKPT are good ends, of which nothing is said."""
     if run.stop is None:
         say("the text ends without the line of a stop, so it is no whole run")
         return 3
-    if run.stop.startswith("stop limit"):
+    if run.stop.startswith(("stop limit", "stop bkpt")):
         return 0
     say(f"the run ended by: {run.stop}")
-    return 0 if run.stop.startswith("stop bkpt") else 3
+    return 3
 
 
 def read_text(path):
@@ -103,6 +125,20 @@ def read_text(path):
         raise Refused(f"{path or 'standard input'} is no text, so it is no output of a run") from None
 
 
+def read_lines(path):
+    """The lines of a file, or of standard input as they come, where no file is named."""
+    if path not in (None, "-"):
+        yield from read_text(path).splitlines()
+        return
+    if sys.stdin is None:
+        raise Refused("standard input is closed")
+    for data in sys.stdin.buffer:
+        try:
+            yield data.decode().rstrip("\r\n")
+        except UnicodeDecodeError:
+            raise Refused("standard input is no text, so it is no output of a run") from None
+
+
 def read_bytes(path):
     """The bytes of a file that has some."""
     if os.path.isdir(path):
@@ -112,6 +148,12 @@ def read_bytes(path):
     if not data:
         raise Refused(f"{path} is empty")
     return data
+
+
+def need_apart(source, target):
+    """Refuses to write over the file that is read."""
+    if source not in (None, "-") and target not in (None, "-") and os.path.exists(target) and os.path.samefile(source, target):
+        raise Refused(f"{target} is the file that is read: name another one to write")
 
 
 def write(path, data):
@@ -129,7 +171,10 @@ def write(path, data):
         with open(path, "wb") as file:
             file.write(data)
         return
-    handle, part = tempfile.mkstemp(dir=os.path.dirname(os.path.abspath(path)))
+    try:
+        handle, part = tempfile.mkstemp(dir=os.path.dirname(os.path.abspath(path)))
+    except OSError as error:
+        raise Refused(f"{path} cannot be written: {error.strerror}") from None
     try:
         with open(handle, "wb") as file:
             file.write(data)

@@ -12,7 +12,7 @@ import sys
 
 sys.path.insert(0, os.path.dirname(os.path.abspath(__file__)))
 from elf32 import MAGIC, Elf  # noqa: E402
-from runs import Refused, main, parser, read_bytes, say, write  # noqa: E402
+from runs import Refused, main, need_apart, parser, read_bytes, say, write  # noqa: E402
 
 PAYLOAD, FAMILY = 256, 0xE48BFF56
 SRAM = range(0x20000000, 0x20042000)
@@ -96,7 +96,9 @@ def tool():
     words.add_argument("image", help="the UF2 file to write")
     words.add_argument("address", nargs="?", type=hexadecimal, help="where a raw binary is loaded, hexadecimal")
     given = words.parse_args()
-    write(given.image, image(parts_of(given.source, read_bytes(given.source), given.address)))
+    parts = parts_of(given.source, read_bytes(given.source), given.address)
+    need_apart(given.source, given.image)
+    write(given.image, image(parts))
 
 
 if __name__ == "__main__":

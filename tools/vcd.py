@@ -9,15 +9,14 @@ x for half a cycle before the next one, so that a byte shows also where it is th
 byte. All are wires of one bit, since sigrok and PulseView read no others. The lines of registers, probes and windows are left out.
 
 Statuses: 0; 1 where the input is no run, or the program refused it (its line is shown, and nothing is written); 3 where the run
-stopped by a lockup or outside of the machine, or was cut (the file is whole up to there). A stop other than the limit is told on
-standard error.
+stopped by a lockup or outside of the machine, which is told on standard error, or was cut (the file is whole up to there).
 """
 import os
 import re
 import sys
 
 sys.path.insert(0, os.path.dirname(os.path.abspath(__file__)))
-from runs import CYCLE_NS, Refused, main, parser, read_run, read_text, tell_end, write  # noqa: E402
+from runs import CYCLE_NS, Refused, main, need_apart, parser, read_run, read_text, tell_end, write  # noqa: E402
 
 BITS = range(7, -1, -1)
 
@@ -69,6 +68,7 @@ def tool():
     words.add_argument("-o", "--output", help="the file to write, whole or not at all; standard output where none is named")
     given = words.parse_args()
     run = read_run(read_text(given.run))
+    need_apart(given.run, given.output)
     status = tell_end(run)
     write(given.output, vcd(run))
     return status

@@ -3,10 +3,11 @@
 
     ./pico run examples/firmware/fault.uf2 --cycles 200000 | tools/where.py fault.elf
 
-Each line is copied; below a line of registers stand the places of PC and LR, and below a stop outside that of its address: a function of
-the program, or the block of the RP2040's address map. Lines of the source are there where the program was compiled with -g and addr2line (arm-none-eabi-addr2line,
-llvm-addr2line or addr2line) is installed; without it the function and the distance from its begin are told. In the place of the ELF
-file its listing can stand (arm-none-eabi-objdump -dlS), which needs no addr2line.
+Each line is copied as it comes; below a line of registers stand the places of PC and LR, below a stop outside that of its address (a function
+of the program, or the block of the RP2040's address map), and below the words of `mem` and `lastwrite` the variable. Lines of the source are
+there where the program was compiled with -g and addr2line (arm-none-eabi-addr2line, llvm-addr2line or addr2line) is installed; without it the
+function and the distance from its begin are told. In the place of the ELF file its listing can stand (arm-none-eabi-objdump -dlS), which needs
+no addr2line and has no variables.
 """
 import os
 import re
@@ -16,7 +17,7 @@ import sys
 
 sys.path.insert(0, os.path.dirname(os.path.abspath(__file__)))
 from elf32 import MAGIC, Elf  # noqa: E402
-from runs import CORE, STOP, Refused, main, parser, read_bytes, read_text, say, write  # noqa: E402
+from runs import CORE, STOP, Refused, main, parser, read_bytes, read_lines, say  # noqa: E402
 
 TOOLS = ("arm-none-eabi-addr2line", "llvm-addr2line", "llvm-addr2line-14", "llvm-symbolizer", "addr2line")
 # RP2040 Datasheet, 2.2: the blocks from 40000000 on, each with 4000 bytes
@@ -28,6 +29,9 @@ AREAS = [
     (0xD0000000, 0xD0001000, "SIO"), (0xE0000000, 0xE0100000, "the processor's own registers"),
 ]
 RETURNS = re.compile(r"fffffff[19d]|ffffffff")
+WORDS = re.compile(r"(?:mem|lastwrite) ([0-9a-f]{8}) .*")
+# ARMv6-M Architecture Reference Manual, B1.5.2: exceptions by their numbers; interrupts follow from 16 on
+EXCEPTIONS = {2: "NMI", 3: "HardFault", 11: "SVCall", 14: "PendSV", 15: "SysTick"} | {16 + line: f"interrupt {line}" for line in range(32)}
 
 
 def addr2line():
@@ -89,14 +93,23 @@ def area_of(address):
     return next((name for begin, end, name in AREAS if begin <= address < end), None)
 
 
-def notes_of(line, place):
+def vector_of(address):
+    """What is said of an address below C0: a vector where VTOR is 0."""
+    name = EXCEPTIONS.get(address // 4) if address % 4 == 0 else None
+    return f": the vector of {name}, if VTOR is still 0" if name else ""
+
+
+def notes_of(line, place, variable):
     """What is said below a line."""
     if (found := STOP.fullmatch(line)) and found[2]:
         address = int(found[2], 16)
         if where := place(address & ~1):
             yield f"  {address:08x} is {where}"
         elif area := area_of(address):
-            yield f"  {address:08x} is in {area}"
+            yield f"  {address:08x} is in {area}{vector_of(address)}"
+    elif found := WORDS.fullmatch(line):
+        if where := variable(int(found[1], 16)):
+            yield f"  {found[1]} is {where[0]}+{where[1]}"
     elif (found := CORE.fullmatch(line)) and found[2] != "asleep":
         words = found[2].split()
         lr, pc = words[14], words[15]
@@ -110,17 +123,17 @@ def notes_of(line, place):
             yield f"  lr {lr} is {where}"
 
 
-def place_in(path):
-    """A function that tells the place of an address by the ELF file or the listing."""
+def places_in(path):
+    """Functions that tell the place of an address, and the variable there, by the ELF file or the listing."""
     data = read_bytes(path)
     if data[:4] != MAGIC:
         if b"\0" in data:
             raise Refused(f"{path} is no ELF file")
-        return listed(path, data.decode(errors="replace"))
+        return listed(path, data.decode(errors="replace")), lambda _: None
     elf = Elf(path, data)
     if not elf.functions():
         raise Refused(f"{path} has no symbols: link it without -s, and do not strip it")
-    return places(path, elf, addr2line())
+    return places(path, elf, addr2line()), elf.object_of
 
 
 def tool():
@@ -128,14 +141,16 @@ def tool():
     words.add_argument("elf", help="the ELF file of the program, or its listing")
     words.add_argument("run", nargs="?", help="the text of a run or a session; standard input where none is named")
     given = words.parse_args()
-    place = place_in(given.elf)
-    text = read_text(given.run)
-    if not text:
+    place, variable = places_in(given.elf)
+    if sys.stdout is None:
+        raise Refused("standard output is closed")
+    sys.stdout.reconfigure(encoding="utf-8")
+    is_empty = True
+    for line in read_lines(given.run):
+        print(line, *notes_of(line, place, variable), sep="\n", flush=not line[:1].isdigit())
+        is_empty = False
+    if is_empty:
         raise Refused("there are no lines of a run; does the command before the pipe print them?")
-    out = []
-    for line in text.splitlines():
-        out += [line, *notes_of(line, place)]
-    write(None, "\n".join(out) + "\n")
 
 
 if __name__ == "__main__":
