@@ -104,7 +104,7 @@ impl Outer {
     }
 
     /// The pads step to these levels, which these drivers give.
-    #[inline(never)]
+    #[inline(always)]
     fn step_changed(&mut self, drivers: Drivers, levels: u32)
         requires { levels ≡ levels_of (outs_by self.old.sio drivers)
             (by_sets drivers.driven drivers.high) self.old.pads }
