@@ -183,23 +183,15 @@ impl Outer {
     /// A cycle by these, whatever changes.
     #[inline(never)]
     #[tactic(auto, unfolding(crate::specs::Rest::pads_after))]
-    fn step_changing(
-        &mut self,
-        wires: &Wires,
-        seen: &SeenOutputs,
-        drives: Drives,
-        marks: &mut Marks,
-    )
-        requires { length marks.old < 256 }
-        ensures state { self.new ≡ next_driven wires.now seen.now drives self.old }
-        ensures marks { marks.new
-            ≡ marks.old ++ marked_driven wires.now seen.now drives self.old ∷ [] }
+    fn step_changing(&mut self, wires: Wires, seen: &SeenOutputs, drives: Drives) -> Mark
+        ensures state { self.new ≡ next_driven wires seen.now drives self.old }
+        ensures mark { result ≡ marked_driven wires seen.now drives self.old }
     {
-        let drivers = self.drivers(wires, seen, drives);
+        let drivers = self.drivers(&wires, seen, drives);
         let uart = self.step_blocks(seen.cycle);
         let pads = self.step_driven(drivers);
         self.irq = wires.irq;
-        marks.push(Mark { uart, pads });
+        Mark { uart, pads }
     }
 
     /// A cycle by these. In most of them nothing changes but the time of the timer and of bits, and the lines of the device.
@@ -218,7 +210,8 @@ impl Outer {
             });
             return;
         }
-        self.step_changing(wires, seen, drives, marks);
+        let mark = self.step_changing(*wires, seen, drives);
+        marks.push(mark);
     }
 
     /// All but the device steps, by what the device drives; the mark that the cycle leaves.

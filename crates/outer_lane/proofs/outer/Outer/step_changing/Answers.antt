@@ -1,4 +1,4 @@
-use Rattle.std.proofs.Common.{[], ◌∷◌, ◌++◌, ap, ◌∙◌}
+use Rattle.std.proofs.Common.{ap, ◌∙◌}
 use Rattle.outer_lane.specs.State.{OuterState}
 use Rattle.outer_lane.proofs.Staying.{any_next, any_marked}
 use Rattle.outer_lane.proofs.outer.Outer.step_changing.Goals as goal
@@ -6,16 +6,14 @@ use Rattle.outer_lane.proofs.outer.Outer.step_changing.Goals as goal
 pub returns-clause-state : goal.returns-clause-state
 returns-clause-state c =
     let d = c.drivers-drivers in
-    ap (λ (x : OuterState). record x { irq = c.args.wires.now.irq }) c.self.view_is
-    ∙ any_next c.args.wires.now c.args.seen.now c.args.drives c.args.self.now c.step_blocks-uart.new.self c.step_driven-pads.new.self d.result
+    ap (λ (x : OuterState). record x { irq = c.args.wires.irq }) c.self.view_is
+    ∙ any_next c.args.wires c.args.seen.now c.args.drives c.args.self.now c.step_blocks-uart.new.self c.step_driven-pads.new.self d.result
     d.ensures.outs d.ensures.driven d.ensures.high c.step_blocks-uart.ensures.after c.step_driven-pads.ensures.after
 
-pub returns-clause-marks : goal.returns-clause-marks
-returns-clause-marks c =
+pub returns-clause-mark : goal.returns-clause-mark
+returns-clause-mark c =
     let d = c.drivers-drivers in
-    c.push.ensures
-    ∙ ap (λ m. c.args.marks.now ++ m ∷ [])
-    (any_marked c.args.wires.now c.args.seen.now c.args.drives c.args.self.now c.step_blocks-uart.new.self d.result
+    any_marked c.args.wires c.args.seen.now c.args.drives c.args.self.now c.step_blocks-uart.new.self d.result
     c.step_blocks-uart.result c.step_driven-pads.result
     d.ensures.outs d.ensures.driven d.ensures.high c.step_blocks-uart.ensures.after c.step_blocks-uart.ensures.bytes
-    c.step_driven-pads.ensures.levels)
+    c.step_driven-pads.ensures.levels
