@@ -108,7 +108,7 @@ went_back w old same new watched count before mid after cycle reply k e is forwa
     in
     subst (λ (l : Option ℕ). Searches w old count l new reply before after) is
     (went w old new count before mid after (Some cycle) reply forward (search_within old.ring.spacing count old.now.cycle before mid (Some cycle) (Some cycle) refl far)
-    (λ h. search_within old.near.spacing count old.now.cycle before mid (Some cycle) (Some cycle) refl (close h)) (λ h. h.found) there)
+    (λ h. search_within old.near.spacing count old.now.cycle before mid (Some cycle) (Some cycle) refl (close h)) (λ h. h.ends) there)
 
 pub stands_same : (w : Setting) (same old : Standing) → same ≡ old → StandsFor w old → StandsFor w same
 stands_same w same old e k = subst (λ (x : Standing). StandsFor w x) (sym e) k
@@ -122,4 +122,4 @@ went_to_start w old same new watched count before mid empty reply k e is forward
     let there = started w old new reply mid land (text_written empty reply (codes "at start\n") none written) in
     subst (λ (l : Option ℕ). Searches w old count l new reply before mid) is
     (went w old new count before mid mid None reply forward (search_within old.ring.spacing count old.now.cycle before mid None None refl far)
-    (λ h. search_within old.near.spacing count old.now.cycle before mid None None refl (close h)) (λ h. h.found) there)
+    (λ h. search_within old.near.spacing count old.now.cycle before mid None None refl (close h)) (λ h. h.ends) there)

@@ -297,7 +297,7 @@ close_once w f ring near watched count to left end start before now after s foun
     let at : s.cycle ≡ start = k.begins.at in
     let forward : before ≤ now = so_far.forward in
     (near_by count to near.spacing before after found (omega arith)
-    (sum_once near.spacing before now after to start end (or_zero found) (k.close (or_zero found) low h.found) (omega arith) so_far.steps)).steps
+    (sum_once near.spacing before now after to start end (or_zero found) (k.close (or_zero found) low h.ends) (omega arith) so_far.steps)).steps
 
 pub near_again : (w : Setting) (f : State) (ring near : Snapshots) (watched : Watched) (count to left end start before now mid after : ℕ) (s u : State) (found : Option ℕ) → 1 < left → Searching w f watched count to left end before now → Stretch w f ring near to start end s →
     Stretch w f ring near to start end u → found ≡ before_nth w f watched count to → mid + s.cycle ≡ now + end → after + u.cycle ≡ mid + end → Near count to ring.spacing before after found
@@ -323,11 +323,11 @@ close_again w f ring near watched count to left end start before now mid after s
     let few : left ≤ count = so_far.few in
     let within : end ≤ to = so_far.within in
     let forward : before ≤ now = so_far.forward in
-    let begun : near.origin ≤ or_zero found = begun_within near (or_zero found) h.found in
-    let below : to - near.origin < 64 * near.spacing = low_within near to (h.from (omega arith)) in
+    let begun : near.origin ≤ or_zero found = begun_within near (or_zero found) h.ends in
+    let below : to - near.origin < 64 * near.spacing = low_within near to (h.begins (omega arith)) in
     let last : end - 1 < start + near.spacing = k.close (end - 1) (omega arith) (within_of near (end - 1) (omega arith) (omega arith)) in
     (near_twice count to near.spacing before after found (omega arith) (omega arith)
-    (sum_twice near.spacing before now mid after to start end (or_zero found) (k.close (or_zero found) low h.found) (omega arith) (omega arith) (omega arith) so_far.steps)).steps
+    (sum_twice near.spacing before now mid after to start end (or_zero found) (k.close (or_zero found) low h.ends) (omega arith) (omega arith) (omega arith) so_far.steps)).steps
 
 none_left : (w : Setting) (f : State) (watched : Watched) (left : ℕ) → 0 < left → None ≡ before_nth w f watched left 0
 unfolding before_nth

@@ -173,8 +173,8 @@ Moves w old what new reply before after =
 
 -- a search finds a cycle of the near stretch, and begins there where it goes over a stretch between two kept states twice
 pub record FindsNear (near : Snapshots) (count cycle found : ℕ) : Type 0 where
-  pub found : IsIn near found
-  pub from : 1 < count → IsIn near cycle
+  pub ends : IsIn near found
+  pub begins : 1 < count → IsIn near cycle
 
 -- what is said to a command is of the near stretch: the cycle that is moved to, or told as the last one
 abbrev pub IsNearBy : Setting → State → Snapshots → ℕ → Command → Type 0
