@@ -4,7 +4,7 @@ use Rattle.outer_lane.specs.Setting.{Setting}
 use Rattle.rp_machine.specs.State.{State}
 use Rattle.rp_base.specs.Alias.{or_zero}
 use Rattle.reverse_debug.specs.declared.watch.Watched.{Watched}
-use Rattle.reverse_debug.specs.Reply.{last_cycle, passes, before_nth, search_cost, move_cost, Said, said, at_or_start, at_reply, moved_to}
+use Rattle.reverse_debug.specs.Reply.{last_cycle, passes, before_nth, search_cost, move_cost, Said, at_or_start, moved_to}
 use Rattle.reverse_debug.specs.Session.{Standing, first_in, first_of, IsIn, AreOf, StandsFor, Lands, Does, Moves, FindsNear}
 use Rattle.std.specs.Prelude.{codes}
 use Rattle.reverse_debug.proofs.Moves.{moved_within, started, text_written}

@@ -1,8 +1,7 @@
 -- The near stretch begins at a multiple of the spacing.
-use Rattle.std.proofs.Common.{◌≡◌, ℕ, ◌+◌, ◌-◌, ◌*◌, ◌%◌, ◌<◌, ◌≤◌, ap, subst, sym, inl, inr, arith, ◌∙◌}
+use Rattle.std.proofs.Common.{◌≡◌, ℕ, ◌+◌, ◌-◌, ◌*◌, ◌%◌, ◌<◌, ◌≤◌, inl, inr, arith}
 use Rattle.std.proofs.lemmas.Bool.{cases_lt}
 use Rattle.std.proofs.Math.Nat.{mod-lt}
-use Rattle.reverse_debug.specs.Session.{IsIn}
 use Rattle.reverse_debug.specs.Laws.{TheNextMoveBackIsNear}
 use Rattle.reverse_debug.proofs.Rings.{next_multiple, multiple_below, within_of, low_within}
 

@@ -6,7 +6,7 @@ use Rattle.std.proofs.Math.Nat.{mul-add-mod_self_left, div-add-mod, mod-eq_of_lt
 use Rattle.outer_lane.specs.Setting.{Setting}
 use Rattle.rp_machine.specs.State.{State}
 use Rattle.rp_machine.specs.Run.{states}
-use Rattle.snap_ring.specs.Ring.{Snapshots, near_spacing, is_kept, is_within, is_due, kept_with, state_at, restored, IsGreatest, IsNearest}
+use Rattle.snap_ring.specs.Ring.{Snapshots, near_spacing, is_kept, is_within, is_due, kept_with, state_at, restored, IsNearest}
 use Rattle.reverse_debug.specs.Search.{greater_of}
 use Rattle.reverse_debug.specs.Session.{IsIn, Keeps, next_place}
 

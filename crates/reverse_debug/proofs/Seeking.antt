@@ -1,14 +1,13 @@
 -- Moves forward to the n-th time of what is watched.
-use Rattle.std.proofs.Common.{◌≡◌, ℕ, zero, suc, ◌+◌, ◌-◌, ◌<◌, ◌≤◌, ◌^◌, ◌==◌, Bool, true, false, not, cond, List, Some, None, refl, sym, ap, subst, arith, ◌∙◌}
+use Rattle.std.proofs.Common.{◌≡◌, ℕ, zero, suc, ◌+◌, ◌-◌, ◌<◌, ◌≤◌, Bool, true, false, cond, List, Some, None, refl, sym, ap, subst, arith, ◌∙◌}
 use Rattle.rp_base.specs.declared.Why.{Why}
 use Rattle.trace_text.specs.Line.{stop_text}
 use Rattle.outer_lane.specs.Setting.{Setting}
 use Rattle.rp_machine.specs.State.{State}
-use Rattle.rp_machine.specs.Cycle.{stop, next}
 use Rattle.rp_machine.specs.Run.{states, last_state}
 use Rattle.reverse_debug.specs.declared.watch.Watched.{Watched}
 use Rattle.reverse_debug.specs.Reply.{Said, said, last_cycle, seen, ends, ends_by, fewer, behind_nth, behind_next, at_or_last, at_reply}
-use Rattle.reverse_debug.specs.Advance.{CountsMove, NoneEnds, EndsAtLast}
+use Rattle.reverse_debug.specs.Advance.{CountsMove, NoneEnds}
 use Rattle.reverse_debug.specs.Session.{Standing, first_of, StandsFor, StaysFor, GoesOn, Seeks, Misses, Moves}
 use Rattle.reverse_debug.proofs.Paths.{Path, joined, path_last}
 use Rattle.reverse_debug.proofs.Ends.{ends_on, ends_later, sees_over}

@@ -1,6 +1,6 @@
 -- A session that stands at a cycle of a run, with states of the run that are kept: of the whole run, and closer together of one stretch
 -- of it (the project's own).
-use Rattle.std.specs.Prelude.{◌≡◌, ◌≤◌, ◌<◌, ℕ, ◌+◌, ◌-◌, ◌*◌, ◌%◌, max, true, List, ◌++◌, Option, IfSome, Some, None}
+use Rattle.std.specs.Prelude.{◌≡◌, ◌≤◌, ◌<◌, ℕ, ◌+◌, ◌-◌, ◌%◌, max, true, List, ◌++◌, Option, IfSome, Some, None}
 use Rattle.rp_base.specs.Alias.{or_zero}
 use Rattle.rp_base.specs.declared.Why.{Why}
 use Rattle.outer_lane.specs.Setting.{Setting}

@@ -1,4 +1,4 @@
-use Rattle.std.proofs.Common.{◌<◌, ◌≤◌, refl, arith}
+use Rattle.std.proofs.Common.{◌<◌, refl, arith}
 use Rattle.reverse_debug.proofs.Stretches.{stretch_of, searching_on, found_there, found_again, near_once, near_again, close_once, close_again, remembers_all, searched, searched_steps, zero_th, zero_steps}
 use Rattle.reverse_debug.proofs.search.nth_before.Goals as goal
 
