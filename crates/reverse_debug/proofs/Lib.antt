@@ -13,6 +13,7 @@ pub mod Stretches
 pub mod Befores
 pub mod LineLists
 pub mod NextLines
+pub mod NextNear
 pub mod TalkSessions
 pub mod Takings
 pub mod Talks

@@ -9,15 +9,17 @@ use Rattle.outer_lane.specs.Setting.{Setting}
 use Rattle.rp_machine.specs.State.{State}
 use Rattle.rp_machine.specs.Cycle.{stop}
 use Rattle.rp_machine.specs.Run.{last_state}
-use Rattle.reverse_debug.specs.Reply.{Said, said, last_cycle, at_last, at_or_last, at_or_start, before_nth, behind_next, at_reply, moved_to, moved_back, move_cost, answer, heard, command_cost}
+use Rattle.reverse_debug.specs.Reply.{Said, said, last_cycle, at_last, at_or_last, at_or_start, before_nth, behind_next, at_reply, moved_to, moved_back, move_cost, answer, heard, command_cost, cost}
 use Rattle.reverse_debug.specs.Command.{Command, is_quit, command_of}
 use Rattle.reverse_debug.specs.Command.Command.{Step, Back, Goto, End, Regs, Mem, Pins, Pio, Peek, Until, Before, Last, Quit, Bad}
 use Rattle.reverse_debug.specs.declared.command.Command.{Command as Asked}
 use Rattle.reverse_debug.specs.declared.command.Command.TheVariants as code
 use Rattle.reverse_debug.specs.Reading.{meant, Fits}
 use Rattle.reverse_debug.specs.Advance.{CountsMove}
-use Rattle.reverse_debug.specs.Session.{Standing, first_of, StandsFor, StaysFor, GoesOn, Lands, Does}
+use Rattle.snap_ring.specs.Ring.{Snapshots}
+use Rattle.reverse_debug.specs.Session.{Standing, first_of, IsIn, StandsFor, StaysFor, GoesOn, Lands, Does, Moves, IsNearBy}
 use Rattle.reverse_debug.proofs.Paths.{path_last, last_within}
+use Rattle.reverse_debug.proofs.Rings.{in_same}
 use Rattle.reverse_debug.proofs.Sessions.{now_in_last, now_low, path_of, stays_here, stays_on}
 
 -- ---- what a move is
@@ -50,26 +52,42 @@ move_within d c m t before after count le back ahead = elim (cases_lt t c) [
 
 -- ---- a move to a cycle: first to a kept state, and then forward
 
+-- the near stretch of the kept state is that of the session behind it
+in_mid : (w : Setting) (mid new : Standing) (to : ℕ) (why : Option Why) → GoesOn w mid to new why → (c e : ℕ) → e ≡ c → IsIn mid.near c → IsIn new.near e
+in_mid w mid new to why go c e same h = in_same mid.near new.near c e go.stays.closer go.stretch same h
+
+-- where the session stands as it stood, it is that of before
+in_old : (w : Setting) (old mid new : Standing) (target to : ℕ) (why : Option Why) → Lands w old target mid → GoesOn w mid to new why → mid.now.cycle ≡ old.now.cycle → new.now.cycle ≡ old.now.cycle
+    → IsIn old.near old.now.cycle → IsIn new.near new.now.cycle
+in_old w old mid new target to why land go at is h =
+    in_mid w mid new to why go old.now.cycle new.now.cycle is (in_same old.near mid.near old.now.cycle old.now.cycle land.stays.closer (land.same at) refl h)
+
 pub moved_there : (w : Setting) (old mid new : Standing) (target : ℕ) (reply : List ℕ) (before after : ℕ) → StandsFor w old → Lands w old target mid → GoesOn w mid target new None →
     new.now.cycle ≡ target → CountsMove mid.now new.now before after → reply ≡ at_reply target →
-    Does w old (moved_to w (first_of old) target) (move_cost old.ring.spacing old.now.cycle (moved_to w (first_of old) target).cycle) new reply before after
+    Moves w old (moved_to w (first_of old) target) new reply before after
 moved_there w old mid new target reply before after k land go there count is =
     let stays : StaysFor w old new = stays_on w old mid new go.forward land.stays go.stays in
     let last : new.now.cycle ≤ last_cycle w (first_of new) = now_in_last w (first_of new) new stays.stands in
     let same : last_cycle w (first_of new) ≡ last_cycle w (first_of old) = ap (last_cycle w) stays.first in
     let what = moved_within w (first_of old) target (omega arith) in
     let le : mid.now.cycle ≤ target = land.below in
-    subst (λ (x : Said). Does w old x (move_cost old.ring.spacing old.now.cycle x.cycle) new reply before after) (sym what) (record {
+    subst (λ (x : Said). Moves w old x new reply before after) (sym what) (record {
       stays = stays;
       cycle = there;
       said = is;
       forward = omega arith;
       steps = move_within old.ring.spacing old.now.cycle mid.now.cycle target before after (omega arith) le land.back land.ahead;
+      near = λ within. move_within old.near.spacing old.now.cycle mid.now.cycle target before after (omega arith) le (λ lt. land.near lt within) land.ahead;
+      back = λ lt. in_mid w mid new target None go target new.now.cycle there (land.stretch (omega arith));
+      same = λ is within. (
+          let from : old.now.cycle ≤ mid.now.cycle = land.ahead (omega arith) in
+          in_old w old mid new target target None land go (omega arith) is within
+          );
     })
 
 pub moved_stopped : (w : Setting) (old mid new : Standing) (target : ℕ) (why : Why) (reply : List ℕ) (before after : ℕ) → StandsFor w old → Lands w old target mid → GoesOn w mid target new (Some why) →
     CountsMove mid.now new.now before after → reply ≡ stop_text why new.now.cycle →
-    Does w old (moved_to w (first_of old) target) (move_cost old.ring.spacing old.now.cycle (moved_to w (first_of old) target).cycle) new reply before after
+    Moves w old (moved_to w (first_of old) target) new reply before after
 moved_stopped w old mid new target why reply before after k land go count is =
     let stays : StaysFor w old new = stays_on w old mid new go.forward land.stays go.stays in
     let stops = go.stopped.0 in
@@ -83,12 +101,15 @@ moved_stopped w old mid new target why reply before after k land go count is =
     let what = moved_beyond w (first_of old) new.now why target last stops lt in
     let on : mid.now.cycle ≤ new.now.cycle = go.forward in
     let from : old.now.cycle ≤ mid.now.cycle = land.ahead (omega arith) in
-    subst (λ (x : Said). Does w old x (move_cost old.ring.spacing old.now.cycle x.cycle) new reply before after) (sym what) (record {
+    subst (λ (x : Said). Moves w old x new reply before after) (sym what) (record {
       stays = stays;
       cycle = refl;
       said = is;
       forward = omega arith;
       steps = move_within old.ring.spacing old.now.cycle mid.now.cycle new.now.cycle before after count on (λ bad. absurd (omega arith)) (λ _. from);
+      near = λ _. move_within old.near.spacing old.now.cycle mid.now.cycle new.now.cycle before after count on (λ bad. absurd (omega arith)) (λ _. from);
+      back = λ bad. absurd (omega arith);
+      same = λ is within. in_old w old mid new target target (Some why) land go (omega arith) is within;
     })
 
 -- ---- a move back
@@ -103,25 +124,32 @@ back_within w f cycle back le last =
     let isnt : nat_lt cycle back ≡ false = grind (arith, nat_tests) in
     rw isnt (sym (moved_within w f (cycle - back) (omega arith)))
 
-pub moved_to_start : (w : Setting) (old new : Standing) (back : ℕ) (reply : List ℕ) (steps : ℕ) → StandsFor w old → Lands w old 0 new → old.now.cycle < back → reply ≡ codes "at start\n" →
-    Does w old (moved_back w (first_of old) old.now.cycle back) (move_cost old.ring.spacing old.now.cycle (moved_back w (first_of old) old.now.cycle back).cycle) new reply steps steps
-moved_to_start w old new back reply steps k land lt is =
-    let what = back_to_start w (first_of old) old.now.cycle back lt in
+-- the start is kept, so it is reached without a step
+pub started : (w : Setting) (old new : Standing) (reply : List ℕ) (steps : ℕ) → Lands w old 0 new → reply ≡ codes "at start\n" → Moves w old (said 0 (codes "at start\n")) new reply steps steps
+started w old new reply steps land is =
     let low : new.now.cycle ≤ 0 = land.below in
-    subst (λ (x : Said). Does w old x (move_cost old.ring.spacing old.now.cycle x.cycle) new reply steps steps) (sym what) (record {
+    record {
       stays = land.stays;
       cycle = omega arith;
       said = is;
       forward = omega arith;
       steps = omega arith;
-    })
+      near = λ _. omega arith;
+      back = λ lt. in_same new.near new.near 0 new.now.cycle refl refl (omega arith) (land.stretch (omega arith));
+      same = λ at within. in_same old.near new.near old.now.cycle new.now.cycle land.stays.closer (land.same at) at within;
+    }
+
+pub moved_to_start : (w : Setting) (old new : Standing) (back : ℕ) (reply : List ℕ) (steps : ℕ) → Lands w old 0 new → old.now.cycle < back → reply ≡ codes "at start\n" →
+    Moves w old (moved_back w (first_of old) old.now.cycle back) new reply steps steps
+moved_to_start w old new back reply steps land lt is =
+    subst (λ (x : Said). Moves w old x new reply steps steps) (sym (back_to_start w (first_of old) old.now.cycle back lt)) (started w old new reply steps land is)
 
 pub moved_back_to : (w : Setting) (old new : Standing) (back : ℕ) (reply : List ℕ) (before after : ℕ) → StandsFor w old → back ≤ old.now.cycle →
-    Does w old (moved_to w (first_of old) (old.now.cycle - back)) (move_cost old.ring.spacing old.now.cycle (moved_to w (first_of old) (old.now.cycle - back)).cycle) new reply before after →
-    Does w old (moved_back w (first_of old) old.now.cycle back) (move_cost old.ring.spacing old.now.cycle (moved_back w (first_of old) old.now.cycle back).cycle) new reply before after
+    Moves w old (moved_to w (first_of old) (old.now.cycle - back)) new reply before after →
+    Moves w old (moved_back w (first_of old) old.now.cycle back) new reply before after
 moved_back_to w old new back reply before after k le does =
     let what = back_within w (first_of old) old.now.cycle back le (now_in_last w (first_of old) old k) in
-    subst (λ (x : Said). Does w old x (move_cost old.ring.spacing old.now.cycle x.cycle) new reply before after) (sym what) does
+    subst (λ (x : Said). Moves w old x new reply before after) (sym what) does
 
 -- ---- a move to the end
 
@@ -131,13 +159,16 @@ moved_to_end w f target lt = let yes : nat_lt (last_cycle w f) target ≡ true =
 
 -- ---- what is shown
 
-pub shown : (w : Setting) (old : Standing) (text reply : List ℕ) (steps most : ℕ) → StandsFor w old → reply ≡ text → Does w old (said old.now.cycle text) most old reply steps steps
-shown w old text reply steps most k is = record {
+pub shown : (w : Setting) (old : Standing) (text reply : List ℕ) (Near : Type 0) (most : ℕ → ℕ) (steps : ℕ) → StandsFor w old → reply ≡ text → Does w old (said old.now.cycle text) Near most old reply steps steps
+shown w old text reply Near most steps k is = record {
   stays = stays_here w old k;
   cycle = refl;
   said = is;
   forward = omega arith;
   steps = omega arith;
+  near = λ _. omega arith;
+  back = λ bad. absurd (omega arith);
+  same = λ _ within. within;
 }
 
 -- ---- as it is written
@@ -149,22 +180,22 @@ pub text_written : (before after text : List ℕ) → before ≡ [] → after �
 text_written before after text empty h = h ∙ ap (λ t. t ++ text) empty
 
 pub back_written : (w : Setting) (old new : Standing) (back now : ℕ) (reply : List ℕ) (before after : ℕ) → StandsFor w old → now ≡ old.now.cycle → back ≤ now →
-    Does w old (moved_to w (first_of old) (now - back)) (move_cost old.ring.spacing old.now.cycle (moved_to w (first_of old) (now - back)).cycle) new reply before after →
-    Does w old (moved_back w (first_of old) old.now.cycle back) (move_cost old.ring.spacing old.now.cycle (moved_back w (first_of old) old.now.cycle back).cycle) new reply before after
+    Moves w old (moved_to w (first_of old) (now - back)) new reply before after →
+    Moves w old (moved_back w (first_of old) old.now.cycle back) new reply before after
 back_written w old new back now reply before after k e le does =
     moved_back_to w old new back reply before after k (subst (λ n. back ≤ n) e le)
-    (subst (λ n. Does w old (moved_to w (first_of old) (n - back)) (move_cost old.ring.spacing old.now.cycle (moved_to w (first_of old) (n - back)).cycle) new reply before after) e does)
+    (subst (λ n. Moves w old (moved_to w (first_of old) (n - back)) new reply before after) e does)
 
 pub start_written : (w : Setting) (old new : Standing) (back now : ℕ) (empty reply : List ℕ) (steps : ℕ) → StandsFor w old → Lands w old 0 new → now ≡ old.now.cycle → now < back → empty ≡ [] → reply ≡ empty ++ codes "at start\n" →
-    Does w old (moved_back w (first_of old) old.now.cycle back) (move_cost old.ring.spacing old.now.cycle (moved_back w (first_of old) old.now.cycle back).cycle) new reply steps steps
+    Moves w old (moved_back w (first_of old) old.now.cycle back) new reply steps steps
 start_written w old new back now empty reply steps k land e lt none is =
-    moved_to_start w old new back reply steps k land (subst (λ n. n < back) e lt) (text_written empty reply (codes "at start\n") none is)
+    moved_to_start w old new back reply steps land (subst (λ n. n < back) e lt) (text_written empty reply (codes "at start\n") none is)
 
 -- ---- what each command does
 
 abbrev pub Obeys : Setting → Standing → Command → Standing → List ℕ → ℕ → ℕ → Type 0
 Obeys w old q new reply before after =
-    Does w old (answer w (first_of old) old.now.cycle q) (command_cost w (first_of old) old.ring.spacing old.now.cycle q) new reply before after
+    Does w old (answer w (first_of old) old.now.cycle q) (IsNearBy w (first_of old) old.near old.now.cycle q) (λ d. command_cost w (first_of old) d old.now.cycle q) new reply before after
 
 -- a number of a command is added to a cycle
 pub sum_fits : (w : Setting) (old : Standing) (q : Asked) (now n : ℕ) → StandsFor w old → Fits q → q ≡ code.Step n → now ≡ old.now.cycle → now + n < 2 ^ 64
@@ -176,17 +207,17 @@ sum_fits w old q now n k fits is e =
     omega arith
 
 obeys_end : (w : Setting) (v old new : Standing) (reply : List ℕ) (before after : ℕ) → v ≡ old → StandsFor w old →
-    Does w old (moved_to w (first_of old) (v.limit + 1)) (move_cost old.ring.spacing old.now.cycle (moved_to w (first_of old) (v.limit + 1)).cycle) new reply before after → Obeys w old End new reply before after
+    Moves w old (moved_to w (first_of old) (v.limit + 1)) new reply before after → Obeys w old End new reply before after
 obeys_end w v old new reply before after e k does =
     let begins : (first_of old).cycle ≡ 0 = k.begins in
     let last : last_cycle w (first_of old) ≤ w.limit = last_within w (first_of old) (omega arith) in
     let same : old.limit ≡ w.limit = k.limit in
     let lim : v.limit ≡ old.limit = ap (λ (x : Standing). x.limit) e in
     let what = moved_to_end w (first_of old) (v.limit + 1) (omega arith) in
-    subst (λ (x : Said). Does w old x (move_cost old.ring.spacing old.now.cycle x.cycle) new reply before after) what does
+    subst (λ (x : Said). Moves w old x new reply before after) what does
 
 pub end_obeyed : (w : Setting) (v old new : Standing) (q : Asked) (reply : List ℕ) (before after : ℕ) → q ≡ code.End → v ≡ old → StandsFor w old →
-    Does w old (moved_to w (first_of old) (v.limit + 1)) (move_cost old.ring.spacing old.now.cycle (moved_to w (first_of old) (v.limit + 1)).cycle) new reply before after → Obeys w old (meant q) new reply before after
+    Moves w old (moved_to w (first_of old) (v.limit + 1)) new reply before after → Obeys w old (meant q) new reply before after
 end_obeyed w v old new q reply before after is e k does = subst (λ (x : Asked). Obeys w old (meant x) new reply before after) (sym is) (obeys_end w v old new reply before after e k does)
 
 quits_moved : (b : Bool) (x y : Said) → x.quits ≡ false → y.quits ≡ false → (cond b x y).quits ≡ false
@@ -217,6 +248,13 @@ quits_exactly w f cycle (Before watched count) = quits_prev (before_nth w f watc
 quits_exactly w f cycle (Last watched) = refl
 quits_exactly w f cycle Quit = refl
 quits_exactly w f cycle Bad = refl
+
+-- within the near stretch, as a line is heard
+pub near_as_heard : (w : Setting) (f : State) (near : Snapshots) (d cycle : ℕ) (line : List ℕ) (q : Command) (before after : ℕ) → q ≡ command_of line →
+    (IsNearBy w f near cycle q → after ≤ before + command_cost w f d cycle q) → IsNearBy w f near cycle (command_of line) → after ≤ before + cost w f d cycle line
+unfolding cost
+near_as_heard w f near d cycle line q before after e h k =
+    subst (λ (x : Command). after ≤ before + command_cost w f d cycle x) e (h (subst (λ (x : Command). IsNearBy w f near cycle x) (sym e) k))
 
 pub quits_as_heard : (w : Setting) (f : State) (cycle : ℕ) (line : List ℕ) (q : Command) (result : Bool) → q ≡ command_of line → result ≡ not (is_quit q) → result ≡ not (heard w f cycle line).quits
 unfolding heard

@@ -1,18 +1,18 @@
 -- Moves forward to the n-th time of what is watched.
-use Rattle.std.proofs.Common.{◌≡◌, ℕ, zero, suc, ◌+◌, ◌-◌, ◌<◌, ◌≤◌, ◌^◌, ◌==◌, Bool, true, false, not, cond, List, Some, None, refl, sym, ap, subst, arith, ◌∙◌}
+use Rattle.std.proofs.Common.{◌≡◌, ℕ, zero, suc, ◌+◌, ◌-◌, ◌<◌, ◌≤◌, Bool, true, false, cond, List, Some, None, refl, sym, ap, subst, arith, ◌∙◌}
 use Rattle.rp_base.specs.declared.Why.{Why}
 use Rattle.trace_text.specs.Line.{stop_text}
 use Rattle.outer_lane.specs.Setting.{Setting}
 use Rattle.rp_machine.specs.State.{State}
-use Rattle.rp_machine.specs.Cycle.{stop, next}
 use Rattle.rp_machine.specs.Run.{states, last_state}
 use Rattle.reverse_debug.specs.declared.watch.Watched.{Watched}
-use Rattle.reverse_debug.specs.Reply.{Said, said, last_cycle, seen, ends, ends_by, fewer, behind_nth, behind_next, at_or_last, at_reply, move_cost}
-use Rattle.reverse_debug.specs.Advance.{CountsMove, NoneEnds, EndsAtLast}
-use Rattle.reverse_debug.specs.Session.{Standing, first_of, StandsFor, StaysFor, GoesOn, Seeks, Misses, Does}
+use Rattle.reverse_debug.specs.Reply.{Said, said, last_cycle, seen, ends, ends_by, fewer, behind_nth, behind_next, at_or_last, at_reply}
+use Rattle.reverse_debug.specs.Advance.{CountsMove, NoneEnds}
+use Rattle.reverse_debug.specs.Session.{Standing, first_of, StandsFor, StaysFor, GoesOn, Seeks, Misses, Moves}
 use Rattle.reverse_debug.proofs.Paths.{Path, joined, path_last}
 use Rattle.reverse_debug.proofs.Ends.{ends_on, ends_later, sees_over}
 use Rattle.reverse_debug.proofs.Moves.{moved_beyond, moved_to_end, move_within}
+use Rattle.reverse_debug.proofs.Rings.{in_same}
 use Rattle.reverse_debug.proofs.Sessions.{now_in_last, now_low, path_of, stays_here, stays_on}
 
 fewer_of : (ended : Bool) (n : ℕ) → cond ended n (suc n) ≡ fewer ended (suc n)
@@ -50,7 +50,7 @@ behind_none w f watched c more = refl
 -- ---- cycle by cycle
 
 pub seeking_here : (w : Setting) (s : Standing) (watched : Watched) (count steps : ℕ) → StandsFor w s → Seeks w watched count s s count steps steps
-seeking_here w s watched count steps k = record { stays = stays_here w s k; forward = omega arith; next = refl; count = refl }
+seeking_here w s watched count steps k = record { stays = stays_here w s k; forward = omega arith; stretch = refl; next = refl; count = refl }
 
 path_between : (w : Setting) (a b : Standing) → StandsFor w a → StaysFor w a b → a.now.cycle ≤ b.now.cycle → Path w a.now b.now
 path_between w a b k stays le =
@@ -90,6 +90,7 @@ seeking_far w old a b watched n left to ended before now after k some go ahead n
     record {
       stays = stays_on w old a b go.forward k.stays go.stays;
       forward = omega arith;
+      stretch = go.stretch ∙ k.stretch;
       next =
           k.next ∙ behind_over w (first_of old) watched left a.now.cycle m some
           (λ i lt. ends_later w (first_of old) a.now watched a.now.cycle i here ∙ none i lt) (omega arith)
@@ -131,6 +132,7 @@ seeking_stopped w old a b watched n left to why before now after k some go none 
       seeks = record {
         stays = stays_on w old a b go.forward k.stays go.stays;
         forward = omega arith;
+        stretch = go.stretch ∙ k.stretch;
         next =
             k.next ∙ behind_over w (first_of old) watched left a.now.cycle (b.now.cycle - a.now.cycle) some
             (λ i lt. ends_later w (first_of old) a.now watched a.now.cycle i here ∙ none i lt) (omega arith)
@@ -148,29 +150,30 @@ seeking_done w old new watched count left before after k le =
 -- ---- the reply
 
 stands_there : (w : Setting) (old new : Standing) (watched : Watched) (count left : ℕ) (what : Said) (reply : List ℕ) (before after : ℕ) → Seeks w watched count old new left before after →
-    what ≡ said new.now.cycle reply → Does w old what (move_cost old.ring.spacing old.now.cycle what.cycle) new reply before after
+    what ≡ said new.now.cycle reply → Moves w old what new reply before after
 stands_there w old new watched n left what reply before after k is =
     let from : old.now.cycle ≤ new.now.cycle = k.forward in
     let count : after + old.now.cycle ≡ before + new.now.cycle = k.count in
-    subst (λ (x : Said). Does w old x (move_cost old.ring.spacing old.now.cycle x.cycle) new reply before after) (sym is) (record {
+    subst (λ (x : Said). Moves w old x new reply before after) (sym is) (record {
       stays = k.stays;
       cycle = refl;
       said = refl;
       forward = omega arith;
       steps = move_within old.ring.spacing old.now.cycle old.now.cycle new.now.cycle before after count from (λ bad. absurd (omega arith)) (λ _. omega arith);
+      near = λ _. move_within old.near.spacing old.now.cycle old.now.cycle new.now.cycle before after count from (λ bad. absurd (omega arith)) (λ _. omega arith);
+      back = λ bad. absurd (omega arith);
+      same = λ at within. in_same old.near new.near old.now.cycle new.now.cycle k.stays.closer k.stretch at within;
     })
 
 pub moved_behind : (w : Setting) (old new : Standing) (watched : Watched) (count n : ℕ) (reply : List ℕ) (before after : ℕ) → Seeks w watched count old new 0 before after → n ≡ new.now.cycle → reply ≡ at_reply n →
-    Does w old (at_or_last w (first_of old) (behind_next w (first_of old) watched count old.now.cycle))
-    (move_cost old.ring.spacing old.now.cycle (at_or_last w (first_of old) (behind_next w (first_of old) watched count old.now.cycle)).cycle) new reply before after
+    Moves w old (at_or_last w (first_of old) (behind_next w (first_of old) watched count old.now.cycle)) new reply before after
 moved_behind w old new watched count n reply before after k en is =
     stands_there w old new watched count 0 _ reply before after k
     (ap (at_or_last w (first_of old)) (k.next ∙ behind_none w (first_of old) watched new.now.cycle (last_cycle w (first_of old) - new.now.cycle))
     ∙ ap (said new.now.cycle) (sym (is ∙ ap at_reply en)))
 
 pub none_behind : (w : Setting) (old new : Standing) (watched : Watched) (count : ℕ) (why : Why) (reply : List ℕ) (before after : ℕ) → Misses w watched count old new why before after → reply ≡ stop_text why new.now.cycle →
-    Does w old (at_or_last w (first_of old) (behind_next w (first_of old) watched count old.now.cycle))
-    (move_cost old.ring.spacing old.now.cycle (at_or_last w (first_of old) (behind_next w (first_of old) watched count old.now.cycle)).cycle) new reply before after
+    Moves w old (at_or_last w (first_of old) (behind_next w (first_of old) watched count old.now.cycle)) new reply before after
 none_behind w old new watched count why reply before after k is =
     let seeks = k.seeks in
     let stands = seeks.stays.stands in

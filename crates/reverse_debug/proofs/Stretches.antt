@@ -1,5 +1,5 @@
 -- The stretches between the states that are kept, from behind.
-use Rattle.std.proofs.Common.{◌≡◌, ◌⊎◌, ℕ, zero, suc, ◌+◌, ◌-◌, ◌*◌, ◌%◌, ◌<◌, ◌≤◌, ◌^◌, nat_le, nat_lt, Bool, true, false, cond, Option, Some, None, refl, sym, ap, subst, arith, ◌∙◌, inl, inr}
+use Rattle.std.proofs.Common.{◌≡◌, ◌⊎◌, ℕ, zero, suc, ◌+◌, ◌-◌, ◌*◌, ◌%◌, ◌<◌, ◌≤◌, nat_le, nat_lt, Bool, true, false, cond, Option, Some, None, refl, sym, ap, subst, arith, ◌∙◌, inl, inr}
 use Rattle.std.proofs.lemmas.Bool.{cases_Bool, cases_lt}
 use Rattle.std.proofs.lemmas.Bool.Decides.{nat_tests}
 use Rattle.std.proofs.Math.Nat.{mod-lt}
@@ -12,9 +12,9 @@ use Rattle.reverse_debug.specs.declared.search.Tally.{Tally}
 use Rattle.reverse_debug.specs.declared.watch.Watched.{Watched}
 use Rattle.reverse_debug.specs.Reply.{last_cycle, happens, passes, before_nth}
 use Rattle.reverse_debug.specs.Search.{noted, tally}
-use Rattle.reverse_debug.specs.Session.{AreOf}
+use Rattle.reverse_debug.specs.Session.{IsIn, AreOf, FindsNear, all_kept}
 use Rattle.reverse_debug.proofs.Paths.{Path, joined, last_within, path_to_last}
-use Rattle.reverse_debug.proofs.Rings.{restored_cycle}
+use Rattle.reverse_debug.proofs.Rings.{restored_cycle, within_of, begun_within, low_within}
 use Rattle.reverse_debug.proofs.Tallies.{few_of}
 
 -- ---- a run up to a state on the way, and from there on
@@ -138,9 +138,9 @@ pub record IsStart (w : Setting) (f : State) (start : ℕ) (s : State) : Type 0 
   pub at : s.cycle ≡ start
   pub is : s ≡ states w f s.cycle
 
-pub start_of : (w : Setting) (f : State) (ring : Snapshots) (to end start : ℕ) (own s : State) → AreOf w f ring to → IsNearest end ring.kept (Some start) → s ≡ restored (state_at start ring.kept) own → IsStart w f start s
-start_of w f ring to end start own s k g e =
-    let at : s.cycle ≡ start = ap (λ (x : State). x.cycle) e ∙ restored_cycle start ring.kept own g.is_one in
+pub start_of : (w : Setting) (f : State) (ring near : Snapshots) (to end start : ℕ) (own s : State) → AreOf w f ring near to → IsNearest end (all_kept ring near) (Some start) → s ≡ restored (state_at start (all_kept ring near)) own → IsStart w f start s
+start_of w f ring near to end start own s k g e =
+    let at : s.cycle ≡ start = ap (λ (x : State). x.cycle) e ∙ restored_cycle start (all_kept ring near) own g.is_one in
     record { at = at; is = e ∙ k.kept start own g.is_one ∙ ap (states w f) (sym at) }
 
 path_start : (w : Setting) (f s : State) (start : ℕ) → f.cycle ≡ 0 → IsStart w f start s → Path w f s
@@ -163,39 +163,54 @@ pub searching_here : (w : Setting) (f : State) (watched : Watched) (count to ste
 searching_here w f watched count to steps some = record { found = refl; some = some; few = omega arith; within = omega arith; forward = omega arith; steps = omega arith }
 
 -- a stretch that is searched: it begins at the kept state that is the nearest one below its end
-pub record Stretch (w : Setting) (f : State) (ring : Snapshots) (to start end : ℕ) (s : State) : Type 0 where
+pub record Stretch (w : Setting) (f : State) (ring near : Snapshots) (to start end : ℕ) (s : State) : Type 0 where
   pub begins : IsStart w f start s
   pub some : start < end
   pub low : s.cycle ≤ w.limit
   pub ahead : s.cycle ≤ end
   pub reach : end ≤ last_cycle w s
   pub short : end ≤ start + ring.spacing
+  pub close : (c : ℕ) → c < end → IsIn near c → c < start + near.spacing
 
-pub stretch_of : (w : Setting) (f : State) (ring : Snapshots) (watched : Watched) (count to left end start below before now : ℕ) (own s : State) → AreOf w f ring to → to ≤ last_cycle w f → Searching w f watched count to left end before now → 0 < end → below ≡ end - 1 →
-    IsNearest below ring.kept (Some start) → s ≡ restored (state_at start ring.kept) own → Stretch w f ring to start end s
-stretch_of w f ring watched count to left end start below before now own s k le so_far some eb g e =
-    let at = start_of w f ring to below start own s k g e in
+pub stretch_of : (w : Setting) (f : State) (ring near : Snapshots) (watched : Watched) (count to left end start below before now : ℕ) (own s : State) → AreOf w f ring near to → to ≤ last_cycle w f → Searching w f watched count to left end before now → 0 < end → below ≡ end - 1 →
+    IsNearest below (all_kept ring near) (Some start) → s ≡ restored (state_at start (all_kept ring near)) own → Stretch w f ring near to start end s
+stretch_of w f ring near watched count to left end start below before now own s k le so_far some eb g e =
+    let at = start_of w f ring near to below start own s k g e in
     let cycle : s.cycle ≡ start = at.at in
-    let near : start ≤ below = g.reached in
+    let reached : start ≤ below = g.reached in
     let within : end ≤ to = so_far.within in
     let begins : f.cycle ≡ 0 = k.begins in
     let limit : last_cycle w f ≤ w.limit = last_within w f (omega arith) in
     let low : s.cycle ≤ w.limit = omega arith in
     let same : last_cycle w f ≡ last_cycle w s = ap (λ (x : State). x.cycle) (path_to_last w f s (path_start w f s start k.begins at) low) in
     let rest : below % ring.spacing < ring.spacing = mod-lt below k.some in
-    let kept : below - below % ring.spacing ≤ start = g.greatest (below - below % ring.spacing) (k.near below (omega arith)) (omega arith) in
-    record { begins = at; some = omega arith; low = low; ahead = omega arith; reach = omega arith; short = omega arith }
+    let kept : below - below % ring.spacing ≤ start = g.greatest (below - below % ring.spacing) (k.every below (omega arith)) (omega arith) in
+    record {
+      begins = at;
+      some = omega arith;
+      low = low;
+      ahead = omega arith;
+      reach = omega arith;
+      short = omega arith;
+      close = λ c lt inside. (
+          let left_over : (c - near.origin) % near.spacing < near.spacing = mod-lt (c - near.origin) k.closer in
+          let place : c - (c - near.origin) % near.spacing ≤ start =
+          g.greatest (c - (c - near.origin) % near.spacing) (k.close c (omega arith) inside) (omega arith)
+          in
+          omega arith
+          );
+    }
 
-at_end : (w : Setting) (f : State) (ring : Snapshots) (watched : Watched) (to start end left : ℕ) (s : State) → Stretch w f ring to start end s → before_nth w f watched left end ≡ before_nth w f watched left (s.cycle + (end - s.cycle))
-at_end w f ring watched to start end left s k =
+at_end : (w : Setting) (f : State) (ring near : Snapshots) (watched : Watched) (to start end left : ℕ) (s : State) → Stretch w f ring near to start end s → before_nth w f watched left end ≡ before_nth w f watched left (s.cycle + (end - s.cycle))
+at_end w f ring near watched to start end left s k =
     let ahead : s.cycle ≤ end = k.ahead in
     let sum : end ≡ s.cycle + (end - s.cycle) = omega arith in
     ap (before_nth w f watched left) sum
 
 -- none of the stretch is the one
-pub searching_on : (w : Setting) (f : State) (ring : Snapshots) (watched : Watched) (count to left end start most before now after : ℕ) (all : Tally) (s : State) → Searching w f watched count to left end before now → Stretch w f ring to start end s →
+pub searching_on : (w : Setting) (f : State) (ring near : Snapshots) (watched : Watched) (count to left end start most before now after : ℕ) (all : Tally) (s : State) → Searching w f watched count to left end before now → Stretch w f ring near to start end s →
     all ≡ tally w s watched most (end - s.cycle) → all.count < left → after + s.cycle ≡ now + end → Searching w f watched count to (left - all.count) start before after
-searching_on w f ring watched count to left end start most before now after all s so_far k is lt counted =
+searching_on w f ring near watched count to left end start most before now after all s so_far k is lt counted =
     let at : s.cycle ≡ start = k.begins.at in
     let some : start < end = k.some in
     let within : end ≤ to = so_far.within in
@@ -205,7 +220,7 @@ searching_on w f ring watched count to left end start most before now after all 
     let same : all.count ≡ (tally w s watched most (end - s.cycle)).count = ap (λ (x : Tally). x.count) is in
     record {
       found =
-          so_far.found ∙ at_end w f ring watched to start end left s k
+          so_far.found ∙ at_end w f ring near watched to start end left s k
           ∙ passed_over w f s watched most (end - s.cycle) left k.begins.is (omega arith)
           ∙ ap (λ j. before_nth w f watched (left - j) s.cycle) (sym same) ∙ ap (before_nth w f watched (left - all.count)) at;
       some = omega arith;
@@ -216,13 +231,13 @@ searching_on w f ring watched count to left end start most before now after all 
     }
 
 -- the stretch has it
-pub found_there : (w : Setting) (f : State) (ring : Snapshots) (watched : Watched) (count to left end start most before now : ℕ) (all : Tally) (s : State) → Searching w f watched count to left end before now → Stretch w f ring to start end s →
+pub found_there : (w : Setting) (f : State) (ring near : Snapshots) (watched : Watched) (count to left end start most before now : ℕ) (all : Tally) (s : State) → Searching w f watched count to left end before now → Stretch w f ring near to start end s →
     all ≡ tally w s watched most (end - s.cycle) → left ≤ all.count → Remembers left most all.count → all.last ≡ before_nth w f watched count to
-found_there w f ring watched count to left end start most before now all s so_far k is le fits =
+found_there w f ring near watched count to left end start most before now all s so_far k is le fits =
     let same : all.count ≡ (tally w s watched most (end - s.cycle)).count = ap (λ (x : Tally). x.count) is in
     ap (λ (x : Tally). x.last) is
     ∙ sym (found_on w f s watched most (end - s.cycle) left k.begins.is so_far.some (omega arith) (subst (Remembers left most) same fits))
-    ∙ sym (at_end w f ring watched to start end left s k) ∙ sym so_far.found
+    ∙ sym (at_end w f ring near watched to start end left s k) ∙ sym so_far.found
 
 -- ---- steps
 
@@ -257,31 +272,62 @@ near_twice : (count to spacing before after : ℕ) (found : Option ℕ) → 1 < 
 near_twice count to spacing before after found more forward lt =
     let no : nat_le count 1 ≡ false = grind (arith, nat_tests) in record { forward = forward; steps = rw no (omega (arith, lt)) }
 
-pub near_once : (w : Setting) (f : State) (ring : Snapshots) (watched : Watched) (count to left end start before now after : ℕ) (s : State) (found : Option ℕ) → 0 < ring.spacing → Searching w f watched count to left end before now → Stretch w f ring to start end s →
+-- what is found is nearer to the start of the stretch than a spacing
+sum_once : (d before now after to start end f : ℕ) → f < start + d → after + start ≡ now + end → now + end ≤ before + to → after + f < before + to + d
+sum_once d before now after to start end f near counted steps = omega arith
+
+sum_twice : (d before now mid after to start end f : ℕ) → f < start + d → end ≤ start + d → mid + start ≡ now + end → after + start ≡ mid + end → now + end ≤ before + to → after + f < before + to + 2 * d
+sum_twice d before now mid after to start end f near short first second steps = omega arith
+
+pub near_once : (w : Setting) (f : State) (ring near : Snapshots) (watched : Watched) (count to left end start before now after : ℕ) (s : State) (found : Option ℕ) → Searching w f watched count to left end before now → Stretch w f ring near to start end s →
     found ≡ before_nth w f watched count to → after + s.cycle ≡ now + end → Near count to ring.spacing before after found
-near_once w f ring watched count to left end start before now after s found some so_far k is counted =
+near_once w f ring near watched count to left end start before now after s found so_far k is counted =
     let begins : start < end = k.some in
     let low : or_zero found < end = before_low w f watched left end found so_far.some (omega arith) (is ∙ so_far.found) in
     let at : s.cycle ≡ start = k.begins.at in
     let short : end ≤ start + ring.spacing = k.short in
-    let within : end ≤ to = so_far.within in
     let forward : before ≤ now = so_far.forward in
-    let steps : now + end ≤ before + to = so_far.steps in
-    near_by count to ring.spacing before after found (omega arith) (omega arith)
+    near_by count to ring.spacing before after found (omega arith) (sum_once ring.spacing before now after to start end (or_zero found) (omega arith) (omega arith) so_far.steps)
 
-pub near_again : (w : Setting) (f : State) (ring : Snapshots) (watched : Watched) (count to left end start before now mid after : ℕ) (s u : State) (found : Option ℕ) → 1 < left → Searching w f watched count to left end before now → Stretch w f ring to start end s →
-    Stretch w f ring to start end u → found ≡ before_nth w f watched count to → mid + s.cycle ≡ now + end → after + u.cycle ≡ mid + end → Near count to ring.spacing before after found
-near_again w f ring watched count to left end start before now mid after s u found more so_far k j is first second =
+pub close_once : (w : Setting) (f : State) (ring near : Snapshots) (watched : Watched) (count to left end start before now after : ℕ) (s : State) (found : Option ℕ) → Searching w f watched count to left end before now → Stretch w f ring near to start end s →
+    found ≡ before_nth w f watched count to → after + s.cycle ≡ now + end → FindsNear near count to (or_zero found) → after + or_zero found < before + to + passes count * near.spacing
+close_once w f ring near watched count to left end start before now after s found so_far k is counted h =
+    let begins : start < end = k.some in
+    let low : or_zero found < end = before_low w f watched left end found so_far.some (omega arith) (is ∙ so_far.found) in
+    let at : s.cycle ≡ start = k.begins.at in
+    let forward : before ≤ now = so_far.forward in
+    (near_by count to near.spacing before after found (omega arith)
+    (sum_once near.spacing before now after to start end (or_zero found) (k.close (or_zero found) low h.ends) (omega arith) so_far.steps)).steps
+
+pub near_again : (w : Setting) (f : State) (ring near : Snapshots) (watched : Watched) (count to left end start before now mid after : ℕ) (s u : State) (found : Option ℕ) → 1 < left → Searching w f watched count to left end before now → Stretch w f ring near to start end s →
+    Stretch w f ring near to start end u → found ≡ before_nth w f watched count to → mid + s.cycle ≡ now + end → after + u.cycle ≡ mid + end → Near count to ring.spacing before after found
+near_again w f ring near watched count to left end start before now mid after s u found more so_far k j is first second =
     let begins : start < end = k.some in
     let low : or_zero found < end = before_low w f watched left end found so_far.some (omega arith) (is ∙ so_far.found) in
     let at : s.cycle ≡ start = k.begins.at in
     let too : u.cycle ≡ start = j.begins.at in
     let short : end ≤ start + ring.spacing = k.short in
-    let within : end ≤ to = so_far.within in
     let few : left ≤ count = so_far.few in
     let forward : before ≤ now = so_far.forward in
-    let steps : now + end ≤ before + to = so_far.steps in
-    near_twice count to ring.spacing before after found (omega arith) (omega arith) (omega arith)
+    near_twice count to ring.spacing before after found (omega arith) (omega arith)
+    (sum_twice ring.spacing before now mid after to start end (or_zero found) (omega arith) short (omega arith) (omega arith) so_far.steps)
+
+pub close_again : (w : Setting) (f : State) (ring near : Snapshots) (watched : Watched) (count to left end start before now mid after : ℕ) (s u : State) (found : Option ℕ) → 1 < left → Searching w f watched count to left end before now → Stretch w f ring near to start end s →
+    Stretch w f ring near to start end u → found ≡ before_nth w f watched count to → mid + s.cycle ≡ now + end → after + u.cycle ≡ mid + end → FindsNear near count to (or_zero found) →
+    after + or_zero found < before + to + passes count * near.spacing
+close_again w f ring near watched count to left end start before now mid after s u found more so_far k j is first second h =
+    let begins : start < end = k.some in
+    let low : or_zero found < end = before_low w f watched left end found so_far.some (omega arith) (is ∙ so_far.found) in
+    let at : s.cycle ≡ start = k.begins.at in
+    let too : u.cycle ≡ start = j.begins.at in
+    let few : left ≤ count = so_far.few in
+    let within : end ≤ to = so_far.within in
+    let forward : before ≤ now = so_far.forward in
+    let begun : near.origin ≤ or_zero found = begun_within near (or_zero found) h.ends in
+    let below : to - near.origin < 64 * near.spacing = low_within near to (h.begins (omega arith)) in
+    let last : end - 1 < start + near.spacing = k.close (end - 1) (omega arith) (within_of near (end - 1) (omega arith) (omega arith)) in
+    (near_twice count to near.spacing before after found (omega arith) (omega arith)
+    (sum_twice near.spacing before now mid after to start end (or_zero found) (k.close (or_zero found) low h.ends) (omega arith) (omega arith) (omega arith) so_far.steps)).steps
 
 none_left : (w : Setting) (f : State) (watched : Watched) (left : ℕ) → 0 < left → None ≡ before_nth w f watched left 0
 unfolding before_nth
@@ -307,8 +353,8 @@ zero_steps count to spacing steps some = near_by count to spacing steps steps (S
 
 -- ---- how many are remembered
 
-pub remembers_all : (w : Setting) (f : State) (ring : Snapshots) (watched : Watched) (to left end start most : ℕ) (all : Tally) (s : State) → Stretch w f ring to start end s → all ≡ tally w s watched most (end - s.cycle) → left ≡ 1 → end ≤ most → Remembers left most all.count
-remembers_all w f ring watched to left end start most all s k is one le =
+pub remembers_all : (w : Setting) (f : State) (ring near : Snapshots) (watched : Watched) (to left end start most : ℕ) (all : Tally) (s : State) → Stretch w f ring near to start end s → all ≡ tally w s watched most (end - s.cycle) → left ≡ 1 → end ≤ most → Remembers left most all.count
+remembers_all w f ring near watched to left end start most all s k is one le =
     let few = few_of w s watched most (end - s.cycle) in
     let same : all.count ≡ (tally w s watched most (end - s.cycle)).count = ap (λ (x : Tally). x.count) is in
     inr (one, omega (arith, few))
@@ -317,14 +363,14 @@ some_remembered : (left count : ℕ) → 0 < left → left ≤ count → Remembe
 some_remembered left count some le = inl (omega arith)
 
 -- the same stretch once more, up to the one that is asked for
-pub found_again : (w : Setting) (f : State) (ring : Snapshots) (watched : Watched) (count to left end start most before now : ℕ) (all again : Tally) (s u : State) → Searching w f watched count to left end before now → Stretch w f ring to start end s →
-    Stretch w f ring to start end u → all ≡ tally w s watched most (end - s.cycle) → left ≤ all.count → again ≡ tally w u watched (all.count - left + 1) (end - u.cycle) → again.last ≡ before_nth w f watched count to
-found_again w f ring watched count to left end start most before now all again s u so_far k j is le isagain =
+pub found_again : (w : Setting) (f : State) (ring near : Snapshots) (watched : Watched) (count to left end start most before now : ℕ) (all again : Tally) (s u : State) → Searching w f watched count to left end before now → Stretch w f ring near to start end s →
+    Stretch w f ring near to start end u → all ≡ tally w s watched most (end - s.cycle) → left ≤ all.count → again ≡ tally w u watched (all.count - left + 1) (end - u.cycle) → again.last ≡ before_nth w f watched count to
+found_again w f ring near watched count to left end start most before now all again s u so_far k j is le isagain =
     let same_cycle : u.cycle ≡ s.cycle = j.begins.at ∙ sym k.begins.at in
     let same : u ≡ s = j.begins.is ∙ ap (states w f) same_cycle ∙ sym k.begins.is in
     let counts : again.count ≡ all.count =
     ap (λ (x : Tally). x.count) isagain ∙ ap (λ (x : State). (tally w x watched (all.count - left + 1) (end - x.cycle)).count) same
     ∙ count_same w s watched (all.count - left + 1) most (end - s.cycle) ∙ sym (ap (λ (x : Tally). x.count) is)
     in
-    found_there w f ring watched count to left end start (all.count - left + 1) before now again u so_far j isagain (omega arith)
+    found_there w f ring near watched count to left end start (all.count - left + 1) before now again u so_far j isagain (omega arith)
     (subst (Remembers left (all.count - left + 1)) (sym counts) (some_remembered left all.count so_far.some le))

@@ -7,6 +7,7 @@ pub mod Session
 pub mod Sight
 pub mod Debugger
 pub mod Hear
+pub mod Laws
 pub mod Lines
 pub mod NextLine
 pub mod Talk

@@ -5,6 +5,7 @@
 mod advance;
 mod command;
 pub mod hear;
+pub mod laws;
 mod reader;
 mod reply;
 pub mod search;

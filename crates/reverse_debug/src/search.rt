@@ -3,10 +3,11 @@
 ghost use Rattle.std.specs.Prelude.{◌≡◌, ◌≤◌, ◌<◌, ◌+◌, ◌-◌, ◌*◌, ◌^◌};
 ghost use Rattle.outer_lane.specs.Setting.{setting};
 ghost use Rattle.rp_base.specs.Alias.{or_zero};
-ghost use Rattle.reverse_debug.specs.Search.{noted, tally};
+ghost use Rattle.snap_ring.specs.Ring.{state_at, restored, IsNearest};
+ghost use Rattle.reverse_debug.specs.Search.{greater_of, noted, tally};
 ghost use Rattle.reverse_debug.specs.Reply.{last_cycle, passes, before_nth};
 ghost use Rattle.reverse_debug.specs.Reading.{IsThere};
-ghost use Rattle.reverse_debug.specs.Session.{AreOf, first_in};
+ghost use Rattle.reverse_debug.specs.Session.{AreOf, FindsNear, all_kept, first_in};
 
 use crate::advance::advance;
 use crate::watch::{Watched, happens_by, seen};
@@ -79,11 +80,39 @@ fn scan<X: Device, L: Ledger>(
     tally
 }
 
+/// The greater of two cycles, of which each may be none.
+fn greater_of(one: Option<u64>, other: Option<u64>) -> Option<u64>
+    ensures { result ≡ greater_of one other }
+{
+    match (one, other) {
+        (Some(one), Some(other)) => Some(one.max(other)),
+        (None, _) => other,
+        (_, None) => one,
+    }
+}
+
+/// The greatest cycle not above another one of which one of two rings keeps the state.
+fn nearest_of(ring: &Ring, near: &Ring, cycle: u64) -> Option<u64>
+    ensures { IsNearest cycle (all_kept ring.now near.now) result }
+{
+    greater_of(ring.nearest(cycle), near.nearest(cycle))
+}
+
+/// Sets a machine to the state of a cycle that one of two rings keeps; else it stays as it is.
+fn restore_of(ring: &Ring, near: &Ring, cycle: u64, machine: &mut Machine)
+    ensures { machine.new ≡ restored (state_at cycle (all_kept ring.now near.now)) machine.old }
+{
+    if !near.restore(cycle, machine) {
+        ring.restore(cycle, machine);
+    }
+}
+
 /// The n-th cycle below another one in which what is watched happens; it itself where n is 0. The stretches between the states
-/// that are kept are searched from behind, so that what is near is found soon; the one that has a cycle that is not its last is gone over
+/// that are kept in either ring are searched from behind, so that what is near is found soon; the one that has a cycle that is not its last is gone over
 /// once more. The machine is set to states of the run.
 pub(crate) fn nth_before<X: Device, L: Ledger>(
     ring: &Ring,
+    near: &Ring,
     machine: &mut Machine,
     world: &World<'_, X>,
     watched: Watched,
@@ -92,12 +121,14 @@ pub(crate) fn nth_before<X: Device, L: Ledger>(
     steps: &mut Steps<L>,
 ) -> Option<u64>
     requires watched { IsThere watched }
-    requires kept { AreOf (setting X.meaning world.now) (first_in ring.now machine.old) ring.now to }
+    requires kept { AreOf (setting X.meaning world.now) (first_in ring.now machine.old) ring.now near.now to }
     requires to { to ≤ last_cycle (setting X.meaning world.now) (first_in ring.now machine.old) }
     ensures found { result
         ≡ before_nth (setting X.meaning world.now) (first_in ring.now machine.old) watched count to }
     ensures forward { steps.old ≤ steps.new }
     ensures steps { steps.new + or_zero result < steps.old + to + passes count * ring.now.spacing }
+    ensures near { FindsNear near.now count to (or_zero result)
+        → steps.new + or_zero result < steps.old + to + passes count * near.now.spacing }
 {
     if count == 0 {
         return Some(to);
@@ -105,16 +136,16 @@ pub(crate) fn nth_before<X: Device, L: Ledger>(
     let mut end = to;
     let mut left = count;
     'stretches: while 0 < end {
-        let Some(start) = ring.nearest(end - 1) else {
+        let Some(start) = nearest_of(ring, near, end - 1) else {
             return None;
         };
-        ring.restore(start, machine);
+        restore_of(ring, near, start, machine);
         let all = scan(machine, world, watched, u64::MAX, end, steps);
         if left <= all.count {
             if left == 1 {
                 return all.last;
             }
-            ring.restore(start, machine);
+            restore_of(ring, near, start, machine);
             return scan(machine, world, watched, all.count - left + 1, end, steps).last;
         }
         left -= all.count;

@@ -1,7 +1,8 @@
 //! A session: where it stands, how it moves, and what it answers.
 
-ghost use Rattle.std.specs.Prelude.{◌≡◌, ◌≤◌, ◌<◌, ◌+◌, ◌-◌, ◌%◌, ◌^◌, ◌||◌, nat_lt, max};
+ghost use Rattle.std.specs.Prelude.{◌≡◌, ◌≤◌, ◌<◌, ◌+◌, ◌^◌, ◌||◌, nat_lt, max};
 ghost use Rattle.reverse_debug.specs.Reply.{fewer};
+ghost use Rattle.reverse_debug.specs.Session.{next_place};
 
 use crate::advance::{advance, seek};
 use crate::command::{Command, command_of, goes_on};
@@ -28,17 +29,18 @@ fn is_nearer(target: u64, now: u64, kept: u64) -> bool
     target < now || now < kept
 }
 
-/// The next multiple of a spacing after a cycle, at most a cycle.
-#[tactic(auto, using(crate::proofs::Rings::next_above))]
-fn next_stop(at: u64, spacing: u64, to: u64) -> u64
-    requires some { 0 < spacing }
-    requires small { at + spacing < 2 ^ 64 }
+/// The next multiple of a ring's spacing from its origin after a cycle, at most a cycle.
+fn place_after(ring: &Ring, at: u64, to: u64) -> u64
+    requires some { 0 < ring.now.spacing }
+    requires begun { ring.now.origin ≤ at }
+    requires small { at + ring.now.spacing < 2 ^ 64 }
     requires ahead { at < to }
     ensures within { result ≤ to }
-    ensures near { result ≤ at - at % spacing + spacing }
+    ensures near { result ≤ next_place ring.now at }
     ensures ahead { at < result }
 {
-    let next = at - at % spacing + spacing;
+    let spacing = ring.spacing();
+    let next = at - (at - ring.origin()) % spacing + spacing;
     if next < to { next } else { to }
 }
 
@@ -58,15 +60,17 @@ fn fewer(was: bool, left: u64) -> u64
 }
 
 /// A session of the debugger. It stands at one cycle of a run; states of the run that it has reached are kept in a ring, so that
-/// it can go back. All memory is taken by `open`.
+/// it can go back, and closer together of the stretch to which it went back last. All memory is taken by `open`.
 #[derive(Drop)]
 pub struct Session {
     /// The machine at the present cycle.
     machine: Machine,
     /// Another one, which goes over the past.
     scout: Machine,
-    /// The states that are kept.
+    /// The states that are kept of the run.
     ring: Ring,
+    /// The states that are kept of one stretch of it.
+    near: Ring,
     /// The cycle at which the run ends at the latest.
     limit: u64,
     /// The greatest cycle that was reached.
@@ -81,23 +85,26 @@ impl Model for Session {
     ghost view = { λ s. record {
       now = s.machine;
       ring = s.ring;
+      near = s.near;
       limit = s.limit;
       reached = s.reached;
     } };
 }
 
 impl Session {
-    ghost use Rattle.std.specs.Prelude.{◌≡◌, ◌≤◌, ◌<◌, ◌+◌, ◌*◌, IfOk, IfNone, not, []};
+    ghost use Rattle.std.specs.Prelude.{◌≡◌, ◌≤◌, ◌<◌, ◌+◌, ◌*◌, ◌&&◌, nat_lt, true, false, IfOk, IfNone, not, []};
     ghost use Rattle.outer_lane.specs.Setting.{Setting, setting};
     ghost use Rattle.rp_base.specs.Alias.{or_zero};
     ghost use Rattle.reverse_debug.specs.Command.{are_words};
     ghost use Rattle.reverse_debug.specs.Reading.{meant, Fits, IsThere};
     ghost use Rattle.reverse_debug.specs.Reply.{heard, answer, cost, command_cost, moved_to, moved_back, move_cost, passes, search_cost, before_nth, behind_next, at_or_last, at_or_start};
+    ghost use Rattle.reverse_debug.specs.Command.{command_of};
+    ghost use Rattle.snap_ring.specs.Ring.{is_within};
     ghost use Rattle.reverse_debug.specs.Advance.{EndsAtLast, CountsMove};
-    ghost use Rattle.reverse_debug.specs.Session.{first_of, StandsFor, OpensAt, StaysFor, GoesOn, Lands, ComesTo, Does};
+    ghost use Rattle.reverse_debug.specs.Session.{first_of, next_place, StandsFor, Stands, OpensAt, StaysFor, GoesOn, Lands, ComesTo, Does, Moves, IsIn, FindsNear, IsNearBy};
 
     /// A session at the state of a machine before its first cycle, for runs up to a limit of at most 1,000,000,000 cycles. It takes
-    /// the memory for 64 states that will be kept, and for a second machine.
+    /// the memory for twice 64 states that will be kept, and for a second machine.
     ///
     /// # Errors
     ///
@@ -108,11 +115,14 @@ impl Session {
         ensures { IfOk result (λ session. OpensAt machine.now limit session) }
     {
         let mut ring = Ring::new(alloc, machine, limit)?;
+        let mut near = Ring::near(alloc, machine, ring.spacing())?;
         ring.keep(machine);
+        near.keep(machine);
         Ok(Session {
             machine: machine.twin(alloc)?,
             scout: machine.twin(alloc)?,
             ring,
+            near,
             limit,
             reached: 0,
         })
@@ -125,8 +135,33 @@ impl Session {
         self.machine.number()
     }
 
-    /// Restores the nearest kept state, where the machine is beyond the target, or before that state.
-    fn jump(&mut self, target: u64)
+    /// A cycle is below the present one, and of the near stretch.
+    fn is_close(&self, target: u64) -> bool
+        ensures { result
+            ≡ (nat_lt target self.now.now.cycle && is_within self.now.near.spacing self.now.near.origin target) }
+    {
+        target < self.machine.number() && self.near.is_within(target)
+    }
+
+    /// Restores the nearest state that is kept of the near stretch.
+    fn jump_near(&mut self, target: u64)
+        requires close { (nat_lt target self.old.now.cycle
+            && is_within self.old.near.spacing self.old.near.origin target) ≡ true }
+        ensures { (w : Setting) → StandsFor w self.old → Lands w self.old target self.new }
+    {
+        match self.near.nearest(target) {
+            None => return,
+            Some(nearest) => {
+                self.near.restore(nearest, &mut self.machine);
+            }
+        }
+    }
+
+    /// Restores the nearest state that is kept of the run, where the machine is beyond the target, or before that state. The near
+    /// stretch begins there anew.
+    fn jump_far(&mut self, target: u64)
+        requires far { (nat_lt target self.old.now.cycle
+            && is_within self.old.near.spacing self.old.near.origin target) ≡ false }
         ensures { (w : Setting) → StandsFor w self.old → Lands w self.old target self.new }
     {
         let now = self.machine.number();
@@ -137,8 +172,35 @@ impl Session {
                     return;
                 }
                 self.ring.restore(nearest, &mut self.machine);
+                self.near.restart(nearest);
+                self.near.keep(&self.machine);
             }
         }
+    }
+
+    /// Restores the nearest kept state, where the machine is beyond the target, or before that state.
+    fn jump(&mut self, target: u64)
+        ensures { (w : Setting) → StandsFor w self.old → Lands w self.old target self.new }
+    {
+        if self.is_close(target) {
+            self.jump_near(target);
+        } else {
+            self.jump_far(target);
+        }
+    }
+
+    /// The next cycle whose state one of the rings may keep, at most a cycle.
+    fn next_stop(&self, to: u64) -> u64
+        requires stands { Stands self.now }
+        requires ahead { self.now.now.cycle < to }
+        ensures within { result ≤ to }
+        ensures far { result ≤ next_place self.now.ring self.now.now.cycle }
+        ensures near { result ≤ next_place self.now.near self.now.now.cycle }
+        ensures ahead { self.now.now.cycle < result }
+    {
+        let at = self.machine.number();
+        let far = place_after(&self.ring, at, to);
+        place_after(&self.near, at, far)
     }
 
     /// Goes forward up to the next cycle whose state is to be kept, at most to a cycle, and keeps the state there.
@@ -155,12 +217,11 @@ impl Session {
         ensures nearer { IfNone result (self.old.now.cycle < self.new.now.cycle) }
         ensures steps { CountsMove self.old.now self.new.now steps.old steps.new }
     {
-        let at = self.machine.number();
-        let spacing = self.ring.spacing();
-        let until = next_stop(at, spacing, to);
+        let until = self.next_stop(to);
         let why = advance(&mut self.machine, world, until, marks, steps);
         self.reached = greater(self.reached, self.machine.number());
         self.ring.keep(&self.machine);
+        self.near.keep(&self.machine);
         why
     }
 
@@ -181,12 +242,11 @@ impl Session {
         ensures none { EndsAtLast (setting X.meaning world.now) watched self.old.now self.new.now result }
         ensures steps { CountsMove self.old.now self.new.now steps.old steps.new }
     {
-        let at = self.machine.number();
-        let spacing = self.ring.spacing();
-        let until = next_stop(at, spacing, at + spacing);
+        let until = self.next_stop(u64::MAX);
         let why = seek(&mut self.machine, world, watched, until, pace, marks, steps);
         self.reached = greater(self.reached, self.machine.number());
         self.ring.keep(&self.machine);
+        self.near.keep(&self.machine);
         why
     }
 
@@ -225,9 +285,7 @@ impl Session {
         requires empty { reply.old.items ≡ [] }
         ensures { let w = setting X.meaning world.now in
             let what = moved_to w (first_of self.old) target in
-            Does w self.old what (move_cost self.old.ring.spacing self.old.now.cycle what.cycle)
-            self.new reply.new.items
-            steps.old steps.new }
+            Moves w self.old what self.new reply.new.items steps.old steps.new }
     {
         self.jump(target);
         match self.forward(world, target, steps) {
@@ -248,9 +306,7 @@ impl Session {
         requires empty { reply.old.items ≡ [] }
         ensures { let w = setting X.meaning world.now in
             let what = moved_back w (first_of self.old) self.old.now.cycle cycles in
-            Does w self.old what (move_cost self.old.ring.spacing self.old.now.cycle what.cycle)
-            self.new reply.new.items
-            steps.old steps.new }
+            Moves w self.old what self.new reply.new.items steps.old steps.new }
     {
         let now = self.cycle();
         if now < cycles {
@@ -306,9 +362,7 @@ impl Session {
         ensures { let w = setting X.meaning world.now in
             let what = at_or_last w (first_of self.old)
             (behind_next w (first_of self.old) watched count self.old.now.cycle) in
-            Does w self.old what (move_cost self.old.ring.spacing self.old.now.cycle what.cycle)
-            self.new reply.new.items
-            steps.old steps.new }
+            Moves w self.old what self.new reply.new.items steps.old steps.new }
     {
         match self.until_nth(world, watched, count, steps) {
             None => put_cycle(self.cycle(), reply),
@@ -331,10 +385,14 @@ impl Session {
         ensures forward { steps.old ≤ steps.new }
         ensures steps { steps.new + or_zero result
             < steps.old + self.old.now.cycle + passes count * self.old.ring.spacing }
+        ensures near { FindsNear self.old.near count self.old.now.cycle (or_zero result)
+            → steps.new + or_zero result
+            < steps.old + self.old.now.cycle + passes count * self.old.near.spacing }
     {
         let now = self.cycle();
         nth_before(
             &self.ring,
+            &self.near,
             &mut self.scout,
             world,
             watched,
@@ -359,10 +417,10 @@ impl Session {
         ensures { let w = setting X.meaning world.now in
             let found = before_nth w (first_of self.old) watched count self.old.now.cycle in
             Does w self.old (at_or_start found)
-            (search_cost self.old.ring.spacing count self.old.now.cycle found
-            + move_cost self.old.ring.spacing self.old.now.cycle (at_or_start found).cycle)
-            self.new reply.new.items
-            steps.old steps.new }
+            (FindsNear self.old.near count self.old.now.cycle (or_zero found))
+            (λ d. search_cost d count self.old.now.cycle found
+            + move_cost d self.old.now.cycle (at_or_start found).cycle)
+            self.new reply.new.items steps.old steps.new }
     {
         match self.nth_before(world, watched, count, steps) {
             Some(cycle) => self.move_to(world, cycle, reply, steps),
@@ -387,9 +445,9 @@ impl Session {
         ensures { let w = setting X.meaning world.now in
             let what = answer w (first_of self.old) self.old.now.cycle (meant command) in
             Does w self.old what
-            (command_cost w (first_of self.old) self.old.ring.spacing self.old.now.cycle (meant command))
-            self.new
-            reply.new.items steps.old steps.new }
+            (IsNearBy w (first_of self.old) self.old.near self.old.now.cycle (meant command))
+            (λ d. command_cost w (first_of self.old) d self.old.now.cycle (meant command))
+            self.new reply.new.items steps.old steps.new }
     {
         let now = self.cycle();
         match command {
@@ -441,6 +499,12 @@ impl Session {
         ensures forward { steps.old ≤ steps.new }
         ensures steps { steps.new ≤ steps.old
             + cost (setting X.meaning world.now) (first_of self.old) self.old.ring.spacing self.old.now.cycle line.now }
+        ensures near { IsNearBy (setting X.meaning world.now) (first_of self.old) self.old.near
+            self.old.now.cycle (command_of line.now) → steps.new ≤ steps.old
+            + cost (setting X.meaning world.now) (first_of self.old) self.old.near.spacing self.old.now.cycle line.now }
+        ensures back { self.new.now.cycle < self.old.now.cycle → IsIn self.new.near self.new.now.cycle }
+        ensures same { self.new.now.cycle ≡ self.old.now.cycle → IsIn self.old.near self.old.now.cycle
+            → IsIn self.new.near self.new.now.cycle }
     {
         let command = command_of(line);
         reply.clear();

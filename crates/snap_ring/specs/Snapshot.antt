@@ -62,11 +62,11 @@ first_numbers [] = None
 first_numbers (p ∷ older) = Some p.numbers
 
 -- of the snapshots those from `free` on are kept
-pub record AreSound (spacing free : ℕ) (snapshots : List Snapshot) (pages : List (List ℕ)) : Type 0 where
+pub record AreSound (spacing origin free : ℕ) (snapshots : List Snapshot) (pages : List (List ℕ)) : Type 0 where
   pub small : spacing ≤ 15625000
   pub long : length snapshots ≡ 64
   pub low : free ≤ 64
   pub whole : AllByRecursion IsPage pages
   pub stored : AllByRecursion (λ p. AreStored (length pages) p.numbers) (drop free snapshots)
-  pub due : WereDue spacing (states_in pages (drop free snapshots))
+  pub due : WereDue spacing origin (states_in pages (drop free snapshots))
   pub count : length pages ≡ stored_of (states_in pages (drop free snapshots))

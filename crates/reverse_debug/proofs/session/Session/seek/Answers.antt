@@ -1,20 +1,22 @@
-use Rattle.std.proofs.Common.{◌+◌, ◌^◌, ◌<◌, max, ap, arith, ◌∙◌}
-use Rattle.reverse_debug.proofs.Sessions.{part_low, part_stretched, part_sum, part_reach}
+use Rattle.std.proofs.Common.{◌≤◌, ◌+◌, max, ap, arith, ◌∙◌}
+use Rattle.reverse_debug.specs.Session.{next_place}
+use Rattle.reverse_debug.proofs.Rings.{next_reach}
+use Rattle.reverse_debug.proofs.Sessions.{low_number, part_low, part_stretched}
 use Rattle.reverse_debug.proofs.session.Session.seek.Goals as goal
 
-pub overflow_add-at : goal.overflow_add-at
-overflow_add-at g c =
-    let low : c.number-at.result + c.spacing-spacing.result < 2 ^ 64 = part_sum _ _ _ _ _ c.self.view_is c.requires.stands c.number-at.ensures c.spacing-spacing.ensures in
-    omega arith
+pub next_stop-until-requires-clause-stands : goal.next_stop-until-requires-clause-stands
+next_stop-until-requires-clause-stands g c = (_, c.requires.stands)
 
-pub next_stop-until-requires-clause-small : goal.next_stop-until-requires-clause-small
-next_stop-until-requires-clause-small g c = part_sum _ _ _ _ _ c.self.view_is c.requires.stands c.number-at.ensures c.spacing-spacing.ensures
+pub next_stop-until-requires-clause-ahead : goal.next_stop-until-requires-clause-ahead
+next_stop-until-requires-clause-ahead g c = low_number _ _ c.requires.stands
 
 pub seek-why-requires-clause-low : goal.seek-why-requires-clause-low
 seek-why-requires-clause-low g c κs within = part_low _ _ _ c.self.view_is c.requires.stands
 
 pub returns-clause-way : goal.returns-clause-way
 returns-clause-way g c =
-    part_stretched _ _ _ _ _ _ _ _ _ _ _ c.self.view_is c.requires.stands c.number-at.ensures c.spacing-spacing.ensures c.seek-why.ensures.way
-    (part_reach _ _ _ _ _ c.self.view_is c.number-at.ensures c.spacing-spacing.ensures c.next_stop-until.ensures.within) c.next_stop-until.ensures.near c.keep.ensures.kept
+    let old = c.args.self.now in
+    let reach : next_place old.ring old.now.cycle ≤ old.now.cycle + old.ring.spacing = next_reach old.ring old.now.cycle in
+    part_stretched _ _ _ _ _ _ _ _ _ _ c.self.view_is c.requires.stands c.seek-why.ensures.way (omega (arith, reach, c.next_stop-until.ensures.far))
+    c.next_stop-until.ensures.far c.next_stop-until.ensures.near c.keep.ensures.kept c.keep-2.ensures.kept
     (c.greater-self-inside.ensures ∙ ap (λ n. max c.self.inside.reached n) c.number.ensures)

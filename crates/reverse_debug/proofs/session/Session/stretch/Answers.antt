@@ -1,15 +1,15 @@
 use Rattle.std.proofs.Common.{max, ap, ◌∙◌}
-use Rattle.reverse_debug.proofs.Sessions.{part_low, part_stretched, part_sum}
+use Rattle.reverse_debug.proofs.Sessions.{part_low, part_stretched}
 use Rattle.reverse_debug.proofs.session.Session.stretch.Goals as goal
+
+pub next_stop-until-requires-clause-stands : goal.next_stop-until-requires-clause-stands
+next_stop-until-requires-clause-stands g c = (_, c.requires.stands)
 
 pub advance-why-requires-clause-low : goal.advance-why-requires-clause-low
 advance-why-requires-clause-low g c κs within = part_low _ _ _ c.self.view_is c.requires.stands
 
 pub returns-clause-way : goal.returns-clause-way
 returns-clause-way g c =
-    part_stretched _ _ _ _ _ _ _ _ _ _ _ c.self.view_is c.requires.stands c.number-at.ensures c.spacing-spacing.ensures c.advance-why.ensures.way
-    c.next_stop-until.ensures.within c.next_stop-until.ensures.near c.keep.ensures.kept
+    part_stretched _ _ _ _ _ _ _ _ _ _ c.self.view_is c.requires.stands c.advance-why.ensures.way c.next_stop-until.ensures.within
+    c.next_stop-until.ensures.far c.next_stop-until.ensures.near c.keep.ensures.kept c.keep-2.ensures.kept
     (c.greater-self-inside.ensures ∙ ap (λ n. max c.self.inside.reached n) c.number.ensures)
-
-pub next_stop-until-requires-clause-small : goal.next_stop-until-requires-clause-small
-next_stop-until-requires-clause-small g c = part_sum _ _ _ _ _ c.self.view_is c.requires.stands c.number-at.ensures c.spacing-spacing.ensures

@@ -1,21 +1,15 @@
-use Rattle.std.proofs.Common.{◌≡◌, max, [], List, length, drop, sym, ap, ◌∙◌, arith, subst}
-use Rattle.std.proofs.lemmas.List.{drop_all}
-use Rattle.snap_ring.specs.declared.snapshot.Snapshot.{Snapshot}
-use Rattle.snap_ring.specs.Snapshot.{AreSound, states_in}
-use Rattle.snap_ring.proofs.Keeping.{spacing_is, sound_at_start}
+use Rattle.std.proofs.Common.{◌≡◌, max, [], IfOk, ap, ◌∙◌, arith, subst}
+use Rattle.snap_ring.specs.Ring.{Snapshots}
+use Rattle.snap_ring.proofs.Keeping.{spacing_is}
 use Rattle.snap_ring.proofs.ring.Ring.new.Goals as goal
 
-pub invariant_of-result : goal.invariant_of-result
-invariant_of-result c =
-    let long : length c.in_ok-snapshots_for.field-0.items ≡ 64 = omega (arith, c.in_ok-snapshots_for.ensures) in
-    let spacing : c.max.result ≡ max 4096 c.div_ceil.result = c.max.ensures in (
-      subst (AreSound c.max.result 64 c.in_ok-snapshots_for.field-0.items) (sym c.in_ok-with_capacity.ensures.items)
-          (sound_at_start c.max.result c.in_ok-snapshots_for.field-0.items (omega (arith, spacing)) (omega (arith, spacing, c.div_ceil.ensures, c.requires)) long),
-      omega (arith, c.in_ok-with_capacity.ensures.exact),
-    )
+pub with_spacing-requires-clause-some : goal.with_spacing-requires-clause-some
+with_spacing-requires-clause-some c = omega (arith, c.max-spacing.ensures)
+
+pub with_spacing-requires-clause-small : goal.with_spacing-requires-clause-small
+with_spacing-requires-clause-small c = omega (arith, c.max-spacing.ensures, c.div_ceil.ensures, c.requires)
 
 pub returns : goal.returns
 returns c =
-    let none : drop 64 c.in_ok-snapshots_for.field-0.items ≡ [] = drop_all 64 c.in_ok-snapshots_for.field-0.items (omega (arith, c.in_ok-snapshots_for.ensures)) in
-    ap (λ (l : List Snapshot). record { spacing = c.max.result; kept = states_in c.in_ok-with_capacity.field-0.items l }) none
-    ∙ ap (λ n. record { spacing = n; kept = [] }) (c.max.ensures ∙ ap (max 4096) c.div_ceil.ensures ∙ spacing_is c.args.limit)
+    subst (λ n. IfOk c.with_spacing.result (λ (ring : Snapshots). ring ≡ record { spacing = n; origin = 0; kept = [] }))
+    (c.max-spacing.ensures ∙ ap (max 4096) c.div_ceil.ensures ∙ spacing_is c.args.limit) c.with_spacing.ensures
