@@ -78,6 +78,7 @@ impl<'b, 'w, X: Device, G: Gate> Bench<'b, 'w, X, G> {
         };
         let ran = run(&desk, &mut lead, machine, tape, steps);
         board.close(&mut lead.master);
+        drop(lead);
         ran
     }
 }
@@ -165,6 +166,7 @@ fn run_at<'w, X: Device, G: Gate, T: Tape, L: Ledger, R: Threads + Wait + Sync>(
         world,
         workers + 1,
     ) else {
+        drop(sets);
         return None;
     };
     let board = &board;
@@ -192,6 +194,8 @@ fn run_at<'w, X: Device, G: Gate, T: Tape, L: Ledger, R: Threads + Wait + Sync>(
         gate,
     };
     if workers == 0 {
+        // a value that only one way uses up is dear to check
+        drop(hall);
         return Some(bench.work(rt, machine, tape, steps));
     }
     Some(both(rt, hall, bench, machine, tape, steps))
