@@ -1,5 +1,5 @@
 -- The peripherals over many cycles: each part goes its own way as long as the pads stay.
-use Rattle.std.proofs.Common.{◌≡◌, ℕ, zero, suc, ◌+◌, ◌-◌, ◌^◌, ◌<◌, ◌≤◌, ◌==◌, Bool, true, false, List, [], ◌∷◌, ◌++◌, length, Option, None, if◌then◌else◌, refl, sym, ap, subst, ◌∙◌, arith}
+use Rattle.std.proofs.Common.{◌≡◌, ℕ, zero, suc, ◌+◌, ◌-◌, ◌^◌, ◌<◌, ◌≤◌, ◌==◌, Bool, true, false, List, [], ◌∷◌, ◌++◌, length, Option, None, refl, sym, ap, subst, ◌∙◌, arith}
 use Rattle.std.proofs.lemmas.Bool.Decides.{nat_tests}
 use Rattle.std.specs.List.{filter}
 use Rattle.rp_base.specs.declared.resettable.Resettable.{Resettable}
@@ -8,13 +8,9 @@ use Rattle.rp_base.specs.Resettable.{unless_held_becomes}
 use Rattle.io_bank.specs.declared.outputs.Outs.{Outs}
 use Rattle.io_bank.specs.State.{Bank}
 use Rattle.io_bank.specs.Edges.{edges_of}
-use Rattle.io_bank.specs.Levels.{by_sets, is_used, receive_level, uart_outputs}
+use Rattle.io_bank.specs.Levels.{by_sets, receive_level, uart_outputs}
 use Rattle.io_bank.specs.Step.{after_step, with_edges, with_levels}
 use Rattle.lane_look.specs.declared.device.Wires.{Wires}
-use Rattle.lane_look.specs.declared.lane.Ask.{Ask}
-use Rattle.lane_look.specs.declared.lane.Ask.TheVariants as ask
-use Rattle.lane_look.specs.Asking.{answered}
-use Rattle.lane_look.specs.Asking.Asking.{Ready, Question}
 use Rattle.lane_look.specs.Device.{DeviceMeaning, no_wires}
 use Rattle.lane_look.specs.Quiet.{IsDeviceQuiet, device_after}
 use Rattle.lane_look.specs.Times.{times}
@@ -37,7 +33,7 @@ use Rattle.outer_lane.specs.declared.world.SeenOutputs.{SeenOutputs}
 use Rattle.outer_lane.specs.Lines.{outer_lines, outer_pacing}
 use Rattle.outer_lane.specs.Setting.{Setting}
 use Rattle.outer_lane.specs.State.{OuterState}
-use Rattle.outer_lane.specs.Step.{either, outs_of, outside_of, levels_by, pads_by, next_by, next, marked_by, marked, timer_after, uart_after, byte_of, wires_by, words_by, wires_of, seen_of, pins_in, no_pins, asks_second, asks}
+use Rattle.outer_lane.specs.Step.{either, outs_of, outside_of, levels_by, pads_by, next_by, next, marked_by, marked, timer_after, uart_after, byte_of, wires_by, words_by, wires_of}
 use Rattle.outer_lane.specs.BroughtUp.{blocks_of, blocks_passed, AreBlocksQuiet}
 use Rattle.outer_lane.specs.Rest.{pads_driven}
 use Rattle.outer_lane.specs.Quiet.{seen_in, outer_step, outer_after, held_blocks, quiet_mark, IsQuiet, uart_cycle, uart_word, words_cycle, words_after, IsSettled, IsTimerQuiet, IsUartQuiet, AreWordsQuiet, IsScriptQuiet}
@@ -257,9 +253,6 @@ one_more : (w : Setting) (seen : SeenOutputs) (s : OuterState) (k : ℕ) → out
 unfolding times
 one_more w seen s k = refl
 
-pub after_more : (w : Setting) (seen : SeenOutputs) (s : OuterState) (k : ℕ) → outer_after w seen (suc k) s ≡ next w (outer_after w seen k s) (seen_in seen (seen.cycle + k))
-after_more w seen s k = one_more w seen s k
-
 -- where the peripherals are quiet, each part has gone on its own
 pub quiet_closed : (w : Setting) (seen : SeenOutputs) (s : OuterState) (n : ℕ) → IsQuiet w seen s n → (k : ℕ) → k ≤ n → outer_after w seen k s ≡ passed w seen k s
 quiet_closed w seen s n q zero le = closed_none w seen s
@@ -372,19 +365,7 @@ parts_quiet w seen s n p =
       words = λ k le. ap (λ (x : OuterState). length x.device) (at k le) ∙ p.words_quiet.count k le;
     }
 
--- ---- fewer cycles, and none
-
-pub fewer : (w : Setting) (seen : SeenOutputs) (s : OuterState) (n m : ℕ) → IsQuiet w seen s n → m ≤ n → IsQuiet w seen s m
-fewer w seen s n m q le = record {
-  mark = λ k lt. q.mark k (omega arith);
-  pads = λ k lt. q.pads k (omega arith);
-  lines = λ k lt. q.lines k (omega arith);
-  pacing = λ k lt. q.pacing k (omega arith);
-  irq = λ k lt. q.irq k (omega arith);
-  sio = λ k lt. q.sio k (omega arith);
-  held = λ k lt. q.held k (omega arith);
-  words = λ k lt. q.words k (omega arith);
-}
+-- ---- for no cycle, and for fewer
 
 pub quiet_zero : (w : Setting) (seen : SeenOutputs) (s : OuterState) → IsQuiet w seen s 0
 quiet_zero w seen s =
@@ -437,25 +418,3 @@ settled_by w seen s wires drives e outside stays irq =
     (sym (levels_same (outs_of wires seen s) (by_sets drives.driven drives.high) (outside_of w.script wires seen.cycle) s.pads outside))
     ∙ stays in
     record { pads = rw (← e) there; irq = rw (← e) irq }
-
--- ---- what is seen in another cycle, where the pads are the same and the outputs of PIO too
-
-second_go : (b : Bool) (f g : Ask → ℕ) (c d : ℕ) (first : List ℕ) → f (ask.Outs 1) ≡ g (ask.Outs 1) → answered f (if b then Question (ask.Outs 1) (λ answer. Ready (seen_of d first (pins_in answer))) else Ready (seen_of d first no_pins)) ≡ seen_in (answered g (if b then Question (ask.Outs 1) (λ answer. Ready (seen_of c first (pins_in answer))) else Ready (seen_of c first no_pins))) d
-second_go true f g c d first e = rw e refl
-second_go false f g c d first e = refl
-
-first_go : (a : Bool) (f g : Ask → ℕ) (o : OuterState) (c d : ℕ) → f (ask.Outs 0) ≡ g (ask.Outs 0) → f (ask.Outs 1) ≡ g (ask.Outs 1) → answered f (if a then Question (ask.Outs 0) (λ answer. asks_second o d (pins_in answer)) else asks_second o d no_pins) ≡ seen_in (answered g (if a then Question (ask.Outs 0) (λ answer. asks_second o c (pins_in answer)) else asks_second o c no_pins)) d
-unfolding asks_second
-first_go true f g o c d e0 e1 =
-    ap (λ (x : ℕ). answered f (asks_second o d (pins_in x))) e0
-    ∙ second_go (is_used 7 o.pads) f g c d (pins_in (g (ask.Outs 0))) e1
-first_go false f g o c d e0 e1 = second_go (is_used 7 o.pads) f g c d no_pins e1
-
-same_asks : (o p : OuterState) (d : ℕ) → p.pads ≡ o.pads → asks p d ≡ asks o d
-unfolding asks asks_second
-same_asks o p d e = rw e refl
-
-pub seen_again : (f g : Ask → ℕ) (o p : OuterState) (c d : ℕ) → p.pads ≡ o.pads → f (ask.Outs 0) ≡ g (ask.Outs 0) → f (ask.Outs 1) ≡ g (ask.Outs 1) → answered f (asks p d) ≡ seen_in (answered g (asks o c)) d
-unfolding asks
-seen_again f g o p c d e e0 e1 =
-    ap (answered f) (same_asks o p d e) ∙ first_go (is_used 6 o.pads) f g o c d e0 e1
