@@ -1,4 +1,4 @@
 pub mod Causing
-pub mod Talking
+pub mod Names
 pub mod Telling
 pub mod Walking

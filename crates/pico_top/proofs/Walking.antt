@@ -1,66 +1,33 @@
 -- Walks of dialogues, what was opened and where its walk ended, and the programs of a run, one behind another.
-use Rattle.std.proofs.Common.{◌≡◌, ℕ, ◌<◌, ◌≤◌, List, [], ◌∷◌, length, Bool, true, false, nat_le, Option, Some, None, Result, Ok, Err, refl, sym, ap, subst, inl, inr, ◌⊎◌, arith, IsSomeAnd, map, ◌∙◌, ◌==◌, if◌then◌else◌, Vec, Global, zero, suc, ◌+◌, ◌++◌, drop, get_or, IfOk, IfErr}
-use Rattle.lane_look.specs.Device.{DeviceMeaning}
-use Rattle.rp_ports.specs.Shelf.{Files, Answers, failed_after}
+use Rattle.pico_top.proofs.Names.{◌≡◌, ℕ, ◌<◌, ◌≤◌, List, [], ◌∷◌, length, Bool, true, false, nat_le, Option, Some, None, Result, Ok, Err, refl, sym, ap, subst, inl, inr, ◌⊎◌, arith, IsSomeAnd, map, ◌∙◌, ◌==◌, if◌then◌else◌, Vec, Global, zero, suc, ◌+◌, ◌++◌, drop, get_or, IfOk, IfErr, DeviceMeaning, Files, Answers, failed_after, Done, Large, Failed, Aim, Setting, setting_of, image_of, Image, image_of_source, script_of, plans_of, Command, Run, RunImage, DebugImage, Disassemble, Assemble, AssembleThumb, Generate, Refusal, line_of, status_of, BadWords, Lost, TooLarge, BadImage, BadScript, BadSource, BadThumb, BadStart, Memory, Refusing, closes, Way, MayEnd, Board, Sunk, Reply, Dialogue, Use, judge, say, hear, aims_in, device_in, dialogue_of, dialogue_from, with_first, with_program, with_programs, with_script, with_linked, with_run, say_run, hear_run, run_reply, behind_script, input_limit, session_reply, source_limit, Load, Refuse, Say, Hear, Ending, IsHeard, AfterLoad, Walks, Verdict, heard_as, on_held, verdict, failed_names, Refuses, Says, Hears, Said, Heard, Refused, NoMemory, EndsUnopened, EndsAs, Opens, OpensFor, LoadsAs, Passes, PutsRefusal, Judges, Boots, use_for, setting_in, setting_by, IsPlaced, ArePlaced, LoadsAll, offset_part, source_part, Adds, AddsBehind, taken_by, at_drop_more, State, PioLoad, Opened, first_of, OpensAt, Unopened, quits, Puts, PioEntry, entry_in}
 use Rattle.rp_ports.specs.declared.shelf.Loaded.{Loaded}
-use Rattle.rp_ports.specs.declared.shelf.Loaded.TheVariants.{Done, Large, Failed, Memory as Starved}
-use Rattle.board_parts.specs.Hearing.{Aim}
-use Rattle.outer_lane.specs.Setting.{Setting, setting_of}
-use Rattle.uf2_image.specs.Uf2.{image_of}
-use Rattle.uf2_image.specs.declared.parts.Image.{Image}
+use Rattle.rp_ports.specs.declared.shelf.Loaded.TheVariants.{Memory as Starved}
 use Rattle.startup_blocks.specs.Table.{linked, HaveBytes}
-use Rattle.thumb_asm.specs.Source.{image_of_source}
-use Rattle.pin_script.specs.Script.{script_of}
 use Rattle.pin_script.specs.declared.entry.Entry.{Entry as ScriptEntry}
 use Rattle.pio_asm.specs.Assembly.{Plan, ArePrograms, IsProgram}
 use Rattle.pio_program.specs.declared.program.Program.{Program}
-use Rattle.pio_asm.specs.Listing.{plans_of}
 use Rattle.command_words.specs.Lists.{Entry}
-use Rattle.command_words.specs.Words.{Command, Run}
-use Rattle.command_words.specs.Words.Command.{RunImage, DebugImage, Disassemble, Assemble, AssembleThumb, Generate}
-use Rattle.command_words.specs.Refusals.{Refusal, line_of, status_of}
 use Rattle.command_words.specs.Meant.{meant}
-use Rattle.command_words.specs.Refusals.Refusal.{BadWords, Lost, TooLarge, BadImage, BadScript, BadSource, BadThumb, BadStart}
-use Rattle.pico_top.specs.declared.open.Unopened.TheVariants.{Memory, Refusing}
-use Rattle.reverse_debug.specs.Lines.{closes}
-use Rattle.reverse_debug.specs.declared.way.Way.{Way}
-use Rattle.reverse_debug.specs.Hear.{MayEnd}
-use Rattle.pico_top.specs.Call.{Board}
 use Rattle.pico_top.specs.Loads.{Placed, offset_of, loads_of, plans_in, placed_as, taken_from}
-use Rattle.pico_top.specs.Dialogue.{Reply, Dialogue, Use, judge, say, hear, aims_in, device_in, dialogue_of, dialogue_from, with_first, with_program, with_programs, with_script, with_linked, with_run, say_run, hear_run, run_reply, behind_script, input_limit, session_reply, source_limit}
-use Rattle.pico_top.specs.Dialogue.Dialogue.{Load, Refuse, Say, Hear}
-use Rattle.pico_top.specs.Walk.{Ending, IsHeard, AfterLoad, Walks, Verdict, heard_as, on_held, verdict, failed_names}
-use Rattle.pico_top.specs.Walk.Verdict.{Refuses, Says, Hears}
-use Rattle.pico_top.specs.Walk.Ending.{Said, Heard, Refused, NoMemory}
-use Rattle.pico_top.specs.Opening.{EndsUnopened, EndsAs, Opens, OpensFor, LoadsAs, Passes, PutsRefusal, Judges, Boots, use_for, setting_in, setting_by, IsPlaced, ArePlaced, LoadsAll, offset_part, source_part, Adds, AddsBehind, taken_by}
 use Rattle.std.specs.List.{AllByRecursion}
-use Rattle.std.proofs.lemmas.List.{at_drop_more}
 use Rattle.uf2_image.specs.declared.parts.Part.{Part}
 use Rattle.uf2_image.specs.Writing.{IsSized}
 use Rattle.uf2_image.proofs.Writable.{what_is_read_can_be_written}
-use Rattle.rp_machine.specs.State.{State, first_state}
+use Rattle.rp_machine.specs.State.{first_state}
 use Rattle.rp_machine.specs.Boot.{start, with_loads, with_load, block_loaded, IsLoad, AreLoads}
-use Rattle.rp_machine.specs.declared.load.PioLoad.{PioLoad}
 use Rattle.command_words.specs.declared.refusal.Refusal.{Refusal as Written}
-use Rattle.pico_top.specs.declared.open.Opened.{Opened}
 use Rattle.pico_top.specs.declared.open.Opened.TheVariants.{Machine, Session, Text}
 use Rattle.pico_top.specs.declared.open.Purpose.{Purpose}
 use Rattle.pico_top.specs.declared.open.Purpose.TheVariants.{Run as ForRun, Debug as ForDebug}
-use Rattle.reverse_debug.specs.Session.{first_of, OpensAt}
-use Rattle.pico_top.specs.declared.open.Unopened.{Unopened}
-use Rattle.reverse_debug.specs.Debugger.{quits}
-use Rattle.pico_top.specs.Answer.{Puts}
 use Rattle.uf2_image.specs.Code.{image_of_number}
 use Rattle.pio_parse.specs.declared.fault.PioFault.{PioFault}
 use Rattle.pio_asm.proofs.Wholeness.{words_length}
 use Rattle.pio_asm.specs.Fitting.{IsFirst}
 use Rattle.pio_asm.specs.Placing.{placed, with_addresses}
-use Rattle.command_words.specs.declared.entry.PioEntry.{PioEntry}
-use Rattle.command_words.specs.Read.{entry_in}
 use Rattle.command_words.specs.declared.refusal.Refusal.TheVariants.{Source}
 
 -- memory may run out in every dialogue
-no_memory : (files : Option Files) (d : Dialogue) → Walks files d NoMemory
+pub no_memory : (files : Option Files) (d : Dialogue) → Walks files d NoMemory
 no_memory files (Load name limit next) = (Starved, [], tt, refl)
 no_memory files (Refuse refusal) = inr refl
 no_memory files (Say plans reply) = inr refl
@@ -312,9 +279,9 @@ generated_opens files failed device number cycles workers stats image script res
     boots_opens aims (ForRun stats) files failed device [] cycles (image_of_number number) [] [] result tt plain
 
 -- the line of a refusal was put with its status
-pub refuses_by : (old new : Option (List ℕ)) (before now status : ℕ) (refusal : Written) (unopened : Unopened) (wanted : ℕ) (text : List ℕ) → unopened ≡ Refusing refusal → wanted ≡ status_of (meant refusal) → text ≡ line_of (meant refusal) → Puts old new before now status wanted text → PutsRefusal old new before now status unopened
-refuses_by old new before now status refusal unopened wanted text is w t puts =
-    rw is (inl (subst (λ (x : ℕ). Puts old new before now status x (line_of (meant refusal))) w (subst (λ (x : List ℕ). Puts old new before now status wanted x) t puts)))
+pub refuses_by : (a b : Sunk) (status : ℕ) (refusal : Written) (unopened : Unopened) (wanted : ℕ) (text : List ℕ) → unopened ≡ Refusing refusal → wanted ≡ status_of (meant refusal) → text ≡ line_of (meant refusal) → Puts a b status wanted text → PutsRefusal a b status unopened
+refuses_by a b status refusal unopened wanted text is w t puts =
+    rw is (inl (subst (λ (x : ℕ). Puts a b status x (line_of (meant refusal))) w (subst (λ (x : List ℕ). Puts a b status wanted x) t puts)))
 
 -- ---- the programs of a run
 

@@ -4,9 +4,9 @@ use Rattle.trace_text.specs.Sent.{Sends}
 use Rattle.trace_text.specs.declared.writer.SinkFault.{SinkFault}
 use Rattle.command_words.specs.Words.{Command}
 use Rattle.command_words.specs.Refusals.{line_of, status_of}
-use Rattle.pico_top.specs.Call.{Board, asked_by, Outside}
+use Rattle.pico_top.specs.Call.{Board, asked_by, Drawn, Sunk, Outside}
 use Rattle.reverse_debug.specs.Hear.{way_status, IsTaken}
-use Rattle.pico_top.specs.Dialogue.{Cost, dialogue_from}
+use Rattle.pico_top.specs.Dialogue.{Cost, Dialogue, dialogue_from}
 use Rattle.pico_top.specs.Dialogue.Cost.{Exactly, AtMost}
 use Rattle.pico_top.specs.Walk.{Ending, Walks, failed_names}
 use Rattle.pico_top.specs.Walk.Ending.{Said, Heard, Refused, NoMemory}
@@ -18,26 +18,28 @@ abbrev pub sent_status : Result (Unit {0}) SinkFault → ℕ → ℕ
 sent_status (Ok done) status = status
 sent_status (Err fault) status = 7
 
+-- a text was written, or in part, and the sink failed
+abbrev pub Writes : {T E : Type 0} → Sunk → Sunk → List ℕ → Result T E → Type 0
+Writes a b text sent = Sends a.written b.written a.faults b.faults text sent
+
 -- a text was written with its status, or the sink failed, a part of it was written, and the status is 7
-abbrev pub Puts : Option (List ℕ) → Option (List ℕ) → ℕ → ℕ → ℕ → ℕ → List ℕ → Type 0
-Puts old new before now status wanted text =
-    (sent : Result (Unit {0}) SinkFault) × Sends old new before now text sent × (status ≡ sent_status sent wanted)
+abbrev pub Puts : Sunk → Sunk → ℕ → ℕ → List ℕ → Type 0
+Puts a b status wanted text = (sent : Result (Unit {0}) SinkFault) × Writes a b text sent × (status ≡ sent_status sent wanted)
 
 -- the line that says that memory ran out, with its status
 abbrev pub memory_line : List ℕ
 memory_line = codes "error memory\n"
 
-abbrev pub RunsOut : Option (List ℕ) → Option (List ℕ) → ℕ → ℕ → ℕ → Type 0
-RunsOut old new before now status = Puts old new before now status 9 memory_line
+abbrev pub RunsOut : Sunk → Sunk → ℕ → Type 0
+RunsOut a b status = Puts a b status 9 memory_line
 
 -- The cases of every return: the text of the ending was written with its status, or the sink failed at it; where memory ran out,
 -- also for the line of a refusal, it was the line that says so.
-abbrev pub Ends : Option (List ℕ) → Option (List ℕ) → ℕ → ℕ → ℕ → Ending → Type 0
-Ends old new before now status (Said reply) = Puts old new before now status 0 reply.text
-Ends old new before now status (Heard bytes way reply) = Puts old new before now status (way_status way) reply.text
-Ends old new before now status (Refused refusal) =
-    Puts old new before now status (status_of refusal) (line_of refusal) ⊎ RunsOut old new before now status
-Ends old new before now status NoMemory = RunsOut old new before now status
+abbrev pub Ends : Sunk → Sunk → ℕ → Ending → Type 0
+Ends a b status (Said reply) = Puts a b status 0 reply.text
+Ends a b status (Heard bytes way reply) = Puts a b status (way_status way) reply.text
+Ends a b status (Refused refusal) = Puts a b status (status_of refusal) (line_of refusal) ⊎ RunsOut a b status
+Ends a b status NoMemory = RunsOut a b status
 
 -- ---- the steps
 
@@ -64,22 +66,26 @@ Counts _ status before after = after ≡ before
 -- ---- the source
 
 -- what was heard was taken, and nothing else
-abbrev pub Takes : Option (List ℕ) → Option (List ℕ) → ℕ → ℕ → ℕ → Ending → Type 0
-Takes old new before now status (Heard bytes way reply) = IsTaken old new before now status bytes way
-Takes old new before now status _ = (new ≡ old) × (now ≡ before)
+abbrev pub Takes : Drawn → Drawn → ℕ → Ending → Type 0
+Takes a b status (Heard bytes way reply) = IsTaken a.left b.left a.faults b.faults status bytes way
+Takes a b status _ = b ≡ a
 
 -- ---- the call
 
--- A call with this status: a walk of the dialogue of what is asked for ended so, and what it took, wrote and counted goes with that
--- ending. The files are as before.
-pub record ConversesFor (b : Board) (asked : Option Command) (before after : Outside) (status : ℕ) : Type 0 where
+-- A call with this status: a walk of the dialogue ended so, and what it took, wrote and counted goes with that ending. The files are
+-- as before.
+pub record ConversesIn (d : Dialogue) (before after : Outside) (status : ℕ) : Type 0 where
   pub ending : Ending
-  pub walked : Walks before.files (dialogue_from b asked) ending
+  pub walked : Walks before.files d ending
   pub failed : after.failed ≡ failed_names before.failed ending
   pub kept : after.files ≡ before.files
-  pub takes : Takes before.left after.left before.source_faults after.source_faults status ending
-  pub ends : Ends before.written after.written before.sink_faults after.sink_faults status ending
+  pub takes : Takes before.source after.source status ending
+  pub ends : Ends before.sink after.sink status ending
   pub counted : Counts ending status before.steps after.steps
+
+-- a call for what is asked
+abbrev pub ConversesFor : Board → Option Command → Outside → Outside → ℕ → Type 0
+ConversesFor b asked before after status = ConversesIn (dialogue_from b asked) before after status
 
 -- a call for words
 abbrev pub Converses : Board → List (List ℕ) → Outside → Outside → ℕ → Type 0

@@ -23,25 +23,37 @@ board device probes parts = record { device = device; probes = probes; parts = p
 abbrev pub asked_by : Board → List (List ℕ) → Option Command
 asked_by b words = reading (length b.probes) (counts_of b.parts) words
 
--- the files of the shelf by name, where it tells them, and the names whose loads failed; the bytes that the source has left and
--- those that the sink has written, where they tell them, and the count of faults of each; and the steps that were counted
+-- the bytes that a source has left, where it tells them, and its count of faults
+pub record Drawn : Type 0 where
+  pub left : Option (List ℕ)
+  pub faults : ℕ
+
+-- the bytes that a sink has written, where it tells them, and its count of faults
+pub record Sunk : Type 0 where
+  pub written : Option (List ℕ)
+  pub faults : ℕ
+
+-- the files of the shelf by name, where it tells them, and the names whose loads failed; the source, the sink, and the steps that
+-- were counted
 pub record Outside : Type 0 where
   pub files : Option Files
   pub failed : List (List ℕ)
-  pub left : Option (List ℕ)
-  pub source_faults : ℕ
-  pub written : Option (List ℕ)
-  pub sink_faults : ℕ
+  pub source : Drawn
+  pub sink : Sunk
   pub steps : ℕ
+
+abbrev pub drawn : {I : Type 0} → SourceMeaning I → I → Drawn
+drawn source input = record { left = source.left input; faults = source.faults input }
+
+abbrev pub sunk : {O : Type 0} → SinkMeaning O → O → Sunk
+sunk sink out = record { written = sink.written out; faults = sink.faults out }
 
 -- what a shelf, a source, a sink and a count of steps are now
 abbrev pub outside : {F I O : Type 0} → ShelfMeaning F → SourceMeaning I → SinkMeaning O → F → I → O → ℕ → Outside
 outside shelf source sink files input out steps = record {
   files = shelf.files files;
   failed = shelf.failed files;
-  left = source.left input;
-  source_faults = source.faults input;
-  written = sink.written out;
-  sink_faults = sink.faults out;
+  source = drawn source input;
+  sink = sunk sink out;
   steps = steps;
 }

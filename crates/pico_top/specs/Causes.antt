@@ -10,28 +10,28 @@ use Rattle.reverse_debug.specs.declared.way.Way.{Way}
 use Rattle.reverse_debug.specs.declared.way.Way.TheVariants.{Closed, Ended, Broken, Full}
 use Rattle.reverse_debug.specs.Hear.{IsTaken}
 use Rattle.pico_top.specs.Call.{Board, Outside}
-use Rattle.pico_top.specs.Dialogue.{Reply, dialogue_from}
-use Rattle.pico_top.specs.Answer.{ConversesFor, memory_line}
+use Rattle.pico_top.specs.Dialogue.{Dialogue, Reply, dialogue_from}
+use Rattle.pico_top.specs.Answer.{ConversesFor, ConversesIn, memory_line}
 use Rattle.pico_top.specs.Walk.{Verdict, Walks, verdict, status_over, failed_names}
 use Rattle.pico_top.specs.Walk.Verdict.{Refuses, Says, Hears}
 use Rattle.pico_top.specs.Walk.Ending.{Said, Heard, Refused}
 
 -- ---- causes
 
--- the walk of the call's dialogue ended in this refusal, which has this status: every input before was accepted; the name of a load
--- that failed joined the failed ones, and no other name did
-pub record IsRefused (b : Board) (asked : Option Command) (before after : Outside) (status : ℕ) : Type 0 where
+-- the walk of the dialogue ended in this refusal, which has this status: every input before was accepted; the name of a load that
+-- failed joined the failed ones, and no other name did
+pub record IsRefused (d : Dialogue) (before after : Outside) (status : ℕ) : Type 0 where
   pub refusal : Refusal
-  pub walked : Walks before.files (dialogue_from b asked) (Refused refusal)
+  pub walked : Walks before.files d (Refused refusal)
   pub failed : after.failed ≡ failed_names before.failed (Refused refusal)
   pub own : status ≡ status_of refusal
 
--- the walk of the call's dialogue ended after bytes were heard, which were taken from the source, in this way
-pub record HasHeard (b : Board) (asked : Option Command) (before after : Outside) (status : ℕ) (way : Way) : Type 0 where
+-- the walk of the dialogue ended after bytes were heard, which were taken from the source, in this way
+pub record HasHeard (d : Dialogue) (before after : Outside) (status : ℕ) (way : Way) : Type 0 where
   pub bytes : List ℕ
   pub reply : Reply
-  pub walked : Walks before.files (dialogue_from b asked) (Heard bytes way reply)
-  pub taken : IsTaken before.left after.left before.source_faults after.source_faults status bytes way
+  pub walked : Walks before.files d (Heard bytes way reply)
+  pub taken : IsTaken before.source.left after.source.left before.source.faults after.source.faults status bytes way
 
 -- a status that no text has, and neither a failed sink or source, want of memory, nor a full input
 pub record IsOfRefusal (status : ℕ) : Type 0 where
@@ -46,10 +46,10 @@ pub record IsOfRefusal (status : ℕ) : Type 0 where
 -- or the input at which the walk ended, as the refusal's own
 pub record HasCause (b : Board) (asked : Option Command) (before after : Outside) (status : ℕ) : Type 0 where
   pub words : status ≡ 2 → asked ≡ None
-  pub refused : IsOfRefusal status → IsRefused b asked before after status
-  pub sink : status ≡ 7 → Rose before.sink_faults after.sink_faults
-  pub source : status ≡ 8 → HasHeard b asked before after status Broken
-  pub full : status ≡ 10 → HasHeard b asked before after status Full
+  pub refused : IsOfRefusal status → IsRefused (dialogue_from b asked) before after status
+  pub sink : status ≡ 7 → Rose before.sink.faults after.sink.faults
+  pub source : status ≡ 8 → HasHeard (dialogue_from b asked) before after status Broken
+  pub full : status ≡ 10 → HasHeard (dialogue_from b asked) before after status Full
 
 -- ---- completeness
 
@@ -63,7 +63,7 @@ abbrev pub Fulfils : Outside → Outside → ℕ → Verdict → Type 0
 Fulfils before after status (Refuses refusal) = IsStatus status (status_of refusal)
 Fulfils before after status Says = IsStatus status 0
 Fulfils before after status (Hears limit last) =
-    IfSome before.left (λ bytes. (Rose before.source_faults after.source_faults → ⊥) → IsStatus status (status_over limit last bytes))
+    IfSome before.source.left (λ bytes. (Rose before.source.faults after.source.faults → ⊥) → IsStatus status (status_over limit last bytes))
 
 -- where the words are refused, the status is 2; where the shelf tells its files and no load failed, it is that of the dialogue over
 -- these files
@@ -75,31 +75,31 @@ pub record IsComplete (b : Board) (asked : Option Command) (before after : Outsi
 
 -- the line that says that memory ran out was written alone, with its status
 abbrev pub HasRunOut : Outside → Outside → ℕ → Type 0
-HasRunOut before after status = (status ≡ 9) × Appends before.written after.written memory_line
+HasRunOut before after status = (status ≡ 9) × Appends before.sink.written after.sink.written memory_line
 
 -- the whole text was written, with status 0
-pub record HasSaid (b : Board) (asked : Option Command) (before after : Outside) (status : ℕ) : Type 0 where
+pub record HasSaid (d : Dialogue) (before after : Outside) (status : ℕ) : Type 0 where
   pub reply : Reply
-  pub walked : Walks before.files (dialogue_from b asked) (Said reply)
+  pub walked : Walks before.files d (Said reply)
   pub zero : status ≡ 0
-  pub written : Appends before.written after.written reply.text
+  pub written : Appends before.sink.written after.sink.written reply.text
 
 -- the answers to all that was heard were written, with status 0: up to a last line, or to the end of the input
-pub record HasAnswered (b : Board) (asked : Option Command) (before after : Outside) (status : ℕ) : Type 0 where
+pub record HasAnswered (d : Dialogue) (before after : Outside) (status : ℕ) : Type 0 where
   pub bytes : List ℕ
   pub way : Way
   pub reply : Reply
-  pub walked : Walks before.files (dialogue_from b asked) (Heard bytes way reply)
+  pub walked : Walks before.files d (Heard bytes way reply)
   pub whole : (way ≡ Closed) ⊎ (way ≡ Ended)
-  pub taken : Consumes before.left after.left bytes
+  pub taken : Consumes before.source.left after.source.left bytes
   pub zero : status ≡ 0
-  pub written : Appends before.written after.written reply.text
+  pub written : Appends before.sink.written after.sink.written reply.text
 
 -- the shelf tells its files, no load failed, and the sink's count did not rise
 pub record DoesNotFail (files : Files) (before after : Outside) : Type 0 where
   pub told : before.files ≡ Some files
   pub loaded : after.failed ≡ before.failed
-  pub put : Rose before.sink_faults after.sink_faults → ⊥
+  pub put : Rose before.sink.faults after.sink.faults → ⊥
 
 -- ---- the laws, of every call
 
@@ -118,21 +118,20 @@ Completes =
 -- words and files that are accepted are answered with the whole text, where the outside does not fail, or memory runs out
 abbrev pub SaysAll : Type 0
 SaysAll =
-    (b : Board) (asked : Option Command) (before after : Outside) (status : ℕ) (files : Files)
-    → ConversesFor b asked before after status
+    (d : Dialogue) (before after : Outside) (status : ℕ) (files : Files)
+    → ConversesIn d before after status
     → DoesNotFail files before after
-    → verdict files (dialogue_from b asked) ≡ Says
-    → HasSaid b asked before after status ⊎ HasRunOut before after status
+    → verdict files d ≡ Says
+    → HasSaid d before after status ⊎ HasRunOut before after status
 
 -- lines that are heard to their end are all answered, where the outside does not fail, or memory runs out
 abbrev pub AnswersAll : Type 0
 AnswersAll =
-    (b : Board) (asked : Option Command) (before after : Outside) (status : ℕ) (files : Files)
-    (limit : ℕ) (last : List ℕ → Bool) (bytes : List ℕ)
-    → ConversesFor b asked before after status
+    (d : Dialogue) (before after : Outside) (status : ℕ) (files : Files) (limit : ℕ) (last : List ℕ → Bool) (bytes : List ℕ)
+    → ConversesIn d before after status
     → DoesNotFail files before after
-    → verdict files (dialogue_from b asked) ≡ Hears limit last
-    → before.left ≡ Some bytes
-    → (Rose before.source_faults after.source_faults → ⊥)
+    → verdict files d ≡ Hears limit last
+    → before.source.left ≡ Some bytes
+    → (Rose before.source.faults after.source.faults → ⊥)
     → status_over limit last bytes ≡ 0
-    → HasAnswered b asked before after status ⊎ HasRunOut before after status
+    → HasAnswered d before after status ⊎ HasRunOut before after status

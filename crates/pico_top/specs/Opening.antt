@@ -7,6 +7,7 @@ use Rattle.command_words.specs.Words.{Command}
 use Rattle.command_words.specs.Refusals.{Refusal, line_of, status_of}
 use Rattle.command_words.specs.Meant.{meant}
 use Rattle.command_words.specs.Refusals.Refusal.{BadSource}
+use Rattle.pico_top.specs.Call.{Drawn, Sunk}
 use Rattle.pico_top.specs.Answer.{Puts, RunsOut, Takes, Ends, Counts}
 use Rattle.lane_look.specs.Device.{DeviceMeaning}
 use Rattle.board_parts.specs.Hearing.{Aim}
@@ -159,22 +160,16 @@ LoadsAll files failed failed' entries (Err unopened) =
     (next : List Placed → Dialogue) → EndsUnopened files failed failed' (with_programs entries [] next) unopened
 
 -- the line of a refusal was put, or memory ran out
-abbrev pub PutsRefusal : Option (List ℕ) → Option (List ℕ) → ℕ → ℕ → ℕ → Unopened → Type 0
-PutsRefusal old new before now status (Refusing refusal) =
-    Puts old new before now status (status_of (meant refusal)) (line_of (meant refusal)) ⊎ RunsOut old new before now status
-PutsRefusal old new before now status Memory = RunsOut old new before now status
+abbrev pub PutsRefusal : Sunk → Sunk → ℕ → Unopened → Type 0
+PutsRefusal a b status (Refusing refusal) = Puts a b status (status_of (meant refusal)) (line_of (meant refusal)) ⊎ RunsOut a b status
+PutsRefusal a b status Memory = RunsOut a b status
 
--- no input is refused
-abbrev pub RefusesNothing : Ending → Type 0
-RefusesNothing (Refused refusal) = ⊥
-RefusesNothing _ = Unit {0}
-
--- what is left of a dialogue was told, or memory ran out before: a walk of it ended so, whatever the files, and what was taken,
--- written and counted goes with that ending
-pub record Concludes (d : Dialogue) (left left' : Option (List ℕ)) (lost lost' : ℕ) (old new : Option (List ℕ)) (before now : ℕ) (steps steps' : ℕ) (status : ℕ) : Type 0 where
+-- what is left of a dialogue was told, or memory ran out before: a walk of it ended so, whatever the files, no load failed, and what
+-- was taken, written and counted goes with that ending
+pub record Concludes (d : Dialogue) (source source' : Drawn) (a b : Sunk) (steps steps' status : ℕ) : Type 0 where
   pub ending : Ending
   pub walked : (files : Option Files) → Walks files d ending
-  pub accepted : RefusesNothing ending
-  pub takes : Takes left left' lost lost' status ending
-  pub ends : Ends old new before now status ending
+  pub loaded : (failed : List (List ℕ)) → failed_names failed ending ≡ failed
+  pub takes : Takes source source' status ending
+  pub ends : Ends a b status ending
   pub counted : Counts ending status steps steps'

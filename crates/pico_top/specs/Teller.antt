@@ -62,7 +62,7 @@ pub after_change : (cycle pin : ℕ) (level : Bool) (aims : List Aim) → after_
 unfolding after_events
 after_change cycle pin level aims = refl
 
-appends_none : (a : Option (List ℕ)) → Appends a a []
+pub appends_none : (a : Option (List ℕ)) → Appends a a []
 appends_none None = refl
 appends_none (Some w) = ap Some (sym (append-nil w))
 

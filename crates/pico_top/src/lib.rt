@@ -15,10 +15,10 @@ ghost use Rattle.std.specs.String.{string_bytes};
 ghost use Rattle.board_parts.specs.Wiring.{all_fit, all_words, counts_of, wired_in};
 ghost use Rattle.command_words.specs.Words.{parts_in, workers_of, IsRead};
 ghost use Rattle.command_words.specs.Read.{command_in};
-ghost use Rattle.pico_top.specs.Answer.{Converses, ConversesFor};
-ghost use Rattle.pico_top.specs.Call.{asked_by, board, outside, Board};
+ghost use Rattle.pico_top.specs.Answer.{Converses, ConversesFor, ConversesIn};
+ghost use Rattle.pico_top.specs.Call.{asked_by, board, outside};
 ghost use Rattle.pico_top.specs.Causes.{HasCause, IsComplete};
-ghost use Rattle.pico_top.specs.Dialogue.{device_in, targets_in};
+ghost use Rattle.pico_top.specs.Dialogue.{aims_in, dialogue_of, targets_in};
 
 use board_parts::aiming::aim_all;
 use board_parts::attaching::attach_all;
@@ -96,12 +96,10 @@ fn serve_with<F: Shelf, I: Source, O: Sink, X: Device, L: Ledger>(
     device: &X,
     steps: &mut Steps<L>,
 ) -> u8
-    ensures { (b : Board) → X.meaning device.now ≡ device_in b (command_in reading.now)
-        → map (λ p. (Probe-box p).meaning p.value) probes.items ≡ b.probes
-        → ConversesFor b (Some (command_in reading.now))
+    ensures { ConversesIn (dialogue_of (X.meaning device.now)
+        (aims_in (map (λ p. (Probe-box p).meaning p.value) probes.items) (command_in reading.now)) (command_in reading.now))
         (outside ⟦<F as Shelf>⟧ ⟦<I as Source>⟧ ⟦<O as Sink>⟧ files.old input.old out.old steps.old)
-        (outside ⟦<F as Shelf>⟧ ⟦<I as Source>⟧ ⟦<O as Sink>⟧ files.new input.new out.new steps.new)
-        result }
+        (outside ⟦<F as Shelf>⟧ ⟦<I as Source>⟧ ⟦<O as Sink>⟧ files.new input.new out.new steps.new) result }
 {
     let Ok(mut aimed) = aim_all(alloc, probes, targets(reading)) else {
         return refuse(alloc, &Unopened::Memory, out);
@@ -136,12 +134,10 @@ where
     X: Device,
     L: Ledger,
     R: Threads + Wait + Sync,
-    ensures { (b : Board) → X.meaning device.now ≡ device_in b (command_in reading.now)
-        → map (λ p. (Probe-box p).meaning p.value) probes.items ≡ b.probes
-        → ConversesFor b (Some (command_in reading.now))
+    ensures { ConversesIn (dialogue_of (X.meaning device.now)
+        (aims_in (map (λ p. (Probe-box p).meaning p.value) probes.items) (command_in reading.now)) (command_in reading.now))
         (outside ⟦<F as Shelf>⟧ ⟦<I as Source>⟧ ⟦<O as Sink>⟧ files.old input.old out.old steps.old)
-        (outside ⟦<F as Shelf>⟧ ⟦<I as Source>⟧ ⟦<O as Sink>⟧ files.new input.new out.new steps.new)
-        result }
+        (outside ⟦<F as Shelf>⟧ ⟦<I as Source>⟧ ⟦<O as Sink>⟧ files.new input.new out.new steps.new) result }
 {
     let Ok(mut aimed) = aim_all(alloc, probes, targets(reading)) else {
         return refuse(alloc, &Unopened::Memory, out);
@@ -173,13 +169,10 @@ fn serve<F: Shelf, I: Source, O: Sink, P: Part + Sync, X: Device, L: Ledger>(
     requires fit { all_fit (counts_of (map P.meaning parts.items))
         (parts_in (command_in reading.now)) ≡ true }
     requires room { all_words (map P.meaning parts.items) + (X.meaning device).count ≤ 128 }
-    ensures { ConversesFor (board (X.meaning device)
-        (map (λ p. (Probe-box p).meaning p.value) probes.items)
-        (map P.meaning parts.items))
-        (Some (command_in reading.now))
+    ensures { ConversesFor (board (X.meaning device) (map (λ p. (Probe-box p).meaning p.value) probes.items)
+        (map P.meaning parts.items)) (Some (command_in reading.now))
         (outside ⟦<F as Shelf>⟧ ⟦<I as Source>⟧ ⟦<O as Sink>⟧ files.old input.old out.old steps.old)
-        (outside ⟦<F as Shelf>⟧ ⟦<I as Source>⟧ ⟦<O as Sink>⟧ files.new input.new out.new steps.new)
-        result }
+        (outside ⟦<F as Shelf>⟧ ⟦<I as Source>⟧ ⟦<O as Sink>⟧ files.new input.new out.new steps.new) result }
 {
     match wirings(reading) {
         [] => serve_with(alloc, reading, files, input, out, probes, &device, steps),
@@ -221,13 +214,10 @@ where
     requires fit { all_fit (counts_of (map P.meaning parts.items))
         (parts_in (command_in reading.now)) ≡ true }
     requires room { all_words (map P.meaning parts.items) + (X.meaning device).count ≤ 128 }
-    ensures { ConversesFor (board (X.meaning device)
-        (map (λ p. (Probe-box p).meaning p.value) probes.items)
-        (map P.meaning parts.items))
-        (Some (command_in reading.now))
+    ensures { ConversesFor (board (X.meaning device) (map (λ p. (Probe-box p).meaning p.value) probes.items)
+        (map P.meaning parts.items)) (Some (command_in reading.now))
         (outside ⟦<F as Shelf>⟧ ⟦<I as Source>⟧ ⟦<O as Sink>⟧ files.old input.old out.old steps.old)
-        (outside ⟦<F as Shelf>⟧ ⟦<I as Source>⟧ ⟦<O as Sink>⟧ files.new input.new out.new steps.new)
-        result }
+        (outside ⟦<F as Shelf>⟧ ⟦<I as Source>⟧ ⟦<O as Sink>⟧ files.new input.new out.new steps.new) result }
 {
     match wirings(reading) {
         [] => serve_with_by(
@@ -270,27 +260,18 @@ pub fn pico_alone<F: Shelf, I: Source, O: Sink, X: Device, L: Ledger>(
         (command_in reading.now) }
     requires room { all_words (map (λ p. (Part-box p).meaning p.value) parts.items)
         + (X.meaning device).count ≤ 128 }
-    ensures text { ConversesFor (board (X.meaning device)
-        (map (λ p. (Probe-box p).meaning p.value) probes.items)
-        (map (λ p. (Part-box p).meaning p.value) parts.items))
-        (Some (command_in reading.now))
+    ensures text { ConversesFor (board (X.meaning device) (map (λ p. (Probe-box p).meaning p.value) probes.items)
+        (map (λ p. (Part-box p).meaning p.value) parts.items)) (Some (command_in reading.now))
         (outside ⟦<F as Shelf>⟧ ⟦<I as Source>⟧ ⟦<O as Sink>⟧ files.old input.old out.old steps.old)
-        (outside ⟦<F as Shelf>⟧ ⟦<I as Source>⟧ ⟦<O as Sink>⟧ files.new input.new out.new steps.new)
-        result }
-    ensures cause { HasCause (board (X.meaning device)
-        (map (λ p. (Probe-box p).meaning p.value) probes.items)
-        (map (λ p. (Part-box p).meaning p.value) parts.items))
-        (Some (command_in reading.now))
+        (outside ⟦<F as Shelf>⟧ ⟦<I as Source>⟧ ⟦<O as Sink>⟧ files.new input.new out.new steps.new) result }
+    ensures cause { HasCause (board (X.meaning device) (map (λ p. (Probe-box p).meaning p.value) probes.items)
+        (map (λ p. (Part-box p).meaning p.value) parts.items)) (Some (command_in reading.now))
         (outside ⟦<F as Shelf>⟧ ⟦<I as Source>⟧ ⟦<O as Sink>⟧ files.old input.old out.old steps.old)
-        (outside ⟦<F as Shelf>⟧ ⟦<I as Source>⟧ ⟦<O as Sink>⟧ files.new input.new out.new steps.new)
-        result }
-    ensures complete { IsComplete (board (X.meaning device)
-        (map (λ p. (Probe-box p).meaning p.value) probes.items)
-        (map (λ p. (Part-box p).meaning p.value) parts.items))
-        (Some (command_in reading.now))
+        (outside ⟦<F as Shelf>⟧ ⟦<I as Source>⟧ ⟦<O as Sink>⟧ files.new input.new out.new steps.new) result }
+    ensures complete { IsComplete (board (X.meaning device) (map (λ p. (Probe-box p).meaning p.value) probes.items)
+        (map (λ p. (Part-box p).meaning p.value) parts.items)) (Some (command_in reading.now))
         (outside ⟦<F as Shelf>⟧ ⟦<I as Source>⟧ ⟦<O as Sink>⟧ files.old input.old out.old steps.old)
-        (outside ⟦<F as Shelf>⟧ ⟦<I as Source>⟧ ⟦<O as Sink>⟧ files.new input.new out.new steps.new)
-        result }
+        (outside ⟦<F as Shelf>⟧ ⟦<I as Source>⟧ ⟦<O as Sink>⟧ files.new input.new out.new steps.new) result }
 {
     serve(
         alloc, reading, files, input, out, probes, parts, device, steps,
@@ -321,13 +302,10 @@ where
     L: Ledger,
     R: Threads + Wait + Sync,
     requires room { all_words (map P.meaning parts.items) + (X.meaning device).count ≤ 128 }
-    ensures { Converses (board (X.meaning device)
-        (map (λ p. (Probe-box p).meaning p.value) probes.items)
-        (map P.meaning parts.items))
-        (map string_bytes words.now)
+    ensures { Converses (board (X.meaning device) (map (λ p. (Probe-box p).meaning p.value) probes.items)
+        (map P.meaning parts.items)) (map string_bytes words.now)
         (outside ⟦<F as Shelf>⟧ ⟦<I as Source>⟧ ⟦<O as Sink>⟧ files.old input.old out.old steps.old)
-        (outside ⟦<F as Shelf>⟧ ⟦<I as Source>⟧ ⟦<O as Sink>⟧ files.new input.new out.new steps.new)
-        result }
+        (outside ⟦<F as Shelf>⟧ ⟦<I as Source>⟧ ⟦<O as Sink>⟧ files.new input.new out.new steps.new) result }
 {
     let Ok(pins) = pins_of(alloc, &parts) else {
         return refuse(alloc, &Unopened::Memory, out);
@@ -394,33 +372,24 @@ where
     // A walk of the words' dialogue over the shelf ended, and its text was written whole with its status; or a part of it,
     // and the sink failed; or memory ran out, and the line that says so was written alone. The bytes that were heard were
     // taken from the source. So many steps were counted as that text costs.
-    ensures text { Converses (board (X.meaning device)
-        (map (λ p. (Probe-box p).meaning p.value) probes.items)
-        (map (λ p. (Part-box p).meaning p.value) parts.items))
-        (map string_bytes words.now)
+    ensures text { Converses (board (X.meaning device) (map (λ p. (Probe-box p).meaning p.value) probes.items)
+        (map (λ p. (Part-box p).meaning p.value) parts.items)) (map string_bytes words.now)
         (outside ⟦<F as Shelf>⟧ ⟦<I as Source>⟧ ⟦<O as Sink>⟧ files.old input.old out.old steps.old)
-        (outside ⟦<F as Shelf>⟧ ⟦<I as Source>⟧ ⟦<O as Sink>⟧ files.new input.new out.new steps.new)
-        result }
+        (outside ⟦<F as Shelf>⟧ ⟦<I as Source>⟧ ⟦<O as Sink>⟧ files.new input.new out.new steps.new) result }
 
     // Each status but 0 and 9 has its cause: the words, the file or the input that was refused, the sink or the source that failed,
     // or the input that is too long.
-    ensures cause { let b = board (X.meaning device)
-        (map (λ p. (Probe-box p).meaning p.value) probes.items)
-        (map (λ p. (Part-box p).meaning p.value) parts.items)
-        in HasCause b (asked_by b (map string_bytes words.now))
+    ensures cause { let b = board (X.meaning device) (map (λ p. (Probe-box p).meaning p.value) probes.items)
+        (map (λ p. (Part-box p).meaning p.value) parts.items) in HasCause b (asked_by b (map string_bytes words.now))
         (outside ⟦<F as Shelf>⟧ ⟦<I as Source>⟧ ⟦<O as Sink>⟧ files.old input.old out.old steps.old)
-        (outside ⟦<F as Shelf>⟧ ⟦<I as Source>⟧ ⟦<O as Sink>⟧ files.new input.new out.new steps.new)
-        result }
+        (outside ⟦<F as Shelf>⟧ ⟦<I as Source>⟧ ⟦<O as Sink>⟧ files.new input.new out.new steps.new) result }
 
     // Refused words have status 2. Where the shelf tells its files and no load failed, the status is that of the dialogue over these
     // files, and where it hears an input, over the bytes of the source, unless the sink failed or memory ran out.
-    ensures complete { let b = board (X.meaning device)
-        (map (λ p. (Probe-box p).meaning p.value) probes.items)
-        (map (λ p. (Part-box p).meaning p.value) parts.items)
-        in IsComplete b (asked_by b (map string_bytes words.now))
+    ensures complete { let b = board (X.meaning device) (map (λ p. (Probe-box p).meaning p.value) probes.items)
+        (map (λ p. (Part-box p).meaning p.value) parts.items) in IsComplete b (asked_by b (map string_bytes words.now))
         (outside ⟦<F as Shelf>⟧ ⟦<I as Source>⟧ ⟦<O as Sink>⟧ files.old input.old out.old steps.old)
-        (outside ⟦<F as Shelf>⟧ ⟦<I as Source>⟧ ⟦<O as Sink>⟧ files.new input.new out.new steps.new)
-        result }
+        (outside ⟦<F as Shelf>⟧ ⟦<I as Source>⟧ ⟦<O as Sink>⟧ files.new input.new out.new steps.new) result }
 {
     converse(
         rt, alloc, words, files, input, out, gate, probes, parts, device, steps,

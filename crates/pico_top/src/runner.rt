@@ -8,6 +8,7 @@ ghost use Rattle.window_runner.specs.Told.{run_shown};
 ghost use Rattle.window_runner.specs.Alone.{IsOnRun};
 ghost use Rattle.window_runner.specs.Windows.{answered, OnMemory};
 ghost use Rattle.board_parts.specs.Hearing.{aim_of, seen};
+ghost use Rattle.pico_top.specs.Call.{sunk};
 ghost use Rattle.pico_top.specs.Running.{IsRanFor, RunsTo};
 
 use crate::teller::Teller;
@@ -23,7 +24,6 @@ use std::sync::Wait;
 use std::sync::ledger::Ledger;
 use std::thread::Threads;
 use trace_text::tape::Tape;
-use trace_text::writer::Writer;
 use window_merge::Crew;
 use window_runner::alone::{Ran, run_alone};
 use window_runner::cycles::run_cycles;
@@ -97,12 +97,11 @@ fn run_told<X: Device, O: Sink, L: Ledger>(
     steps: &mut Steps<L>,
 ) -> Result<Ran, RunFault>
     requires number { machine.old.cycle ≤ world.now.limit }
-    ensures told { RunsTo stats (setting X.meaning world.now) machine.old machine.new (seen
-        teller.old.probes.now (λ a. aim_of a.index a.pin (⟦<dyn Probe as Probe>⟧ a.probe.vtable)
-        a.probe.value)) (seen teller.new.probes.now (λ a. aim_of a.index a.pin (⟦<dyn Probe as Probe>⟧ a.probe.vtable) a.probe.value)) (O.written teller.old.writer.out.now) (O.written
-        teller.new.writer.out.now) (O.faults teller.old.writer.out.now) (O.faults
-        teller.new.writer.out.now) steps.old steps.new result }
-    ensures same_sink { teller.new.writer.out.ghost_name ≡ teller.old.writer.out.ghost_name }
+    ensures told { RunsTo stats (setting X.meaning world.now) machine.old machine.new
+        (seen teller.old.probes.now (λ a. aim_of a.index a.pin (⟦<dyn Probe as Probe>⟧ a.probe.vtable) a.probe.value))
+        (seen teller.new.probes.now (λ a. aim_of a.index a.pin (⟦<dyn Probe as Probe>⟧ a.probe.vtable) a.probe.value))
+        (sunk ⟦<O as Sink>⟧ teller.old.out.now) (sunk ⟦<O as Sink>⟧ teller.new.out.now) steps.old steps.new result }
+    ensures same_sink { teller.new.out.ghost_name ≡ teller.old.out.ghost_name }
     ensures same_probes { teller.new.probes.ghost_name ≡ teller.old.probes.ghost_name }
 {
     run_by_one(stats, alloc, machine, world, teller, steps)
@@ -119,12 +118,11 @@ fn run_told_by<X: Device, O: Sink, G: Gate, L: Ledger, R: Threads + Wait + Sync>
     steps: &mut Steps<L>,
 ) -> Result<Ran, RunFault>
     requires number { machine.old.cycle ≤ world.now.limit }
-    ensures told { RunsTo stats (setting X.meaning world.now) machine.old machine.new (seen
-        teller.old.probes.now (λ a. aim_of a.index a.pin (⟦<dyn Probe as Probe>⟧ a.probe.vtable)
-        a.probe.value)) (seen teller.new.probes.now (λ a. aim_of a.index a.pin (⟦<dyn Probe as Probe>⟧ a.probe.vtable) a.probe.value)) (O.written teller.old.writer.out.now) (O.written
-        teller.new.writer.out.now) (O.faults teller.old.writer.out.now) (O.faults
-        teller.new.writer.out.now) steps.old steps.new result }
-    ensures same_sink { teller.new.writer.out.ghost_name ≡ teller.old.writer.out.ghost_name }
+    ensures told { RunsTo stats (setting X.meaning world.now) machine.old machine.new
+        (seen teller.old.probes.now (λ a. aim_of a.index a.pin (⟦<dyn Probe as Probe>⟧ a.probe.vtable) a.probe.value))
+        (seen teller.new.probes.now (λ a. aim_of a.index a.pin (⟦<dyn Probe as Probe>⟧ a.probe.vtable) a.probe.value))
+        (sunk ⟦<O as Sink>⟧ teller.old.out.now) (sunk ⟦<O as Sink>⟧ teller.new.out.now) steps.old steps.new result }
+    ensures same_sink { teller.new.out.ghost_name ≡ teller.old.out.ghost_name }
     ensures same_probes { teller.new.probes.ghost_name ≡ teller.old.probes.ghost_name }
 {
     let count = usize::from(workers.count);
@@ -152,14 +150,13 @@ pub fn run_to_stop<X: Device, O: Sink, L: Ledger>(
     steps: &mut Steps<L>,
 ) -> Result<Ran, RunFault>
     requires number { machine.old.cycle ≤ world.now.limit }
-    ensures { RunsTo stats (setting X.meaning world.now) machine.old machine.new (seen probes.old (λ
-        a. aim_of a.index a.pin (⟦<dyn Probe as Probe>⟧ a.probe.vtable) a.probe.value)) (seen
-        probes.new (λ a. aim_of a.index a.pin (⟦<dyn Probe as Probe>⟧ a.probe.vtable)
-        a.probe.value)) (O.written out.old) (O.written out.new) (O.faults out.old) (O.faults
-        out.new) steps.old steps.new result }
+    ensures { RunsTo stats (setting X.meaning world.now) machine.old machine.new
+        (seen probes.old (λ a. aim_of a.index a.pin (⟦<dyn Probe as Probe>⟧ a.probe.vtable) a.probe.value))
+        (seen probes.new (λ a. aim_of a.index a.pin (⟦<dyn Probe as Probe>⟧ a.probe.vtable) a.probe.value))
+        (sunk ⟦<O as Sink>⟧ out.old) (sunk ⟦<O as Sink>⟧ out.new) steps.old steps.new result }
 {
     let mut teller = Teller {
-        writer: Writer { out },
+        out,
         probes,
         boxed: PhantomData,
     };
@@ -178,14 +175,13 @@ pub fn run_to_stop_by<X: Device, O: Sink, G: Gate, L: Ledger, R: Threads + Wait 
     steps: &mut Steps<L>,
 ) -> Result<Ran, RunFault>
     requires number { machine.old.cycle ≤ world.now.limit }
-    ensures { RunsTo stats (setting X.meaning world.now) machine.old machine.new (seen probes.old (λ
-        a. aim_of a.index a.pin (⟦<dyn Probe as Probe>⟧ a.probe.vtable) a.probe.value)) (seen
-        probes.new (λ a. aim_of a.index a.pin (⟦<dyn Probe as Probe>⟧ a.probe.vtable)
-        a.probe.value)) (O.written out.old) (O.written out.new) (O.faults out.old) (O.faults
-        out.new) steps.old steps.new result }
+    ensures { RunsTo stats (setting X.meaning world.now) machine.old machine.new
+        (seen probes.old (λ a. aim_of a.index a.pin (⟦<dyn Probe as Probe>⟧ a.probe.vtable) a.probe.value))
+        (seen probes.new (λ a. aim_of a.index a.pin (⟦<dyn Probe as Probe>⟧ a.probe.vtable) a.probe.value))
+        (sunk ⟦<O as Sink>⟧ out.old) (sunk ⟦<O as Sink>⟧ out.new) steps.old steps.new result }
 {
     let mut teller = Teller {
-        writer: Writer { out },
+        out,
         probes,
         boxed: PhantomData,
     };

@@ -3,8 +3,9 @@
 ghost use Rattle.std.specs.Prelude.{◌≡◌, ◌<◌, ◌≤◌, length, ◌++◌, true, Some};
 ghost use Rattle.arrayvec.specs.ArrayVec.{array_vec_len};
 ghost use Rattle.trace_text.specs.Line.{stop_text, register_text};
-ghost use Rattle.trace_text.specs.Sent.{Sends};
 ghost use Rattle.board_parts.specs.Hearing.{aim_of, aim_text, seen};
+ghost use Rattle.pico_top.specs.Call.{sunk};
+ghost use Rattle.pico_top.specs.Answer.{Writes};
 ghost use Rattle.pico_top.specs.RunText.{counts_text, end_text, probe_lines};
 
 use crate::open::Pieces;
@@ -21,59 +22,54 @@ use window_runner::alone::Ran;
 /// A block of a UF2 file has so many bytes.
 const BLOCK: usize = 512;
 
+/// Puts a line.
+pub fn put_line<O: Sink>(line: &[u8], out: &mut O) -> Result<(), SinkFault>
+    ensures { Writes (sunk ⟦<O as Sink>⟧ out.old) (sunk ⟦<O as Sink>⟧ out.new) line.now result }
+{
+    let mut writer = Writer { out };
+    writer.line(line)
+}
+
 /// Puts the line of a stop.
-fn send_stop<O: Sink>(why: &Why, cycle: u64, writer: &mut Writer<'_, O>) -> Result<(), SinkFault>
-    ensures sends { Sends (O.written writer.old.out.now) (O.written writer.new.out.now)
-        (O.faults writer.old.out.now) (O.faults writer.new.out.now)
-        (stop_text why.now cycle) result }
-    ensures same_sink { writer.new.out.ghost_name ≡ writer.old.out.ghost_name }
+fn send_stop<O: Sink>(why: &Why, cycle: u64, out: &mut O) -> Result<(), SinkFault>
+    ensures { Writes (sunk ⟦<O as Sink>⟧ out.old) (sunk ⟦<O as Sink>⟧ out.new) (stop_text why.now cycle) result }
 {
     let mut line = ArrayVec::<u8, 192>::new();
     stop_line(why, cycle, &mut line);
-    writer.line(&line)
+    put_line(&line, out)
 }
 
 /// Puts the line of a core's registers.
-fn send_registers<O: Sink>(
-    core: u8,
-    words: Option<[u32; 17]>,
-    writer: &mut Writer<'_, O>,
-) -> Result<(), SinkFault>
-    ensures sends { Sends (O.written writer.old.out.now) (O.written writer.new.out.now)
-        (O.faults writer.old.out.now) (O.faults writer.new.out.now)
-        (register_text core words) result }
-    ensures same_sink { writer.new.out.ghost_name ≡ writer.old.out.ghost_name }
+fn send_registers<O: Sink>(core: u8, words: Option<[u32; 17]>, out: &mut O) -> Result<(), SinkFault>
+    ensures { Writes (sunk ⟦<O as Sink>⟧ out.old) (sunk ⟦<O as Sink>⟧ out.new) (register_text core words) result }
 {
     let mut line = ArrayVec::<u8, 192>::new();
     register_line(core, words, &mut line);
-    writer.line(&line)
+    put_line(&line, out)
 }
 
 /// Puts the line of a probe.
-fn send_probe<O: Sink>(probe: &Aimed, writer: &mut Writer<'_, O>) -> Result<(), SinkFault>
-    ensures sends { Sends (O.written writer.old.out.now) (O.written writer.new.out.now)
-        (O.faults writer.old.out.now) (O.faults writer.new.out.now)
-        (aim_text (aim_of probe.now.index probe.now.pin
-        (⟦<dyn Probe as Probe>⟧ probe.now.probe.vtable) probe.now.probe.value)) result }
-    ensures same_sink { writer.new.out.ghost_name ≡ writer.old.out.ghost_name }
+fn send_probe<O: Sink>(probe: &Aimed, out: &mut O) -> Result<(), SinkFault>
+    ensures { Writes (sunk ⟦<O as Sink>⟧ out.old) (sunk ⟦<O as Sink>⟧ out.new) (aim_text
+        (aim_of probe.now.index probe.now.pin (⟦<dyn Probe as Probe>⟧ probe.now.probe.vtable) probe.now.probe.value)) result }
 {
     let mut line = ArrayVec::<u8, 192>::new();
     probe.line(&mut line);
-    writer.line(&line)
+    put_line(&line, out)
 }
 
 /// Puts the lines of probes, in their order.
-fn send_probes<O: Sink>(probes: &[Aimed], writer: &mut Writer<'_, O>) -> Result<(), SinkFault>
-    ensures sends { Sends (O.written writer.old.out.now) (O.written writer.new.out.now)
-        (O.faults writer.old.out.now) (O.faults writer.new.out.now)
-        (probe_lines (seen probes.now (λ a. aim_of a.index a.pin
-        (⟦<dyn Probe as Probe>⟧ a.probe.vtable) a.probe.value))) result }
-    ensures same_sink { writer.new.out.ghost_name ≡ writer.old.out.ghost_name }
+fn send_probes<O: Sink>(probes: &[Aimed], out: &mut O) -> Result<(), SinkFault>
+    ensures { Writes (sunk ⟦<O as Sink>⟧ out.old) (sunk ⟦<O as Sink>⟧ out.new)
+        (probe_lines (seen probes.now (λ a. aim_of a.index a.pin (⟦<dyn Probe as Probe>⟧ a.probe.vtable) a.probe.value))) result }
 {
-    for probe in probes {
-        send_probe(probe, writer)?;
+    match probes {
+        [] => Ok(()),
+        [probe, rest @ ..] => {
+            send_probe(probe, out)?;
+            send_probes(rest, out)
+        }
     }
-    Ok(())
 }
 
 /// Leaves the line of the counts in `out`.
@@ -91,17 +87,15 @@ fn counts_line(windows: u64, cycles: u64, out: &mut ArrayVec<u8, 192>)
 
 /// Puts the line of the counts, where it is asked for.
 #[tactic(auto, unfolding(crate::specs::RunText::counts_text))]
-fn send_counts<O: Sink>(stats: bool, ran: &Ran, writer: &mut Writer<'_, O>) -> Result<(), SinkFault>
-    ensures sends { Sends (O.written writer.old.out.now) (O.written writer.new.out.now)
-        (O.faults writer.old.out.now) (O.faults writer.new.out.now)
+fn send_counts<O: Sink>(stats: bool, ran: &Ran, out: &mut O) -> Result<(), SinkFault>
+    ensures { Writes (sunk ⟦<O as Sink>⟧ out.old) (sunk ⟦<O as Sink>⟧ out.new)
         (counts_text stats ran.now.windows ran.now.cycles) result }
-    ensures same_sink { writer.new.out.ghost_name ≡ writer.old.out.ghost_name }
 {
     let mut line = ArrayVec::<u8, 192>::new();
     if stats {
         counts_line(ran.windows, ran.cycles, &mut line);
     }
-    writer.line(&line)
+    put_line(&line, out)
 }
 
 /// Puts the lines of a machine at which a run ended, those of the probes that heard it, and that of its counts, where it is asked
@@ -111,20 +105,18 @@ pub fn send_last<O: Sink>(
     ran: &Ran,
     machine: &Machine,
     probes: &[Aimed],
-    writer: &mut Writer<'_, O>,
+    out: &mut O,
 ) -> Result<(), SinkFault>
-    ensures sends { Sends (O.written writer.old.out.now) (O.written writer.new.out.now)
-        (O.faults writer.old.out.now) (O.faults writer.new.out.now)
-        (end_text (Some ran.now.why) machine.now (seen probes.now (λ a. aim_of a.index a.pin
-        (⟦<dyn Probe as Probe>⟧ a.probe.vtable) a.probe.value))
+    ensures { Writes (sunk ⟦<O as Sink>⟧ out.old) (sunk ⟦<O as Sink>⟧ out.new)
+        (end_text (Some ran.now.why) machine.now
+        (seen probes.now (λ a. aim_of a.index a.pin (⟦<dyn Probe as Probe>⟧ a.probe.vtable) a.probe.value))
         (counts_text stats ran.now.windows ran.now.cycles)) result }
-    ensures same_sink { writer.new.out.ghost_name ≡ writer.old.out.ghost_name }
 {
-    send_stop(&ran.why, machine.number(), writer)?;
-    send_registers(0, machine.registers(0), writer)?;
-    send_registers(1, machine.registers(1), writer)?;
-    send_probes(probes, writer)?;
-    send_counts(stats, ran, writer)
+    send_stop(&ran.why, machine.number(), out)?;
+    send_registers(0, machine.registers(0), out)?;
+    send_registers(1, machine.registers(1), out)?;
+    send_probes(probes, out)?;
+    send_counts(stats, ran, out)
 }
 
 /// The index behind the first line that begins at an index.
@@ -154,19 +146,13 @@ fn piece_end(text: &[u8], pieces: Pieces, from: usize) -> usize
 }
 
 /// Puts a text piece by piece.
-pub fn send_text<O: Sink>(
-    text: &[u8],
-    pieces: Pieces,
-    writer: &mut Writer<'_, O>,
-) -> Result<(), SinkFault>
-    ensures sends { Sends (O.written writer.old.out.now) (O.written writer.new.out.now)
-        (O.faults writer.old.out.now) (O.faults writer.new.out.now) text.now result }
-    ensures same_sink { writer.new.out.ghost_name ≡ writer.old.out.ghost_name }
+pub fn send_text<O: Sink>(text: &[u8], pieces: Pieces, out: &mut O) -> Result<(), SinkFault>
+    ensures { Writes (sunk ⟦<O as Sink>⟧ out.old) (sunk ⟦<O as Sink>⟧ out.new) text.now result }
 {
     let mut done = 0;
     while done < text.len() {
         let end = piece_end(text, pieces, done);
-        writer.line(&text[done..end])?;
+        put_line(&text[done..end], out)?;
         done = end;
     }
     Ok(())

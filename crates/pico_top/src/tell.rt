@@ -1,21 +1,22 @@
 //! What was opened, or why nothing was, into the sink.
 
-ghost use Rattle.std.specs.Prelude.{◌≡◌, ◌≤◌, ℕ, List, Option, Some};
+ghost use Rattle.std.specs.Prelude.{◌≡◌, ◌≤◌, ℕ, List, Some};
 ghost use Rattle.board_parts.specs.Hearing.{Aim, aim_of, seen};
 ghost use Rattle.outer_lane.specs.Setting.{Setting};
 ghost use Rattle.rp_machine.specs.State.{State};
-ghost use Rattle.pico_top.specs.Answer.{Puts, RunsOut};
-ghost use Rattle.pico_top.specs.RunText.{counts_text, end_text};
-ghost use Rattle.pico_top.specs.Running.{RunsTo};
 ghost use Rattle.reverse_debug.specs.Debugger.{quits};
 ghost use Rattle.reverse_debug.specs.Hear.{way_line, way_status};
 ghost use Rattle.reverse_debug.specs.Session.{first_of, OpensAt};
+ghost use Rattle.pico_top.specs.Call.{Drawn, Sunk, drawn, sunk};
+ghost use Rattle.pico_top.specs.Answer.{Puts, RunsOut};
+ghost use Rattle.pico_top.specs.RunText.{counts_text, end_text};
+ghost use Rattle.pico_top.specs.Running.{RunsTo};
 ghost use Rattle.pico_top.specs.Dialogue.{hear, input_limit, run_reply, say, session_reply};
 ghost use Rattle.pico_top.specs.Opening.{setting_in, setting_by, PutsRefusal, Concludes};
 
-use crate::open::{Debugging, Opened, Pieces, Started, Unopened};
+use crate::open::{Debugging, Pieces, Started, Unopened};
 use crate::runner::{Workers, run_to_stop, run_to_stop_by};
-use crate::send::{send_last, send_text};
+use crate::send::{put_line, send_last, send_text};
 use board_parts::aimed::Aimed;
 use board_parts::probe::Probe;
 use command_words::refusal::{refusal_line, status};
@@ -39,13 +40,12 @@ const INPUT_LIMIT: usize = 1_048_576;
 
 /// Puts the last lines of a run into a sink, and answers 0, or 7 where the sink fails.
 fn end_into<O: Sink>(stats: bool, ran: &Ran, machine: &Machine, probes: &[Aimed], out: &mut O) -> u8
-    ensures { Puts (O.written out.old) (O.written out.new) (O.faults out.old) (O.faults out.new)
-        result 0 (end_text (Some ran.now.why) machine.now (seen probes.now (λ a. aim_of a.index a.pin
-        (⟦<dyn Probe as Probe>⟧ a.probe.vtable) a.probe.value))
+    ensures { Puts (sunk ⟦<O as Sink>⟧ out.old) (sunk ⟦<O as Sink>⟧ out.new) result 0
+        (end_text (Some ran.now.why) machine.now
+        (seen probes.now (λ a. aim_of a.index a.pin (⟦<dyn Probe as Probe>⟧ a.probe.vtable) a.probe.value))
         (counts_text stats ran.now.windows ran.now.cycles)) }
 {
-    let mut writer = Writer { out };
-    match send_last(stats, ran, machine, probes, &mut writer) {
+    match send_last(stats, ran, machine, probes, out) {
         Ok(()) => 0,
         Err(_) => 7,
     }
@@ -60,15 +60,11 @@ fn finish<O: Sink>(
     probes: &[Aimed],
     out: &mut O,
 ) -> u8
-    ensures { (w : Setting) (s : State) (before : List Aim) (old : Option (List ℕ))
-        (lost steps steps' : ℕ)
-        → RunsTo stats w s machine.now before (seen probes.now (λ a. aim_of a.index a.pin
-        (⟦<dyn Probe as Probe>⟧ a.probe.vtable) a.probe.value))
-        old (O.written out.old) lost (O.faults out.old) steps steps' came
-        → (left : Option (List ℕ)) (faults : ℕ)
-        → Concludes (say (run_reply stats before w s))
-        left left faults faults old (O.written out.new) lost (O.faults out.new)
-        steps steps' result }
+    ensures { (w : Setting) (s : State) (before : List Aim) (a : Sunk) (steps steps' : ℕ)
+        → RunsTo stats w s machine.now before
+        (seen probes.now (λ a. aim_of a.index a.pin (⟦<dyn Probe as Probe>⟧ a.probe.vtable) a.probe.value))
+        a (sunk ⟦<O as Sink>⟧ out.old) steps steps' came
+        → (source : Drawn) → Concludes (say (run_reply stats before w s)) source source a (sunk ⟦<O as Sink>⟧ out.new) steps steps' result }
 {
     match came {
         Ok(ran) => end_into(stats, &ran, machine, probes, out),
@@ -88,12 +84,10 @@ pub fn run_into<X: Device, O: Sink, L: Ledger>(
     steps: &mut Steps<L>,
 ) -> u8
     requires number { started.machine.cycle ≤ started.limit }
-    ensures { (left : Option (List ℕ)) (lost : ℕ)
-        → Concludes (say (run_reply started.stats (seen probes.old (λ a. aim_of a.index a.pin
-        (⟦<dyn Probe as Probe>⟧ a.probe.vtable) a.probe.value))
-        (setting_in (X.meaning device.now) started) started.machine))
-        left left lost lost (O.written out.old) (O.written out.new) (O.faults out.old)
-        (O.faults out.new) steps.old steps.new result }
+    ensures { (source : Drawn) → Concludes (say (run_reply started.stats
+        (seen probes.old (λ a. aim_of a.index a.pin (⟦<dyn Probe as Probe>⟧ a.probe.vtable) a.probe.value))
+        (setting_in (X.meaning device.now) started) started.machine)) source source
+        (sunk ⟦<O as Sink>⟧ out.old) (sunk ⟦<O as Sink>⟧ out.new) steps.old steps.new result }
 {
     let Started {
         mut machine,
@@ -121,12 +115,10 @@ pub fn run_into_by<X: Device, O: Sink, G: Gate, L: Ledger, R: Threads + Wait + S
     steps: &mut Steps<L>,
 ) -> u8
     requires number { started.machine.cycle ≤ started.limit }
-    ensures { (left : Option (List ℕ)) (lost : ℕ)
-        → Concludes (say (run_reply started.stats (seen probes.old (λ a. aim_of a.index a.pin
-        (⟦<dyn Probe as Probe>⟧ a.probe.vtable) a.probe.value))
-        (setting_in (X.meaning device.now) started) started.machine))
-        left left lost lost (O.written out.old) (O.written out.new) (O.faults out.old)
-        (O.faults out.new) steps.old steps.new result }
+    ensures { (source : Drawn) → Concludes (say (run_reply started.stats
+        (seen probes.old (λ a. aim_of a.index a.pin (⟦<dyn Probe as Probe>⟧ a.probe.vtable) a.probe.value))
+        (setting_in (X.meaning device.now) started) started.machine)) source source
+        (sunk ⟦<O as Sink>⟧ out.old) (sunk ⟦<O as Sink>⟧ out.new) steps.old steps.new result }
 {
     let Started {
         mut machine,
@@ -154,41 +146,33 @@ pub fn run_into_by<X: Device, O: Sink, G: Gate, L: Ledger, R: Threads + Wait + S
 
 /// Puts a text into a sink, piece by piece, and answers 0, or 7 where the sink fails.
 pub fn text_into<O: Sink>(text: &[u8], pieces: Pieces, out: &mut O) -> u8
-    ensures { Puts (O.written out.old) (O.written out.new) (O.faults out.old)
-        (O.faults out.new) result 0 text.now }
+    ensures { Puts (sunk ⟦<O as Sink>⟧ out.old) (sunk ⟦<O as Sink>⟧ out.new) result 0 text.now }
 {
-    let mut writer = Writer { out };
-    match send_text(text, pieces, &mut writer) {
+    match send_text(text, pieces, out) {
         Ok(()) => 0,
         Err(_) => 7,
     }
 }
 
 /// Puts one line, and answers the status that it goes with, or 7 where the sink fails.
-fn put<O: Sink>(status: u8, line: &[u8], writer: &mut Writer<'_, O>) -> u8
-    ensures puts { Puts (O.written writer.old.out.now) (O.written writer.new.out.now)
-        (O.faults writer.old.out.now)
-        (O.faults writer.new.out.now) result status line.now }
-    ensures same_sink { writer.new.out.ghost_name ≡ writer.old.out.ghost_name }
+fn say<O: Sink>(status: u8, line: &[u8], out: &mut O) -> u8
+    ensures { Puts (sunk ⟦<O as Sink>⟧ out.old) (sunk ⟦<O as Sink>⟧ out.new) result status line.now }
 {
-    match writer.line(line) {
+    match put_line(line, out) {
         Ok(()) => status,
         Err(_) => 7,
     }
 }
 
 /// Puts the line of the way in which a hearing ended, and answers its status, or 7 where the sink fails.
-fn close<O: Sink>(way: Way, writer: &mut Writer<'_, O>) -> u8
-    ensures puts { Puts (O.written writer.old.out.now) (O.written writer.new.out.now)
-        (O.faults writer.old.out.now)
-        (O.faults writer.new.out.now) result (way_status way) (way_line way) }
-    ensures same_sink { writer.new.out.ghost_name ≡ writer.old.out.ghost_name }
+fn close<O: Sink>(way: Way, out: &mut O) -> u8
+    ensures { Puts (sunk ⟦<O as Sink>⟧ out.old) (sunk ⟦<O as Sink>⟧ out.new) result (way_status way) (way_line way) }
 {
     match way {
-        Way::Closed => put(0, b"", writer),
-        Way::Ended => put(0, b"", writer),
-        Way::Broken => put(8, b"error source\n", writer),
-        Way::Full => put(10, b"error input\n", writer),
+        Way::Closed => say(0, b"", out),
+        Way::Ended => say(0, b"", out),
+        Way::Broken => say(8, b"error source\n", out),
+        Way::Full => say(10, b"error input\n", out),
     }
 }
 
@@ -204,9 +188,8 @@ fn talk<I: Source, X: Device, O: Sink, L: Ledger>(
     requires { OpensAt (first_of debugging.session) debugging.limit debugging.session }
     ensures tells { Concludes (hear input_limit quits
         (session_reply (setting_by (X.meaning device.now) debugging) (first_of debugging.session)))
-        (I.left input.old) (I.left input.new) (I.faults input.old) (I.faults input.new)
-        (O.written writer.old.out.now) (O.written writer.new.out.now) (O.faults writer.old.out.now)
-        (O.faults writer.new.out.now) steps.old steps.new result }
+        (drawn ⟦<I as Source>⟧ input.old) (drawn ⟦<I as Source>⟧ input.new)
+        (sunk ⟦<O as Sink>⟧ writer.old.out.now) (sunk ⟦<O as Sink>⟧ writer.new.out.now) steps.old steps.new result }
     ensures same_sink { writer.new.out.ghost_name ≡ writer.old.out.ghost_name }
 {
     let Debugging {
@@ -220,7 +203,7 @@ fn talk<I: Source, X: Device, O: Sink, L: Ledger>(
         limit,
     };
     match hear(&mut session, &world, input, INPUT_LIMIT, writer, steps) {
-        Ok(way) => close(way, writer),
+        Ok(way) => close(way, writer.out),
         Err(_) => 7,
     }
 }
@@ -236,35 +219,23 @@ pub fn talk_into<I: Source, X: Device, O: Sink, L: Ledger>(
     requires opened { OpensAt (first_of debugging.session) debugging.limit debugging.session }
     ensures { Concludes (hear input_limit quits
         (session_reply (setting_by (X.meaning device.now) debugging) (first_of debugging.session)))
-        (I.left input.old) (I.left input.new) (I.faults input.old) (I.faults input.new)
-        (O.written out.old) (O.written out.new) (O.faults out.old)
-        (O.faults out.new) steps.old steps.new result }
+        (drawn ⟦<I as Source>⟧ input.old) (drawn ⟦<I as Source>⟧ input.new)
+        (sunk ⟦<O as Sink>⟧ out.old) (sunk ⟦<O as Sink>⟧ out.new) steps.old steps.new result }
 {
     let mut writer = Writer { out };
     talk(debugging, device, input, &mut writer, steps)
 }
 
-/// Puts one line into a sink, and answers the status that it goes with, or 7 where the sink fails.
-fn say<O: Sink>(status: u8, line: &[u8], out: &mut O) -> u8
-    ensures { Puts (O.written out.old) (O.written out.new) (O.faults out.old)
-        (O.faults out.new) result status line.now }
-{
-    let mut writer = Writer { out };
-    put(status, line, &mut writer)
-}
-
 /// Puts the line that says that memory ran out.
 fn run_out<O: Sink>(out: &mut O) -> u8
-    ensures { RunsOut (O.written out.old) (O.written out.new) (O.faults out.old)
-        (O.faults out.new) result }
+    ensures { RunsOut (sunk ⟦<O as Sink>⟧ out.old) (sunk ⟦<O as Sink>⟧ out.new) result }
 {
     say(9, b"error memory\n", out)
 }
 
 /// Puts the line of what is refused, or of want of memory.
 pub fn refuse<O: Sink>(alloc: Global, unopened: &Unopened, out: &mut O) -> u8
-    ensures { PutsRefusal (O.written out.old) (O.written out.new) (O.faults out.old)
-        (O.faults out.new) result unopened.now }
+    ensures { PutsRefusal (sunk ⟦<O as Sink>⟧ out.old) (sunk ⟦<O as Sink>⟧ out.new) result unopened.now }
 {
     match unopened {
         Unopened::Refusing(refusal) => match refusal_line(alloc, refusal) {

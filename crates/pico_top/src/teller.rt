@@ -3,10 +3,12 @@
 ghost use Rattle.std.specs.Prelude.{◌≡◌, ◌∷◌, ◌<◌, []};
 ghost use Rattle.trace_text.specs.declared.event.Event.TheVariants.{Pin};
 ghost use Rattle.trace_text.specs.Line.{event_text};
-ghost use Rattle.trace_text.specs.Sent.{Sends};
 ghost use Rattle.board_parts.specs.Hearing.{aim_of, seen};
+ghost use Rattle.pico_top.specs.Call.{sunk};
+ghost use Rattle.pico_top.specs.Answer.{Writes};
 ghost use Rattle.pico_top.specs.RunText.{after_events};
 
+use crate::send::put_line;
 use arrayvec::ArrayVec;
 use board_parts::aimed::{Aimed, hear_all};
 use board_parts::change::PinChange;
@@ -16,38 +18,32 @@ use std::marker::PhantomData;
 use trace_text::event::Event;
 use trace_text::line::event_line;
 use trace_text::tape::Tape;
-use trace_text::writer::{SinkFault, Writer};
+use trace_text::writer::SinkFault;
 
 /// Puts the line of an event.
-fn send_event<O: Sink>(event: &Event, writer: &mut Writer<'_, O>) -> Result<(), SinkFault>
-    ensures sends { Sends (O.written writer.old.out.now) (O.written writer.new.out.now)
-        (O.faults writer.old.out.now) (O.faults writer.new.out.now) (event_text event.now) result }
-    ensures same_sink { writer.new.out.ghost_name ≡ writer.old.out.ghost_name }
+fn send_event<O: Sink>(event: &Event, out: &mut O) -> Result<(), SinkFault>
+    ensures { Writes (sunk ⟦<O as Sink>⟧ out.old) (sunk ⟦<O as Sink>⟧ out.new) (event_text event.now) result }
 {
     let mut line = ArrayVec::<u8, 192>::new();
     event_line(event, &mut line);
-    writer.line(&line)
+    put_line(&line, out)
 }
 
 /// All probes hear of a change of a pin.
 fn hear_change(cycle: u64, pin: u8, level: bool, probes: &mut [Aimed])
     requires { pin < 256 }
-    ensures { seen probes.new (λ a. aim_of a.index a.pin
-        (⟦<dyn Probe as Probe>⟧ a.probe.vtable) a.probe.value)
+    ensures { seen probes.new (λ a. aim_of a.index a.pin (⟦<dyn Probe as Probe>⟧ a.probe.vtable) a.probe.value)
         ≡ after_events (Pin cycle pin level ∷ [])
-        (seen probes.old (λ a. aim_of a.index a.pin
-        (⟦<dyn Probe as Probe>⟧ a.probe.vtable) a.probe.value)) }
+        (seen probes.old (λ a. aim_of a.index a.pin (⟦<dyn Probe as Probe>⟧ a.probe.vtable) a.probe.value)) }
 {
     hear_all(probes, &PinChange { cycle, pin, level });
 }
 
 /// All probes hear of a pin, if the event is its change.
 fn hear_event(event: &Event, probes: &mut [Aimed])
-    ensures { seen probes.new (λ a. aim_of a.index a.pin
-        (⟦<dyn Probe as Probe>⟧ a.probe.vtable) a.probe.value)
+    ensures { seen probes.new (λ a. aim_of a.index a.pin (⟦<dyn Probe as Probe>⟧ a.probe.vtable) a.probe.value)
         ≡ after_events (event.now ∷ [])
-        (seen probes.old (λ a. aim_of a.index a.pin
-        (⟦<dyn Probe as Probe>⟧ a.probe.vtable) a.probe.value)) }
+        (seen probes.old (λ a. aim_of a.index a.pin (⟦<dyn Probe as Probe>⟧ a.probe.vtable) a.probe.value)) }
 {
     if let Event::Pin { cycle, pin, level } = *event {
         hear_change(cycle, pin, level, probes);
@@ -57,8 +53,8 @@ fn hear_event(event: &Event, probes: &mut [Aimed])
 /// Tells the events of a run to a sink and to probes.
 #[derive(Drop)]
 pub struct Teller<'a, O: Sink> {
-    /// Puts the lines.
-    pub writer: Writer<'a, O>,
+    /// Has the lines.
+    pub out: &'a mut O,
     /// Hear the changes of pins.
     pub probes: &'a mut [Aimed],
     /// A probe is known by what is behind its box.
@@ -73,22 +69,22 @@ impl<'a, O: Sink> Tape for Teller<'a, O> {
     ghost use Rattle.board_parts.specs.Hearing.{aim_of, seen};
     ghost use Rattle.pico_top.specs.Teller.{HasTold, told_none, told_both};
 
-    ghost faults = { λ teller. O.faults teller.writer.out.now };
+    ghost faults = { λ teller. O.faults teller.out.now };
 
     ghost took = { λ old events new.
-        HasTold (O.written old.writer.out.now) (O.written new.writer.out.now)
+        HasTold (O.written old.out.now) (O.written new.out.now)
         (seen old.probes.now (λ a. aim_of a.index a.pin (Probe-box a.probe) a.probe.value))
         (seen new.probes.now (λ a. aim_of a.index a.pin (Probe-box a.probe) a.probe.value)) events
-        × (new.writer.out.ghost_name ≡ old.writer.out.ghost_name)
+        × (new.out.ghost_name ≡ old.out.ghost_name)
         × (new.probes.ghost_name ≡ old.probes.ghost_name) };
 
     ghost missed = { λ old event new.
-        AppendsPart (O.written old.writer.out.now) (O.written new.writer.out.now) (event_text event)
-        × (new.writer.out.ghost_name ≡ old.writer.out.ghost_name)
+        AppendsPart (O.written old.out.now) (O.written new.out.now) (event_text event)
+        × (new.out.ghost_name ≡ old.out.ghost_name)
         × (new.probes.ghost_name ≡ old.probes.ghost_name) };
 
     fn event(&mut self, event: &Event) -> Result<(), SinkFault> {
-        match send_event(event, &mut self.writer) {
+        match send_event(event, self.out) {
             Ok(()) => {
                 hear_event(event, self.probes);
                 Ok(())

@@ -1,5 +1,4 @@
-use Rattle.std.proofs.Common.{◌≡◌, map, take}
-use Rattle.board_parts.specs.Wiring.{counts_of}
+use Rattle.pico_top.proofs.Names.{◌≡◌, map, take, counts_of}
 use Rattle.pico_top.proofs.pins_of.Given as goal
 
 -- the numbers of the first parts

@@ -1,9 +1,5 @@
-use Rattle.std.proofs.Common.{◌≡◌, [], refl, ap, ◌∙◌}
-use Rattle.board_parts.specs.Aiming.{aims_of}
-use Rattle.board_parts.specs.Hearing.{aim_of, seen}
-use Rattle.command_words.specs.Read.{command_in}
-use Rattle.pico_top.specs.Dialogue.{aims_in}
-use Rattle.pico_top.proofs.Telling.{out_converses, opened_converses, closed_converses, tells_text}
+use Rattle.pico_top.proofs.Names.{◌≡◌, [], map, refl, ap, ◌∙◌, aims_of, aim_of, seen, command_in, aims_in}
+use Rattle.pico_top.proofs.Telling.{out_converses, opened_converses, unopened_converses, tells_text}
 use Rattle.pico_top.proofs.serve_with.Goals as goal
 
 pub run_into-requires-clause-number : goal.run_into-requires-clause-number
@@ -13,20 +9,21 @@ pub talk_into-requires-clause-opened : goal.talk_into-requires-clause-opened
 talk_into-requires-clause-opened g c κs within = rw c.in-Session.is at (c.in-Ok-open_reading.ensures.answer []).1
 
 pub returns-in_default : goal.returns-in_default
-returns-in_default g c b same probes = out_converses _ _ _ _ _ refl refl refl refl c.refuse.ensures refl
+returns-in_default g c = out_converses _ _ _ _ refl refl refl c.refuse.ensures refl
 
 pub returns-in-Machine : goal.returns-in-Machine
-returns-in-Machine g c b same probes =
-    let aims : seen c.deref_mut.result.now (λ a. aim_of a.index a.pin (goal.Probe-dyn g (a.probe.vtable, a.probe.value)) a.probe.value) ≡ aims_in b.probes (command_in c.args.reading.now) = rw c.deref_mut.ensures.value (c.in-Ok.ensures ∙ ap (λ ps. aims_of ps c.targets.result.now) probes ∙ ap (aims_of b.probes) c.targets.ensures) in
-    opened_converses b _ _ _ _ _ _ _ same aims c.in-Ok-open_reading.ensures.answer c.in-Ok-open_reading.ensures.kept (rw c.in-Machine.is (c.run_into.ensures _ _))
+returns-in-Machine g c =
+    let probes = map (λ p. (goal.Probe-dyn g (p.vtable, p.value)).meaning p.value) c.args.probes.items in
+    let aims : seen c.deref_mut.result.now (λ a. aim_of a.index a.pin (goal.Probe-dyn g (a.probe.vtable, a.probe.value)) a.probe.value) ≡ aims_in probes (command_in c.args.reading.now) = rw c.deref_mut.ensures.value (c.in-Ok.ensures ∙ ap (aims_of probes) c.targets.ensures) in
+    opened_converses _ _ _ _ _ _ _ (c.in-Ok-open_reading.ensures.answer _) c.in-Ok-open_reading.ensures.kept (rw (c.in-Machine.is, ← aims) (c.run_into.ensures _))
 
 pub returns-in-Session : goal.returns-in-Session
-returns-in-Session g c b same probes =
-    opened_converses b _ _ _ _ _ _ _ same refl c.in-Ok-open_reading.ensures.answer c.in-Ok-open_reading.ensures.kept (rw c.in-Session.is c.talk_into.ensures)
+returns-in-Session g c =
+    opened_converses _ _ _ _ _ _ _ (c.in-Ok-open_reading.ensures.answer _) c.in-Ok-open_reading.ensures.kept (rw c.in-Session.is c.talk_into.ensures)
 
 pub returns-in-Ok-open_reading : goal.returns-in-Ok-open_reading
-returns-in-Ok-open_reading g c b same probes =
-    opened_converses b _ _ _ _ _ _ _ same refl c.in-Ok-open_reading.ensures.answer c.in-Ok-open_reading.ensures.kept (rw c.in-Text.is (tells_text _ _ _ _ _ _ _ _ _ (rw c.deref.ensures.value at c.text_into.ensures)))
+returns-in-Ok-open_reading g c =
+    opened_converses _ _ _ _ _ _ _ (c.in-Ok-open_reading.ensures.answer _) c.in-Ok-open_reading.ensures.kept (rw c.in-Text.is (tells_text _ _ _ _ _ _ (rw c.deref.ensures.value at c.text_into.ensures)))
 
 pub returns : goal.returns
-returns g c b same probes = closed_converses b _ _ _ _ _ _ same c.in-Err.ensures.answer c.in-Err.ensures.kept refl refl c.refuse-in-Err.ensures refl
+returns g c = unopened_converses _ _ _ _ _ (c.in-Err.ensures.answer _) c.in-Err.ensures.kept refl c.refuse-in-Err.ensures refl

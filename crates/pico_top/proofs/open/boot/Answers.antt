@@ -1,5 +1,4 @@
-use Rattle.std.proofs.Common.{ap, ◌∙◌}
-use Rattle.rp_machine.specs.State.{State}
+use Rattle.pico_top.proofs.Names.{ap, ◌∙◌, State}
 use Rattle.pico_top.proofs.Walking.{start_cycle}
 use Rattle.pico_top.proofs.open.boot.Goals as goal
 

@@ -1,4 +1,4 @@
-use Rattle.pico_top.specs.Dialogue.{with_linked}
+use Rattle.pico_top.proofs.Names.{with_linked}
 use Rattle.pico_top.proofs.Walking.{runs_out}
 use Rattle.pico_top.proofs.open.linked_image.Goals as goal
 

@@ -1,4 +1,4 @@
-use Rattle.pico_top.specs.declared.open.Unopened.TheVariants.{Memory}
+use Rattle.pico_top.proofs.Names.{Memory}
 use Rattle.pico_top.proofs.Walking.{load_lost}
 use Rattle.pico_top.proofs.open.load.Goals as goal
 

@@ -1,9 +1,4 @@
-use Rattle.std.proofs.Common.{List, ℕ, refl, subst}
-use Rattle.std.proofs.lemmas.Result.{err_from_is_err_and}
-use Rattle.uf2_image.specs.Uf2.{image_of}
-use Rattle.command_words.specs.Refusals.Refusal.{BadImage}
-use Rattle.pico_top.specs.Dialogue.{judge, image_limit}
-use Rattle.pico_top.specs.Opening.{Judges}
+use Rattle.pico_top.proofs.Names.{List, ℕ, refl, subst, err_from_is_err_and, image_of, BadImage, judge, image_limit, Judges}
 use Rattle.pico_top.proofs.Walking.{file_passes}
 use Rattle.pico_top.proofs.open.open_image.Goals as goal
 

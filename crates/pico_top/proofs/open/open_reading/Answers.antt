@@ -1,6 +1,4 @@
-use Rattle.std.proofs.Common.{List, ℕ, subst}
-use Rattle.command_words.specs.Words.Command.{Assemble, AssembleThumb}
-use Rattle.pico_top.specs.Opening.{OpensFor}
+use Rattle.pico_top.proofs.Names.{List, ℕ, subst, Assemble, AssembleThumb, OpensFor}
 use Rattle.pico_top.proofs.open.open_reading.Goals as goal
 
 pub returns-in-Run-clause-answer : goal.returns-in-Run-clause-answer

@@ -1,13 +1,5 @@
-use Rattle.std.proofs.Common.{List, ℕ, map, Ok, Err, refl, subst}
-use Rattle.std.proofs.lemmas.Result.{err_from_is_err_and}
-use Rattle.uf2_image.specs.declared.parts.Image.{Image}
-use Rattle.outer_lane.specs.Setting.{setting_of}
+use Rattle.pico_top.proofs.Names.{List, ℕ, map, Ok, Err, refl, subst, err_from_is_err_and, Image, setting_of, PioLoad, PioEntry, run_in, entry_in, with_image, with_linked, with_script, behind_image, behind_script, Passes, LoadsAll, Boots, use_for}
 use Rattle.rp_machine.specs.Boot.{start}
-use Rattle.rp_machine.specs.declared.load.PioLoad.{PioLoad}
-use Rattle.command_words.specs.declared.entry.PioEntry.{PioEntry}
-use Rattle.command_words.specs.Read.{run_in, entry_in}
-use Rattle.pico_top.specs.Dialogue.{with_image, with_linked, with_script, behind_image, behind_script}
-use Rattle.pico_top.specs.Opening.{Passes, LoadsAll, Boots, use_for}
 use Rattle.pico_top.proofs.Walking.{opens_behind, programs_open}
 use Rattle.pico_top.proofs.open.open_run.Goals as goal
 

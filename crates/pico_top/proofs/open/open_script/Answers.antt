@@ -1,11 +1,4 @@
-use Rattle.std.proofs.Common.{List, ℕ, Err, refl, subst}
-use Rattle.std.proofs.lemmas.Result.{err_from_is_err_and}
-use Rattle.command_words.specs.Refusals.Refusal.{BadScript}
-use Rattle.pin_script.specs.Script.{script_of}
-use Rattle.rp_ports.specs.Shelf.{Answers}
-use Rattle.rp_ports.specs.declared.shelf.Loaded.TheVariants.{Done}
-use Rattle.pico_top.specs.Dialogue.{judge, script_limit}
-use Rattle.pico_top.specs.Opening.{LoadsAs, Judges}
+use Rattle.pico_top.proofs.Names.{List, ℕ, Err, refl, subst, err_from_is_err_and, BadScript, script_of, Answers, Done, judge, script_limit, LoadsAs, Judges}
 use Rattle.pico_top.proofs.Walking.{judge_passes, file_passes}
 use Rattle.pico_top.proofs.open.open_script.Goals as goal
 

@@ -1,8 +1,4 @@
-use Rattle.std.proofs.lemmas.Result.{err_from_is_err_and}
-use Rattle.pio_asm.specs.Listing.{plans_of, listing}
-use Rattle.command_words.specs.Refusals.Refusal.{BadSource}
-use Rattle.pico_top.specs.Dialogue.{judge, plain}
-use Rattle.pico_top.specs.Dialogue.Dialogue.{Say}
+use Rattle.pico_top.proofs.Names.{err_from_is_err_and, plans_of, listing, BadSource, judge, plain, Say}
 use Rattle.pico_top.proofs.open.open_source.Goals as goal
 
 pub returns-in_err-bytes-clause-answer : goal.returns-in_err-bytes-clause-answer

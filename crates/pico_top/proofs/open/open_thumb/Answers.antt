@@ -1,8 +1,5 @@
-use Rattle.std.proofs.lemmas.Result.{err_from_is_err_and}
-use Rattle.thumb_asm.specs.Source.{image_of_source}
+use Rattle.pico_top.proofs.Names.{err_from_is_err_and, image_of_source, BadThumb, judge, plain, say}
 use Rattle.uf2_image.specs.Writing.{file_of}
-use Rattle.command_words.specs.Refusals.Refusal.{BadThumb}
-use Rattle.pico_top.specs.Dialogue.{judge, plain, say}
 use Rattle.pico_top.proofs.open.open_thumb.Goals as goal
 
 pub returns-in_err-bytes-clause-answer : goal.returns-in_err-bytes-clause-answer

@@ -1,4 +1,4 @@
-use Rattle.command_words.specs.Read.{entry_in}
+use Rattle.pico_top.proofs.Names.{entry_in}
 use Rattle.pico_top.proofs.Walking.{source_adds, source_out}
 use Rattle.pico_top.proofs.programs.add_first.Goals as goal
 

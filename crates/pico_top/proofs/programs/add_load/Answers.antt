@@ -1,5 +1,4 @@
-use Rattle.std.proofs.Common.{sym}
-use Rattle.command_words.specs.Read.{entry_in}
+use Rattle.pico_top.proofs.Names.{sym, entry_in}
 use Rattle.pico_top.proofs.Walking.{load_tried, load_refused}
 use Rattle.pico_top.proofs.programs.add_load.Goals as goal
 

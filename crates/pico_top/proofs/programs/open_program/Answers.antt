@@ -1,10 +1,4 @@
-use Rattle.std.proofs.Common.{List, ℕ, subst, Err}
-use Rattle.std.proofs.lemmas.Result.{err_from_is_err_and}
-use Rattle.command_words.specs.Read.{entry_in}
-use Rattle.rp_ports.specs.Shelf.{Answers}
-use Rattle.rp_ports.specs.declared.shelf.Loaded.TheVariants.{Done}
-use Rattle.pico_top.specs.Dialogue.{source_limit}
-use Rattle.pico_top.specs.Opening.{AddsBehind, LoadsAs, source_part}
+use Rattle.pico_top.proofs.Names.{List, ℕ, subst, Err, err_from_is_err_and, entry_in, Answers, Done, source_limit, AddsBehind, LoadsAs, source_part}
 use Rattle.pico_top.proofs.Walking.{entry_adds, entry_lost}
 use Rattle.pico_top.proofs.programs.open_program.Goals as goal
 

@@ -1,6 +1,4 @@
-use Rattle.std.proofs.Common.{◌+◌, map, drop}
-use Rattle.std.proofs.lemmas.Result.{err_from_is_err_and}
-use Rattle.command_words.specs.Read.{entry_in}
+use Rattle.pico_top.proofs.Names.{◌+◌, map, drop, err_from_is_err_and, entry_in}
 use Rattle.pico_top.proofs.Walking.{along_added, along_ends, entry_next}
 use Rattle.pico_top.proofs.programs.open_programs.Goals as goal
 

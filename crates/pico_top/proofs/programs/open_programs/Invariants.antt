@@ -1,5 +1,4 @@
-use Rattle.std.proofs.Common.{map, drop}
-use Rattle.command_words.specs.Read.{entry_in}
+use Rattle.pico_top.proofs.Names.{map, drop, entry_in}
 use Rattle.pico_top.proofs.Walking.{Along}
 use Rattle.pico_top.proofs.programs.open_programs.Given as goal
 

@@ -1,5 +1,4 @@
-use Rattle.std.proofs.Common.{◌≡◌, drop}
-use Rattle.pico_top.specs.Opening.{taken_by}
+use Rattle.pico_top.proofs.Names.{◌≡◌, drop, taken_by}
 use Rattle.pico_top.proofs.programs.taken.Given as goal
 
 -- the loads that are left take the rest of the addresses

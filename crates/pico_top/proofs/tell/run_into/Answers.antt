@@ -1,4 +1,4 @@
 use Rattle.pico_top.proofs.tell.run_into.Goals as goal
 
 pub returns : goal.returns
-returns g c left lost = c.finish.ensures _ _ _ _ _ _ _ c.run_to_stop-came.ensures left lost
+returns g c source = c.finish.ensures _ _ _ _ _ _ c.run_to_stop-came.ensures source

@@ -1,4 +1,4 @@
-use Rattle.std.proofs.Common.{sym, ◌∙◌}
+use Rattle.pico_top.proofs.Names.{sym, ◌∙◌}
 use Rattle.pico_top.specs.Teller.{after_change}
 use Rattle.pico_top.proofs.teller.hear_change.Goals as goal
 

@@ -1,6 +1,6 @@
-use Rattle.std.proofs.Common.{refl}
+use Rattle.pico_top.proofs.Names.{refl}
 use Rattle.pico_top.specs.Teller.{told_one}
 use Rattle.pico_top.proofs.teller.TellerTape.event.Goals as goal
 
 pub returns-in-Ok-clause-taken : goal.returns-in-Ok-clause-taken
-returns-in-Ok-clause-taken g c = (told_one _ _ _ _ c.args.event.now c.in-Ok.ensures.sends.ok c.hear_event.ensures, c.in-Ok.ensures.same_sink, refl)
+returns-in-Ok-clause-taken g c = (told_one _ _ _ _ c.args.event.now c.in-Ok.ensures.ok c.hear_event.ensures, refl, refl)
