@@ -1,6 +1,7 @@
 -- The causes of a call's status, from the ending of its walk; the status over files and bytes that are told; and the whole text.
-use Rattle.pico_top.proofs.Names.{◌≡◌, ◌⊎◌, ℕ, List, Option, None, Result, Ok, Err, refl, sym, inl, inr, ◌∙◌, subst, arith, ◌+◌, ◌-◌, ◌<◌, ◌≤◌, nat_le, Bool, true, false, not, ◌&&◌, if◌then◌else◌, [], ◌∷◌, ◌++◌, length, take, Some, IfSome, ap, length-append, SinkFault, Command, Refusal, line_of, status_of, BadWords, Way, Closed, Ended, Broken, Full, way_status, MayEnd, IsTaken, Board, Sunk, Outside, dialogue_from, Dialogue, Ending, Walks, failed_names, Verdict, verdict, status_over, Said, Heard, Refused, NoMemory, Puts, RunsOut, Ends, Takes, Writes, sent_status, memory_line, ConversesIn, append-nil, take_at, Files, Appends, closes, Refuses, Says, Hears}
+use Rattle.pico_top.proofs.Names.{◌≡◌, ◌⊎◌, ℕ, List, Option, None, Result, Ok, Err, refl, sym, inl, inr, ◌∙◌, subst, arith, ◌+◌, ◌-◌, ◌<◌, ◌≤◌, nat_le, Bool, true, false, not, ◌&&◌, if◌then◌else◌, [], ◌∷◌, ◌++◌, length, take, Some, IfSome, ap, length-append, SinkFault, Command, Refusal, line_of, status_of, BadWords, Way, Closed, Ended, Broken, Full, way_status, BearsOut, MayEnd, IsTaken, Board, Sunk, Outside, dialogue_from, Dialogue, Ending, Walks, failed_names, Verdict, verdict, status_over, Said, Heard, Refused, NoMemory, Puts, RunsOut, Ends, Takes, Writes, sent_status, memory_line, ConversesIn, append-nil, take_at, Files, Appends, closes, Refuses, Says, Hears}
 use Rattle.rp_ports.specs.Fault.{Rose}
+use Rattle.rp_ports.specs.Source.{IsAtEnd}
 use Rattle.pico_top.specs.Causes.{HasCause, IsStatus, Causes, Fulfils, Completes, HasRunOut, DoesNotFail, SaysAll, AnswersAll}
 use Rattle.pico_top.proofs.Walking.{words_refused, IsOf, walk_follows}
 use Rattle.std.proofs.Math.Seq.{take-append-add}
@@ -215,9 +216,12 @@ says_all d before after status files h fine is = elim (whole d before after stat
   | inr out ↦ inr out
 ]
 
--- the way in which a hearing ended whose status is 0
-heard_way : (status : ℕ) (way : Way) → status ≡ way_status way → IsStatus status 0 → ((way ≡ Closed) ⊎ (way ≡ Ended)) × (status ≡ 0)
-heard_way status way e is = (grind (arith, e, is), grind (arith, e, is))
+-- the way in which a hearing ended whose status is 0, and what the source has left
+heard_way : (left : Option (List ℕ)) (before now status : ℕ) (way : Way) → status ≡ way_status way → IsStatus status 0 → BearsOut left before now status way → ((way ≡ Closed) ⊎ ((way ≡ Ended) × IsAtEnd left)) × (status ≡ 0)
+heard_way left before now status Closed e is borne = (inl refl, e)
+heard_way left before now status Ended e is borne = (inr (refl, elim borne.1 [ inl bad ↦ absurd (omega (arith, bad, e)) | inr end ↦ end ]), e)
+heard_way left before now status Broken e is borne = absurd (grind (arith, e, is))
+heard_way left before now status Full e is borne = absurd (grind (arith, e, is))
 
 pub answers_all : AnswersAll
 answers_all d before after status files limit last bytes h fine is told rose zero = elim (whole d before after status files (Hears limit last) h fine is) [
@@ -226,7 +230,7 @@ answers_all d before after status files limit last bytes h fine is told rose zer
       let puts = puts_whole before.sink after.sink status (way_status there.1) there.4.text (subst (λ (x : Ending). Ends before.sink after.sink status x) there.5 h.ends) fine.put in
       let own = heard_status before.source.left after.source.left status before.source.faults after.source.faults limit last there.0 there.1 taken there.2 there.3 (inl puts.0) in
       let over : IsStatus status (status_over limit last bytes) = subst (λ (x : Option (List ℕ)). IfSome x (λ held. (Rose before.source.faults after.source.faults → ⊥) → IsStatus status (status_over limit last held))) told own rose in
-      let way = heard_way status there.1 puts.0 (subst (λ (n : ℕ). IsStatus status n) zero over) in
+      let way = heard_way after.source.left before.source.faults after.source.faults status there.1 puts.0 (subst (λ (n : ℕ). IsStatus status n) zero over) taken.borne in
       inl (record { bytes = there.0; way = there.1; reply = there.4; walked = subst (λ (x : Ending). Walks before.files d x) there.5 h.walked; whole = way.0; taken = taken.taken; zero = way.1; written = puts.1 })
   | inr out ↦ inr out
 ]

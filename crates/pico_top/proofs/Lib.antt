@@ -2,3 +2,4 @@ pub mod Causing
 pub mod Names
 pub mod Telling
 pub mod Walking
+pub mod Writing

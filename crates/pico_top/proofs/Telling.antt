@@ -1,5 +1,5 @@
 -- What was opened and told, the whole call, and what a run puts.
-use Rattle.pico_top.proofs.Names.{◌<◌, ◌≡◌, ℕ, ◌+◌, ◌≤◌, List, [], ◌∷◌, ◌++◌, length, map, arith, Option, Some, Result, Ok, Err, refl, sym, ap, ap₂, inl, inr, ◌∙◌, subst, append_assoc, Bool, false, IfOk, IfSome, DeviceMeaning, paired, Aim, Wired, counts_of, placed_by, wired_in, Setting, SinkFault, sends_then, sends_part, part_of_longer, part_behind, State, Sink, Standing, first_of, OpensAt, Way, Closed, Ended, Broken, Full, lines_heard, way_line, way_status, BearsOut, IsTaken, quits, talk_of, Command, reading, Opened, Unopened, Refusing, Memory, Board, Drawn, Sunk, Outside, Dialogue, Reply, aims_in, beside, device_in, dialogue_of, hear, input_limit, plain, run_reply, say, session_reply, Ending, heard_as, Said, Heard, Refused, NoMemory, Puts, RunsOut, Takes, Ends, Counts, IsCounted, Writes, ConversesIn, ConversesFor, Converses, opened_dialogue, EndsAs, EndsUnopened, Opens, PutsRefusal, Concludes}
+use Rattle.pico_top.proofs.Names.{◌<◌, ◌≡◌, ℕ, ◌+◌, ◌≤◌, List, [], ◌∷◌, ◌++◌, length, map, arith, Option, Some, Result, Ok, Err, refl, sym, ap, ap₂, inl, inr, ◌∙◌, subst, append_assoc, Bool, false, IfOk, IfSome, DeviceMeaning, paired, Aim, Wired, counts_of, placed_by, wired_in, Setting, SinkFault, part_of_longer, part_behind, State, Sink, Standing, first_of, OpensAt, Way, Closed, Ended, Broken, Full, lines_heard, way_line, way_status, BearsOut, IsTaken, quits, talk_of, Command, reading, Opened, Unopened, Refusing, Memory, Board, Drawn, Sunk, Outside, Dialogue, Reply, aims_in, beside, device_in, dialogue_of, hear, input_limit, plain, run_reply, say, session_reply, Ending, heard_as, Said, Heard, Refused, NoMemory, Puts, RunsOut, Takes, Ends, Counts, IsCounted, Writes, ConversesIn, ConversesFor, Converses, opened_dialogue, EndsAs, EndsUnopened, Opens, PutsRefusal, Concludes}
 use Rattle.board_parts.specs.declared.wiring.Wiring.{Wiring}
 use Rattle.board_parts.specs.Part.{PartMeaning}
 use Rattle.board_parts.specs.Parts.{parts_device}
@@ -22,6 +22,7 @@ use Rattle.pico_top.specs.Running.{IsRanFor, RunsTo}
 use Rattle.pico_top.specs.RunText.{event_lines, after_events, counts_text, stats_text, run_text, run_cycles, end_text}
 use Rattle.pico_top.specs.Teller.{HasTold, lines_both, one_line}
 use Rattle.pico_top.proofs.Walking.{no_memory}
+use Rattle.pico_top.proofs.Writing.{writes_then, writes_part}
 
 -- ---- the call
 
@@ -140,7 +141,7 @@ tells_heard w f source source' a b c steps steps' status way cycle zero h₀ put
     let last : Puts b c status (way_status h.way) (way_line h.way) = subst (λ (x : Way). Puts b c status (way_status x) (way_line x)) h.is puts in
     heard_so w f source source' a c _ _ _ _ steps steps' status (Ok way) h
     (record { taken = h.taken.taken; forward = h.taken.forward; borne = bears source'.left source.faults source'.faults status h.way h.taken.borne })
-    (last.0, sends_then a.written b.written c.written a.faults b.faults c.faults _ (way_line h.way) last.0 h.sends.ok h.sends.count last.1, last.2)
+    (last.0, writes_then {U = Way} {F = SinkFault} a b c _ (way_line h.way) way last.0 (record { ok = h.sends.ok; err = tt; cause = tt; steady = h.steady; count = h.sends.count }) last.1, last.2)
 
 -- the sink failed at an answer
 pub tells_cut : (w : Setting) (f : State) (source source' : Drawn) (a b : Sunk) (steps steps' : ℕ) (fault : SinkFault) (cycle : ℕ) → cycle ≡ 0
@@ -149,9 +150,9 @@ pub tells_cut : (w : Setting) (f : State) (source source' : Drawn) (a b : Sunk) 
 tells_cut w f source source' a b steps steps' fault cycle zero h₀ =
     let h : Hears (talk_of w f) 0 input_limit source.left source'.left source.faults source'.faults a.written b.written a.faults b.faults steps steps' (Err fault) =
     subst (λ p. Hears (talk_of w f) p input_limit source.left source'.left source.faults source'.faults a.written b.written a.faults b.faults steps steps' (Err fault)) zero h₀ in
-    let cut : Writes {T = Unit {0}} a b (text_from (talk_of w f) 0 (lines_heard quits h.way h.bytes)) (Err fault) = record { ok = tt; err = h.sends.err; cause = h.sends.cause; count = h.sends.count } in
+    let cut : Writes {T = Unit {0}} a b (text_from (talk_of w f) 0 (lines_heard quits h.way h.bytes)) (Err fault) = record { ok = tt; err = h.sends.err; cause = h.sends.cause; steady = tt; count = h.sends.count } in
     heard_so w f source source' a b _ _ _ _ steps steps' 7 (Err fault) h h.taken
-    (Err fault, sends_part {T = Unit {0}} a.written b.written a.faults b.faults _ (way_line h.way) fault cut, refl)
+    (Err fault, writes_part a b _ (way_line h.way) fault cut, refl)
 
 -- ---- what a tape that is such a sink was told
 
@@ -162,10 +163,10 @@ lines_cut first others event =
     ∙ ap (λ r. event_lines first ++ r) (ap (λ l. l ++ event_lines others) (one_line event) ∙ sym (lines_both (event ∷ []) others))
     ∙ sym (lines_both first (event ∷ others))
 
-pub part_told : (a b c : Option (List ℕ)) (x y : List Aim) (events first others : List Event) (event : Event) → events ≡ first ++ event ∷ others → HasTold a b x y first → AppendsPart b c (event_text event) → AppendsPart a c (event_lines events)
+pub part_told : (a b c : Sunk) (x y : List Aim) (events first others : List Event) (event : Event) → events ≡ first ++ event ∷ others → HasTold a b x y first → AppendsPart b.written c.written (event_text event) → AppendsPart a.written c.written (event_lines events)
 part_told a b c x y events first others event e told part =
     rw (ap event_lines e ∙ sym (lines_cut first others event))
-    (part_of_longer a c (event_lines first ++ event_text event) (event_lines others) (part_behind a b c (event_lines first) (event_text event) told.written part))
+    (part_of_longer a.written c.written (event_lines first ++ event_text event) (event_lines others) (part_behind a.written b.written c.written (event_lines first) (event_text event) told.written part))
 
 -- what stands of a tape that took all events, took some and missed one, or found no memory and is as it was
 pub told_all : {T : Type 0} (took : T → List Event → T → Type 0) (missed : T → Event → T → Type 0) (x y : T) (f g : ℕ) (events : List Event) (P : Type 0) (s t : State) (r : Result Ran RunFault)
@@ -176,15 +177,15 @@ told_all took missed x y f g events P s t (Err Sink) h k l told m = k told.err
 told_all took missed x y f g events P s t (Err Exhausted) h k l told m = l m.1
 
 pub told_runs : {T : Type 0} (took : T → List Event → T → Type 0) (missed : T → Event → T → Type 0) (x y : T) (stats : Bool) (w : Setting) (s t : State) (before after : List Aim) (a b : Sunk) (steps steps' : ℕ) (r : Result Ran RunFault)
-    → (took x (run_shown w s) y → HasTold a.written b.written before after (run_shown w s))
+    → (took x (run_shown w s) y → HasTold a b before after (run_shown w s))
     → (FailsAmong took missed x y (run_shown w s) → AppendsPart a.written b.written (event_lines (run_shown w s))) → (y ≡ x → b ≡ a)
     → IfSome (answered r) (Tells took missed x y a.faults b.faults (run_shown w s)) → IfOk r (IsRanFor stats w s) → IfOk r (λ ran. t ≡ last_state w s)
     → IsOnRun w s t → steps' + s.cycle ≡ steps + t.cycle → OnMemory r ((t ≡ s) × (y ≡ x)) → RunsTo stats w s t before after a b steps steps' r
 told_runs took missed x y stats w s t before after a b steps steps' (Ok v) h k l told ran state on count m =
     let all = h told.ok in
-    record { sends = record { ok = all.written; err = tt; cause = tt; count = told.count }; heard = all.heard; ran = ran; state = state; on_run = on; counted = count; memory = tt }
+    record { sends = record { ok = all.written; err = tt; cause = tt; steady = all.steady; count = told.count }; heard = all.heard; ran = ran; state = state; on_run = on; counted = count; memory = tt }
 told_runs took missed x y stats w s t before after a b steps steps' (Err Sink) h k l told ran state on count m =
-    record { sends = record { ok = tt; err = k told.err; cause = told.cause; count = told.count }; heard = tt; ran = tt; state = tt; on_run = on; counted = count; memory = tt }
+    record { sends = record { ok = tt; err = k told.err; cause = told.cause; steady = tt; count = told.count }; heard = tt; ran = tt; state = tt; on_run = on; counted = count; memory = tt }
 told_runs took missed x y stats w s t before after a b steps steps' (Err Exhausted) h k l told ran state on count m =
     record { sends = tt; heard = tt; ran = tt; state = tt; on_run = on; counted = count; memory = (m.0, l m.1) }
 
@@ -237,7 +238,7 @@ pub run_ended : (stats : Bool) (w : Setting) (s t : State) (before after : List 
 run_ended stats w s t before after source a b c steps steps' status ran came is h₀ last =
     let h = subst (λ (r : Result Ran RunFault). RunsTo stats w s t before after a b steps steps' r) is h₀ in
     tells_said (run_reply stats before w s) source a c steps steps' status
-    (last.0, rw (sym (text_of_run stats w before after s t ran h.state h.ran h.heard)) (sends_then a.written b.written c.written a.faults b.faults c.faults _ _ last.0 h.sends.ok h.sends.count last.1), last.2)
+    (last.0, rw (sym (text_of_run stats w before after s t ran h.state h.ran h.heard)) (writes_then a b c _ _ ran last.0 h.sends last.1), last.2)
     (run_counted w s t steps steps' status h.on_run h.counted (λ e. h.state))
 
 -- the sink failed at an event
@@ -246,9 +247,9 @@ pub run_cut : (stats : Bool) (w : Setting) (s t : State) (before after : List Ai
 run_cut stats w s t before after source a b steps steps' came is h₀ =
     let h = subst (λ (r : Result Ran RunFault). RunsTo stats w s t before after a b steps steps' r) is h₀ in
     let fault : SinkFault = record {} in
-    let cut : Writes {T = Unit {0}} a b (event_lines (run_shown w s)) (Err fault) = record { ok = tt; err = h.sends.err; cause = h.sends.cause; count = h.sends.count } in
+    let cut : Writes {T = Unit {0}} a b (event_lines (run_shown w s)) (Err fault) = record { ok = tt; err = h.sends.err; cause = h.sends.cause; steady = tt; count = h.sends.count } in
     tells_said (run_reply stats before w s) source a b steps steps' 7
-    (Err fault, rw (sym (run_begins stats w before s)) (sends_part {T = Unit {0}} a.written b.written a.faults b.faults _ _ fault cut), refl)
+    (Err fault, rw (sym (run_begins stats w before s)) (writes_part a b _ _ fault cut), refl)
     (run_counted w s t steps steps' 7 h.on_run h.counted (λ e. absurd (omega (arith, e))))
 
 -- memory ran out before the run

@@ -1,6 +1,8 @@
 -- What a call answered, took, wrote and counted: the project's own.
-use Rattle.std.specs.Prelude.{◌≡◌, ◌⊎◌, ℕ, ◌+◌, ◌≤◌, List, Option, Result, Ok, Err, codes}
-use Rattle.trace_text.specs.Sent.{Sends}
+use Rattle.std.specs.Prelude.{◌≡◌, ◌⊎◌, ℕ, ◌+◌, ◌≤◌, List, Option, Result, Ok, Err, OnOk, OnErr, codes}
+use Rattle.rp_ports.specs.Fault.{Rose}
+use Rattle.rp_ports.specs.Sink.{Appends}
+use Rattle.trace_text.specs.Sent.{AppendsPart}
 use Rattle.trace_text.specs.declared.writer.SinkFault.{SinkFault}
 use Rattle.command_words.specs.Words.{Command}
 use Rattle.command_words.specs.Refusals.{line_of, status_of}
@@ -18,9 +20,13 @@ abbrev pub sent_status : Result (Unit {0}) SinkFault → ℕ → ℕ
 sent_status (Ok done) status = status
 sent_status (Err fault) status = 7
 
--- a text was written, or in part, and the sink failed
-abbrev pub Writes : {T E : Type 0} → Sunk → Sunk → List ℕ → Result T E → Type 0
-Writes a b text sent = Sends a.written b.written a.faults b.faults text sent
+-- At Ok a text was written, and no put failed. At Err a part of it was, and the sink's count of faults rose. The count never falls.
+pub record Writes {T E : Type 0} (a b : Sunk) (text : List ℕ) (sent : Result T E) : Type 0 where
+  pub ok : OnOk sent (Appends a.written b.written text)
+  pub err : OnErr sent (AppendsPart a.written b.written text)
+  pub cause : OnErr sent (Rose a.faults b.faults)
+  pub steady : OnOk sent (b.faults ≡ a.faults)
+  pub count : a.faults ≤ b.faults
 
 -- a text was written with its status, or the sink failed, a part of it was written, and the status is 7
 abbrev pub Puts : Sunk → Sunk → ℕ → ℕ → List ℕ → Type 0

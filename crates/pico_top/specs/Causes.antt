@@ -3,7 +3,7 @@ use Rattle.std.specs.Prelude.{◌≡◌, ◌⊎◌, ℕ, Bool, List, Option, Non
 use Rattle.rp_ports.specs.Fault.{Rose}
 use Rattle.rp_ports.specs.Shelf.{Files}
 use Rattle.rp_ports.specs.Sink.{Appends}
-use Rattle.rp_ports.specs.Source.{Consumes}
+use Rattle.rp_ports.specs.Source.{Consumes, IsAtEnd}
 use Rattle.command_words.specs.Words.{Command}
 use Rattle.command_words.specs.Refusals.{Refusal, status_of}
 use Rattle.reverse_debug.specs.declared.way.Way.{Way}
@@ -84,13 +84,14 @@ pub record HasSaid (d : Dialogue) (before after : Outside) (status : ℕ) : Type
   pub zero : status ≡ 0
   pub written : Appends before.sink.written after.sink.written reply.text
 
--- the answers to all that was heard were written, with status 0: up to a last line, or to the end of the input
+-- the answers to all that was heard were written, with status 0: up to a last line, or to the end of the input, of which nothing is
+-- left then
 pub record HasAnswered (d : Dialogue) (before after : Outside) (status : ℕ) : Type 0 where
   pub bytes : List ℕ
   pub way : Way
   pub reply : Reply
   pub walked : Walks before.files d (Heard bytes way reply)
-  pub whole : (way ≡ Closed) ⊎ (way ≡ Ended)
+  pub whole : (way ≡ Closed) ⊎ ((way ≡ Ended) × IsAtEnd after.source.left)
   pub taken : Consumes before.source.left after.source.left bytes
   pub zero : status ≡ 0
   pub written : Appends before.sink.written after.sink.written reply.text

@@ -11,11 +11,13 @@ use Rattle.trace_text.specs.Line.{event_text}
 use Rattle.board_parts.specs.Hearing.{Aim, after_hearing}
 use Rattle.board_parts.specs.declared.change.PinChange.{PinChange}
 use Rattle.board_parts.proofs.Hearing.{hears_in_turn}
+use Rattle.pico_top.specs.Call.{Sunk}
 use Rattle.pico_top.specs.RunText.{event_lines, change_in, after_events}
 
--- Their lines stand behind what was written before, and the probes heard the changes of pins among them.
-pub record HasTold (old new : Option (List ℕ)) (before after : List Aim) (events : List Event) : Type 0 where
-  pub written : Appends old new (event_lines events)
+-- Their lines stand behind what was written before, no put failed, and the probes heard the changes of pins among them.
+pub record HasTold (a b : Sunk) (before after : List Aim) (events : List Event) : Type 0 where
+  pub written : Appends a.written b.written (event_lines events)
+  pub steady : b.faults ≡ a.faults
   pub heard : after ≡ after_events events before
 
 -- ---- no events, and some behind others
@@ -66,17 +68,18 @@ pub appends_none : (a : Option (List ℕ)) → Appends a a []
 appends_none None = refl
 appends_none (Some w) = ap Some (sym (append-nil w))
 
-pub told_none : (a : Option (List ℕ)) (x : List Aim) → HasTold a a x x []
-told_none a x = record { written = rw no_lines (appends_none a); heard = sym (after_none x) }
+pub told_none : (a : Sunk) (x : List Aim) → HasTold a a x x []
+told_none a x = record { written = rw no_lines (appends_none a.written); steady = refl; heard = sym (after_none x) }
 
-pub told_both : (a b c : Option (List ℕ)) (x y z : List Aim) (first second : List Event) → HasTold a b x y first → HasTold b c y z second → HasTold a c x z (first ++ second)
+pub told_both : (a b c : Sunk) (x y z : List Aim) (first second : List Event) → HasTold a b x y first → HasTold b c y z second → HasTold a c x z (first ++ second)
 told_both a b c x y z first second h k = record {
-  written = rw (lines_both first second) (appends_both a b c (event_lines first) (event_lines second) h.written k.written);
+  written = rw (lines_both first second) (appends_both a.written b.written c.written (event_lines first) (event_lines second) h.written k.written);
+  steady = k.steady ∙ h.steady;
   heard = k.heard ∙ ap (after_events second) h.heard ∙ sym (after_both first second x);
 }
 
-pub told_one : (a b : Option (List ℕ)) (x y : List Aim) (event : Event) → Appends a b (event_text event) → y ≡ after_events (event ∷ []) x → HasTold a b x y (event ∷ [])
-told_one a b x y event h k = record { written = rw (sym (one_line event)) h; heard = k }
+pub told_one : (a b : Sunk) (x y : List Aim) (event : Event) → Appends a.written b.written (event_text event) → b.faults ≡ a.faults → y ≡ after_events (event ∷ []) x → HasTold a b x y (event ∷ [])
+told_one a b x y event h s k = record { written = rw (sym (one_line event)) h; steady = s; heard = k }
 
 -- ---- an event that was heard
 

@@ -67,12 +67,13 @@ impl<'a, O: Sink> Tape for Teller<'a, O> {
     ghost use Rattle.trace_text.specs.Line.{event_text};
     ghost use Rattle.trace_text.specs.Sent.{AppendsPart};
     ghost use Rattle.board_parts.specs.Hearing.{aim_of, seen};
+    ghost use Rattle.pico_top.specs.Call.{sunk};
     ghost use Rattle.pico_top.specs.Teller.{HasTold, told_none, told_both};
 
     ghost faults = { λ teller. O.faults teller.out.now };
 
     ghost took = { λ old events new.
-        HasTold (O.written old.out.now) (O.written new.out.now)
+        HasTold (sunk ⟦<O as Sink>⟧ old.out.now) (sunk ⟦<O as Sink>⟧ new.out.now)
         (seen old.probes.now (λ a. aim_of a.index a.pin (Probe-box a.probe) a.probe.value))
         (seen new.probes.now (λ a. aim_of a.index a.pin (Probe-box a.probe) a.probe.value)) events
         × (new.out.ghost_name ≡ old.out.ghost_name)

@@ -1,7 +1,8 @@
 use Rattle.board_parts.proofs.Viewing.{viewed}
 use Rattle.pico_top.specs.RunText.{probe_lines}
 use Rattle.pico_top.specs.Teller.{appends_none}
-use Rattle.pico_top.proofs.Names.{◌≡◌, ◌<◌, List, [], ◌∷◌, ◌++◌, length, Result, Ok, Err, ap, arith, Aim, aim_text, seen, SinkFault, Sunk, Writes, sunk, err_from_is_err_and, sends_then, sends_part}
+use Rattle.pico_top.proofs.Names.{◌≡◌, ◌<◌, List, [], ◌∷◌, ◌++◌, length, Result, Ok, Err, ap, arith, Aim, aim_text, seen, SinkFault, Sunk, Writes, sunk, err_from_is_err_and, refl}
+use Rattle.pico_top.proofs.Writing.{writes_then, writes_part}
 use Rattle.pico_top.proofs.send.+send_probes.Goals as goal
 
 -- the lines of probes are that of the first one and those of the others
@@ -11,16 +12,16 @@ lines_next aims rest a is = ap probe_lines is
 
 none_sent : {A : Type 0} (view : A → Aim) (list : List A) (x : Sunk) → length list < 1 → Writes {T = Unit {0}} {E = SinkFault} x x (probe_lines (seen list view)) (Ok tt)
 unfolding probe_lines
-none_sent view [] x lt = record { ok = appends_none x.written; err = tt; cause = tt; count = omega arith }
+none_sent view [] x lt = record { ok = appends_none x.written; err = tt; cause = tt; steady = refl; count = omega arith }
 none_sent view (a ∷ list) x lt = absurd (omega (arith, lt))
 
 next_cut : (aims rest : List Aim) (a : Aim) (x y : Sunk) (fault : SinkFault) → aims ≡ a ∷ rest → Writes {T = Unit {0}} x y (aim_text a) (Err fault) → Writes {T = Unit {0}} x y (probe_lines aims) (Err fault)
-next_cut aims rest a x y fault is cut = rw (lines_next aims rest a is) (sends_part x.written y.written x.faults y.faults (aim_text a) (probe_lines rest) fault cut)
+next_cut aims rest a x y fault is cut = rw (lines_next aims rest a is) (writes_part x y (aim_text a) (probe_lines rest) fault cut)
 
 next_sent : (aims rest : List Aim) (a : Aim) (x y z : Sunk) (done : Unit {0}) (r : Result (Unit {0}) SinkFault) → aims ≡ a ∷ rest
     → Writes {E = SinkFault} x y (aim_text a) (Ok done) → Writes y z (probe_lines rest) r → Writes x z (probe_lines aims) r
 next_sent aims rest a x y z done r is first others =
-    rw (lines_next aims rest a is) (sends_then x.written y.written z.written x.faults y.faults z.faults (aim_text a) (probe_lines rest) r first.ok first.count others)
+    rw (lines_next aims rest a is) (writes_then x y z (aim_text a) (probe_lines rest) done r first others)
 
 pub returns-in_err-send_probe-in-len1-up : goal.returns-in_err-send_probe-in-len1-up
 returns-in_err-send_probe-in-len1-up g t c =
