@@ -163,10 +163,10 @@ lines_cut first others event =
     ∙ ap (λ r. event_lines first ++ r) (ap (λ l. l ++ event_lines others) (one_line event) ∙ sym (lines_both (event ∷ []) others))
     ∙ sym (lines_both first (event ∷ others))
 
-pub part_told : (a b c : Sunk) (x y : List Aim) (events first others : List Event) (event : Event) → events ≡ first ++ event ∷ others → HasTold a b x y first → AppendsPart b.written c.written (event_text event) → AppendsPart a.written c.written (event_lines events)
+pub part_told : (a b : Sunk) (c : Option (List ℕ)) (x y : List Aim) (events first others : List Event) (event : Event) → events ≡ first ++ event ∷ others → HasTold a b x y first → AppendsPart b.written c (event_text event) → AppendsPart a.written c (event_lines events)
 part_told a b c x y events first others event e told part =
     rw (ap event_lines e ∙ sym (lines_cut first others event))
-    (part_of_longer a.written c.written (event_lines first ++ event_text event) (event_lines others) (part_behind a.written b.written c.written (event_lines first) (event_text event) told.written part))
+    (part_of_longer a.written c (event_lines first ++ event_text event) (event_lines others) (part_behind a.written b.written c (event_lines first) (event_text event) told.written part))
 
 -- what stands of a tape that took all events, took some and missed one, or found no memory and is as it was
 pub told_all : {T : Type 0} (took : T → List Event → T → Type 0) (missed : T → Event → T → Type 0) (x y : T) (f g : ℕ) (events : List Event) (P : Type 0) (s t : State) (r : Result Ran RunFault)
