@@ -39,7 +39,7 @@ pub use Rattle.std.proofs.Common.{Bool, Err, Global, IfErr, IfOk, IfSome, IsSome
 pub use Rattle.std.proofs.lemmas.List.{append-nil, at_drop_all, at_drop_more, length-map, take_at}
 pub use Rattle.std.proofs.lemmas.Result.{IfOk-weaker, err_from_is_err_and}
 pub use Rattle.thumb_asm.specs.Source.{image_of_source}
-pub use Rattle.trace_text.proofs.Sending.{SentTo, part_behind, part_of_longer, sends_part, sends_then, sent_on, sent_part}
+pub use Rattle.trace_text.proofs.Sending.{SentTo, part_behind, part_of_longer, sent_on, sent_part}
 pub use Rattle.trace_text.specs.declared.writer.SinkFault.{SinkFault}
 pub use Rattle.uf2_image.specs.Uf2.{image_of}
 pub use Rattle.uf2_image.specs.declared.parts.Image.{Image}

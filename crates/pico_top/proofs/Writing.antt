@@ -1,5 +1,5 @@
 -- Texts that were written one after another.
-use Rattle.pico_top.proofs.Names.{List, ℕ, ◌++◌, ◌≤◌, arith, Result, Ok, Err, subst, ◌∙◌, Sunk, Writes, part_behind, part_of_longer}
+use Rattle.pico_top.proofs.Names.{List, ℕ, ◌++◌, arith, Result, Ok, Err, subst, ◌∙◌, Sunk, Writes, part_behind, part_of_longer}
 use Rattle.rp_ports.specs.Fault.{Rose}
 use Rattle.rp_ports.proofs.Pieces.{appends_both}
 
