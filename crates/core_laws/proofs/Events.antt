@@ -6,8 +6,7 @@ use Rattle.rp_base.specs.declared.Why.{Why}
 use Rattle.rp_base.specs.declared.Why.TheVariants as why
 use Rattle.m0_beats.specs.declared.registers.Regs.{Regs}
 use Rattle.m0_beats.specs.declared.timing.Beat.TheVariants.{Inner}
-use Rattle.m0_beats.specs.Beats.{beats_of}
-use Rattle.m0_beats.specs.Effects.{return_of}
+use Rattle.m0_beats.specs.Instructions.{beats_of, return_of}
 use Rattle.m0_nvic.specs.Priority.{wakes_of}
 use Rattle.m0_nvic.specs.Cycle as nvic
 use Rattle.lane_look.specs.declared.lane.Ask.TheVariants.{Lines}

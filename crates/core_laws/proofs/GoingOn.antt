@@ -12,7 +12,7 @@ use Rattle.rp_base.specs.Map.{place_of}
 use Rattle.m0_beats.specs.declared.registers.Regs.{Regs}
 use Rattle.m0_beats.specs.declared.timing.Beat.{Beat}
 use Rattle.m0_beats.specs.declared.timing.Beat.TheVariants.{Inner, Access}
-use Rattle.m0_beats.specs.Beats.{beats_of}
+use Rattle.m0_beats.specs.Instructions.{beats_of}
 use Rattle.m0_nvic.specs.Words.{is_allowed}
 use Rattle.lane_look.specs.declared.lane.Want.TheVariants as want
 use Rattle.lane_look.specs.Asking.{answered}

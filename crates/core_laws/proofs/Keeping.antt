@@ -1,18 +1,17 @@
 -- What every instruction keeps of the registers.
 use Rattle.std.proofs.Common.{◌≡◌, ◌∙◌, ℕ, ◌+◌, ◌*◌, ◌/◌, ◌==◌, ◌&&◌, Bool, true, false, cond, List, [], ◌∷◌, length, refl, sym, ap, arith, true≢false, nat_lt}
-use Rattle.std.specs.Prelude.{Option, Some, None, slice_index, slice_set}
+use Rattle.std.specs.Prelude.{◌^◌, slice_index, slice_set}
 use Rattle.std.proofs.lemmas.List.{length-set}
-use Rattle.rp_base.specs.Word.{has_bit}
+use Rattle.rp_base.specs.Word.{bit_number, has_bit}
 use Rattle.rp_base.specs.declared.op.Op.{Op}
+use Rattle.rp_base.specs.declared.op.Op.TheVariants as op
 use Rattle.m0_beats.specs.declared.registers.Regs.{Regs}
-use Rattle.m0_beats.specs.declared.rows.Action.{Action}
-use Rattle.m0_beats.specs.declared.rows.Action.TheVariants as act
-use Rattle.m0_beats.specs.Registers.{is_thread, with_sp, with_pc, with_register, moved_on, with_sign}
+use Rattle.m0_beats.specs.Registers.{is_thread, with_sp, with_pc, with_register, moved_on}
 use Rattle.m0_beats.specs.Special.{with_special}
 use Rattle.m0_beats.specs.Conditions.{condition_holds, is_exception_return}
-use Rattle.m0_beats.specs.Rows.{action_of}
 use Rattle.m0_beats.specs.Beats.{registers_of}
-use Rattle.m0_beats.specs.Effects.{effect_of, effect_of_action, with_result, branched, exchanged, with_loaded, with_all_loaded, with_sum_flags}
+use Rattle.m0_beats.specs.Effects.{branched, exchanged, with_loaded, with_all_loaded}
+use Rattle.m0_beats.specs.Instructions.{effect_of}
 
 -- stack pointers stay multiples of 4 and PC even; the mode stays, and SPSEL in Handler mode
 pub record Keeps (r t : Regs) : Type 0 where
@@ -81,32 +80,20 @@ moved r half = record {
   selection = λ h. refl;
 }
 
--- ---- actions
+-- ---- instructions
 
-result : (r : Regs) (d : Option ℕ) (v : ℕ) → Keeps r (with_result r d v)
-result r None v = self r
-result r (Some d) v = register_set r d v
+-- a register takes a value, behind an instruction of so many halfwords, and with these flags
+sets : (r : Regs) (half d v : ℕ) (n z c o : Bool) → Keeps r (with_register (record (moved_on r (half * 2)) { n = n; z = z; c = c; v = o }) d v)
+sets r half d v n z c o =
+    let m = moved_on r (half * 2) in
+    let f = record m { n = n; z = z; c = c; v = o } in
+    then r m _ (moved r half) (then m f _ (flags m n z c o m.t m.primask m.lr) (register_set f d v))
 
-value : (r : Regs) (half d v : ℕ) → Keeps r (with_register (moved_on r (half * 2)) d v)
-value r half d v = then r (moved_on r (half * 2)) _ (moved r half) (register_set (moved_on r (half * 2)) d v)
+compares : (r : Regs) (n z c o : Bool) → Keeps r (record (moved_on r 2) { n = n; z = z; c = c; v = o })
+compares r n z c o = let m = moved_on r 2 in then r m _ (moved r 1) (flags m n z c o m.t m.primask m.lr)
 
-summed : (r : Regs) (d : Option ℕ) (out : ℕ × Bool × Bool) → Keeps r (with_result (with_sum_flags (moved_on r 2) out) d out.0)
-summed r d out =
-    let m = moved_on r 2 in
-    let f = with_sum_flags m out in
-    then r m _ (moved r 1) (then m f _ (flags m f.n f.z f.c f.v m.t m.primask m.lr) (result f d out.0))
-
-worded : (r : Regs) (d : Option ℕ) (v : ℕ) → Keeps r (with_result (with_sign (moved_on r 2) v) d v)
-worded r d v =
-    let m = moved_on r 2 in
-    let f = with_sign m v in
-    then r m _ (moved r 1) (then m f _ (flags m f.n f.z m.c m.v m.t m.primask m.lr) (result f d v))
-
-shifts : (r : Regs) (d : ℕ) (out : ℕ × Bool) → Keeps r (with_register (record (with_sign (moved_on r 2) out.0) { c = out.1 }) d out.0)
-shifts r d out =
-    let m = moved_on r 2 in
-    let f = record (with_sign m out.0) { c = out.1 } in
-    then r m _ (moved r 1) (then m f _ (flags m f.n f.z out.1 m.v m.t m.primask m.lr) (register_set f d out.0))
+masks : (r : Regs) (set : Bool) → Keeps r (record (moved_on r 2) { primask = set })
+masks r set = let m = moved_on r 2 in then r m _ (moved r 1) (flags m m.n m.z m.c m.v m.t set m.lr)
 
 exchange : (r : Regs) (v : ℕ) → Keeps r (exchanged r v)
 exchange r v =
@@ -136,43 +123,54 @@ special r number v =
 branches : (r : Regs) (offset : ℕ) → Keeps r (branched offset r)
 branches r offset = pc_set r _
 
-keeps_action : (a : Action) (r : Regs) (read : List ℕ) → Keeps r (effect_of_action a r read)
-keeps_action (act.Shift kind d m by) r read = shifts r d _
-keeps_action (act.Sum kind d x y) r read = summed r d _
-keeps_action (act.Word kind d x y) r read = worded r d _
-keeps_action (act.Extend kind d m) r read = value r 1 d _
-keeps_action (act.Move d m) r read = value r 1 d _
-keeps_action (act.Total d x y) r read = value r 1 d _
-keeps_action (act.LowerSp number) r read = value r 1 13 _
-keeps_action (act.Load t size sign x y) r read = value r 1 t _
-keeps_action (act.Store t size x y) r read = moved r 1
-keeps_action (act.LoadMany n list) r read =
+pub keeps_effect : (op : Op) (r : Regs) (read : List ℕ) → Keeps r (effect_of op r read)
+unfolding effect_of
+keeps_effect (op.CmpImm n i) r read = compares r _ _ _ _
+keeps_effect (op.Tst m n) r read = compares r _ _ _ _
+keeps_effect (op.Cmp m n) r read = compares r _ _ _ _
+keeps_effect (op.Cmn m n) r read = compares r _ _ _ _
+keeps_effect (op.CmpHigh n m) r read = compares r _ _ _ _
+keeps_effect (op.Bx m) r read = exchange r _
+keeps_effect (op.Blx m) r read = then r (with_pc r _) _ (pc_set r _) (flags (with_pc r _) r.n r.z r.c r.v _ r.primask _)
+keeps_effect (op.StrReg m n t) r read = moved r 1
+keeps_effect (op.StrhReg m n t) r read = moved r 1
+keeps_effect (op.StrbReg m n t) r read = moved r 1
+keeps_effect (op.StrImm i n t) r read = moved r 1
+keeps_effect (op.StrbImm i n t) r read = moved r 1
+keeps_effect (op.StrhImm i n t) r read = moved r 1
+keeps_effect (op.StrSp t i) r read = moved r 1
+keeps_effect (op.AddSpImm i) r read = sets r 1 13 _ _ _ _ _
+keeps_effect (op.SubSpImm i) r read = sets r 1 13 _ _ _ _ _
+keeps_effect (op.Push b l) r read = then r (moved_on r 2) _ (moved r 1) (sp_set (moved_on r 2) _)
+keeps_effect (op.Pop b l) r read =
+    let list = bit_number b * 2 ^ 15 + l in
+    let p = cond (has_bit list 15) r (moved_on r 2) in
+    then r p _ (either (has_bit list 15) r _ _ (self r) (moved r 1)) (then p (with_sp p _) _ (sp_set p _) (loads_all (with_sp p _) (registers_of list) read 0))
+keeps_effect op.Cpsie r read = masks r false
+keeps_effect op.Cpsid r read = masks r true
+keeps_effect (op.Bkpt i) r read = self r
+keeps_effect op.Nop r read = moved r 1
+keeps_effect op.Yield r read = moved r 1
+keeps_effect op.Wfe r read = moved r 1
+keeps_effect op.Wfi r read = moved r 1
+keeps_effect op.Sev r read = moved r 1
+keeps_effect (op.Stm n l) r read = sets r 1 n _ _ _ _ _
+keeps_effect (op.Ldm n list) r read =
     let m = moved_on r 2 in
     let l = with_all_loaded m (registers_of list) read 0 in
     let loaded = then r m l (moved r 1) (loads_all m (registers_of list) read 0) in
     either (has_bit list n) r _ _ loaded (then r l _ loaded (register_set l n _))
-keeps_action (act.StoreMany n list) r read = value r 1 n _
-keeps_action (act.Push list) r read = then r (moved_on r 2) _ (moved r 1) (sp_set (moved_on r 2) _)
-keeps_action (act.Pop list) r read =
-    let p = cond (has_bit list 15) r (moved_on r 2) in
-    then r p _ (either (has_bit list 15) r _ _ (self r) (moved r 1)) (then p (with_sp p _) _ (sp_set p _) (loads_all (with_sp p _) (registers_of list) read 0))
-keeps_action (act.Branch offset) r read = branches r offset
-keeps_action (act.BranchIf condition offset) r read = either (condition_holds condition r) r _ _ (branches r offset) (moved r 1)
-keeps_action (act.BranchLink offset) r read =
+keeps_effect (op.BCond c i) r read = either (condition_holds c r) r _ _ (branches r _) (moved r 1)
+keeps_effect (op.Udf i) r read = self r
+keeps_effect (op.Svc i) r read = moved r 1
+keeps_effect (op.B i) r read = branches r _
+keeps_effect (op.Bl s i j) r read =
     let l = record r { lr = _ } in
-    then r l _ (flags r r.n r.z r.c r.v r.t r.primask _) (branches l offset)
-keeps_action (act.Exchange m) r read = exchange r _
-keeps_action (act.ExchangeLink m) r read = then r (with_pc r _) _ (pc_set r _) (flags (with_pc r _) r.n r.z r.c r.v _ r.primask _)
-keeps_action (act.ReadSpecial d number) r read = value r 2 d _
-keeps_action (act.WriteSpecial n number) r read = then r (moved_on r 4) _ (moved r 2) (special (moved_on r 4) number _)
-keeps_action (act.Mask set) r read =
-    let m = moved_on r 2 in
-    then r m _ (moved r 1) (flags m m.n m.z m.c m.v m.t set m.lr)
-keeps_action act.Barrier r read = moved r 2
-keeps_action act.Pause r read = moved r 1
-keeps_action act.Nothing r read = moved r 1
-keeps_action act.Never r read = self r
-
-pub keeps_effect : (op : Op) (r : Regs) (read : List ℕ) → Keeps r (effect_of op r read)
-unfolding effect_of
-keeps_effect op r read = keeps_action (action_of op) r read
+    then r l _ (flags r r.n r.z r.c r.v r.t r.primask _) (branches l _)
+keeps_effect (op.Msr n s) r read = then r (moved_on r 4) _ (moved r 2) (special (moved_on r 4) s _)
+keeps_effect (op.Mrs d s) r read = sets r 2 d _ _ _ _ _
+keeps_effect op.Dsb r read = moved r 2
+keeps_effect op.Dmb r read = moved r 2
+keeps_effect op.Isb r read = moved r 2
+keeps_effect op.Undefined r read = self r
+keeps_effect _ r read = sets r 1 _ _ _ _ _ _

@@ -1,17 +1,16 @@
 -- No instruction reads more than 16 values.
-use Rattle.std.proofs.Common.{◌≡◌, ℕ, suc, ◌+◌, ◌≤◌, ◌==◌, ◌/◌, ◌%◌, ◌^◌, Bool, true, false, cond, nat_le, List, [], ◌∷◌, ◌++◌, length, refl, ap, arith}
+use Rattle.std.proofs.Common.{◌≡◌, ℕ, suc, ◌+◌, ◌≤◌, ◌*◌, ◌==◌, ◌/◌, ◌%◌, ◌^◌, Bool, true, false, cond, nat_le, List, [], ◌∷◌, ◌++◌, length, refl, ap, arith}
 use Rattle.std.specs.Prelude.{Option, Some, None, map, filter}
-use Rattle.rp_base.specs.Word.{has_bit}
+use Rattle.rp_base.specs.Word.{bit_number, has_bit}
 use Rattle.rp_base.specs.declared.Request.{Request}
 use Rattle.rp_base.specs.declared.op.Op.{Op}
+use Rattle.rp_base.specs.declared.op.Op.TheVariants as op
 use Rattle.m0_beats.specs.declared.registers.Regs.{Regs}
-use Rattle.m0_beats.specs.declared.rows.Action.{Action}
-use Rattle.m0_beats.specs.declared.rows.Action.TheVariants as act
 use Rattle.m0_beats.specs.declared.timing.Beat.{Beat}
 use Rattle.m0_beats.specs.declared.timing.Beat.TheVariants.{Inner, Access}
 use Rattle.m0_beats.specs.Conditions.{condition_holds}
-use Rattle.m0_beats.specs.Rows.{action_of}
-use Rattle.m0_beats.specs.Beats.{beats_of, beats_of_action, registers_of, accesses, single, pop_end, address_of, push_address}
+use Rattle.m0_beats.specs.Beats.{registers_of, accesses, single, pop_end}
+use Rattle.m0_beats.specs.Instructions.{beats_of}
 use Rattle.m0_beats.specs.Registers.{register_of, sp_of}
 
 -- how many of these beats read
@@ -84,18 +83,32 @@ reading-pop : (address list : ℕ) → reading (Inner ∷ (accesses address (map
 reading-pop address list =
     omega (arith, reading-append (accesses address (map (λ k. None) (registers_of list))) (pop_end list), reading-list (λ k. None) list address, reading-end (has_bit list 15))
 
-reading-action : (a : Action) (s : Regs) → reading (beats_of_action a s) ≤ 16
-reading-action (act.Move d m) s = reading-to (nat_le 15 d)
-reading-action (act.Total d x y) s = reading-to (nat_le 15 d)
-reading-action (act.BranchIf c offset) s = reading-to (condition_holds c s)
-reading-action (act.Load t size sign x y) s = reading-single (address_of x y s) _
-reading-action (act.Store t size x y) s = reading-single (address_of x y s) _
-reading-action (act.LoadMany n list) s = reading-many (λ k. None) list (register_of s n)
-reading-action (act.StoreMany n list) s = reading-many (λ k. Some (register_of s k)) list (register_of s n)
-reading-action (act.Push list) s = reading-many (λ k. Some (register_of s k)) list (push_address list s)
-reading-action (act.Pop list) s = reading-pop (sp_of s) list
-reading-action _ s = omega arith
-
 pub reading-le : (op : Op) (s : Regs) → reading (beats_of op s) ≤ 16
 unfolding beats_of
-reading-le op s = reading-action (action_of op) s
+reading-le (op.AddHigh d m) s = reading-to (nat_le 15 d)
+reading-le (op.MovHigh d m) s = reading-to (nat_le 15 d)
+reading-le (op.Adr d i) s = reading-to (nat_le 15 d)
+reading-le (op.AddSp d i) s = reading-to (nat_le 15 d)
+reading-le (op.BCond c i) s = reading-to (condition_holds c s)
+reading-le (op.LdrLit t i) s = reading-single _ _
+reading-le (op.StrReg m n t) s = reading-single _ _
+reading-le (op.StrhReg m n t) s = reading-single _ _
+reading-le (op.StrbReg m n t) s = reading-single _ _
+reading-le (op.LdrsbReg m n t) s = reading-single _ _
+reading-le (op.LdrReg m n t) s = reading-single _ _
+reading-le (op.LdrhReg m n t) s = reading-single _ _
+reading-le (op.LdrbReg m n t) s = reading-single _ _
+reading-le (op.LdrshReg m n t) s = reading-single _ _
+reading-le (op.StrImm i n t) s = reading-single _ _
+reading-le (op.LdrImm i n t) s = reading-single _ _
+reading-le (op.StrbImm i n t) s = reading-single _ _
+reading-le (op.LdrbImm i n t) s = reading-single _ _
+reading-le (op.StrhImm i n t) s = reading-single _ _
+reading-le (op.LdrhImm i n t) s = reading-single _ _
+reading-le (op.StrSp t i) s = reading-single _ _
+reading-le (op.LdrSp t i) s = reading-single _ _
+reading-le (op.Push r l) s = reading-many (λ k. Some (register_of s k)) (bit_number r * 2 ^ 14 + l) _
+reading-le (op.Pop r l) s = reading-pop (sp_of s) (bit_number r * 2 ^ 15 + l)
+reading-le (op.Stm n l) s = reading-many (λ k. Some (register_of s k)) l (register_of s n)
+reading-le (op.Ldm n l) s = reading-many (λ k. None) l (register_of s n)
+reading-le _ s = omega arith

@@ -21,8 +21,8 @@ use Rattle.m0_beats.specs.declared.registers.Regs.{Regs}
 use Rattle.m0_beats.specs.declared.timing.Beat.{Beat}
 use Rattle.m0_beats.specs.declared.timing.Beat.TheVariants.{Inner, Access}
 use Rattle.m0_beats.specs.Registers.{is_thread}
-use Rattle.m0_beats.specs.Beats.{access, beats_of}
-use Rattle.m0_beats.specs.Effects.{effect_of, return_of}
+use Rattle.m0_beats.specs.Beats.{access}
+use Rattle.m0_beats.specs.Instructions.{beats_of, effect_of, return_of}
 use Rattle.m0_nvic.specs.Exceptions.{HARDFAULT}
 use Rattle.m0_nvic.specs.State.{Exceptions}
 use Rattle.m0_nvic.specs.Numbers.{is_number, is_member, minus}

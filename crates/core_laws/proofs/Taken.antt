@@ -12,8 +12,7 @@ use Rattle.rp_base.specs.declared.Why.TheVariants as why
 use Rattle.rp_base.specs.Word.{has_bit}
 use Rattle.m0_beats.specs.declared.registers.Regs.{Regs}
 use Rattle.m0_beats.specs.declared.timing.Beat.TheVariants.{Inner}
-use Rattle.m0_beats.specs.Beats.{beats_of}
-use Rattle.m0_beats.specs.Effects.{return_of}
+use Rattle.m0_beats.specs.Instructions.{beats_of, return_of}
 use Rattle.m0_nvic.specs.State.{Exceptions}
 use Rattle.m0_nvic.specs.Numbers.{is_member, members}
 use Rattle.m0_nvic.specs.Changes.{pended, with_pending}

@@ -9,7 +9,7 @@ use Rattle.rp_base.specs.Map.{place_of}
 use Rattle.m0_beats.specs.declared.registers.Regs.{Regs}
 use Rattle.m0_beats.specs.declared.timing.Beat.{Beat}
 use Rattle.m0_beats.specs.declared.timing.Beat.TheVariants.{Inner, Access}
-use Rattle.m0_beats.specs.Beats.{beats_of}
+use Rattle.m0_beats.specs.Instructions.{beats_of}
 use Rattle.m0_nvic.specs.Cycle as nvic
 use Rattle.lane_look.specs.declared.lane.Ask.TheVariants.{Lines}
 use Rattle.lane_look.specs.declared.lane.Want.{Want}

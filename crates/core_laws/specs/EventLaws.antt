@@ -4,7 +4,7 @@ use Rattle.std.specs.Prelude.{◌≡◌, ℕ, true, false, ◌||◌, [], Some, N
 use Rattle.rp_base.specs.declared.op.Op.TheVariants as op
 use Rattle.rp_base.specs.declared.Why.TheVariants as why
 use Rattle.lane_look.specs.declared.lane.Want.TheVariants as want
-use Rattle.m0_beats.specs.Effects.{effect_of}
+use Rattle.m0_beats.specs.Instructions.{effect_of}
 use Rattle.m0_nvic.specs.Priority.{wakes_of}
 use Rattle.m0_nvic.specs.Cycle as nvic
 use Rattle.m0_core.specs.declared.doing.Work.TheVariants as works

@@ -3,7 +3,7 @@
 use Rattle.std.specs.Prelude.{◌≡◌, ◌⊎◌, ℕ, Bool, true, false, ◌||◌, [], Some, None, bit_and, int_lt}
 use Rattle.rp_base.specs.declared.op.Op.{Op}
 use Rattle.rp_base.specs.declared.op.Op.TheVariants as op
-use Rattle.m0_beats.specs.Effects.{effect_of}
+use Rattle.m0_beats.specs.Instructions.{effect_of}
 use Rattle.m0_nvic.specs.Exceptions.{NMI, HARDFAULT}
 use Rattle.m0_nvic.specs.Numbers.{is_member}
 use Rattle.m0_nvic.specs.Changes.{pended}

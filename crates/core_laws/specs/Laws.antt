@@ -11,8 +11,7 @@ use Rattle.rp_base.specs.Map.{place_of}
 use Rattle.thumb_rows.specs.Rows.{begins_long, operation_of}
 use Rattle.m0_beats.specs.declared.timing.Beat.{Beat}
 use Rattle.m0_beats.specs.declared.timing.Beat.TheVariants.{Inner, Access}
-use Rattle.m0_beats.specs.Beats.{beats_of}
-use Rattle.m0_beats.specs.Effects.{effect_of, return_of}
+use Rattle.m0_beats.specs.Instructions.{beats_of, effect_of, return_of}
 use Rattle.m0_nvic.specs.State.{Exceptions}
 use Rattle.m0_nvic.specs.Words as words
 use Rattle.m0_nvic.specs.Cycle as nvic

@@ -7,9 +7,9 @@ use Rattle.thumb_rows.specs.Rows.{operation_of, rows}
 use Rattle.m0_alu.specs.Sum.{sum_of, carry_of, overflow_of}
 use Rattle.m0_beats.specs.declared.registers.Regs.{Regs}
 use Rattle.m0_beats.specs.declared.timing.Beat.TheVariants.{Inner}
-use Rattle.m0_beats.specs.Beats.{beats_of, access, single}
+use Rattle.m0_beats.specs.Beats.{access, single}
+use Rattle.m0_beats.specs.Instructions.{beats_of, effect_of, return_of}
 use Rattle.m0_beats.specs.Conditions.{is_exception_return}
-use Rattle.m0_beats.specs.Effects.{effect_of, return_of}
 use Rattle.m0_core.specs.Fetch.{is_ram}
 use Rattle.core_runs.specs.Bytes.{Holds, IsSram, word_from}
 use Rattle.core_runs.specs.Runs.{Steps}

@@ -10,11 +10,10 @@ use Rattle.m0_alu.specs.Sum.{sum_of, carry_of, overflow_of, unsigned_sum}
 use Rattle.m0_beats.specs.declared.registers.Regs.{Regs}
 use Rattle.m0_beats.specs.declared.timing.Beat.{Beat}
 use Rattle.m0_beats.specs.declared.timing.Beat.TheVariants.{Inner}
-use Rattle.m0_beats.specs.Beats.{beats_of, access, single}
+use Rattle.m0_beats.specs.Beats.{access, single}
+use Rattle.m0_beats.specs.Instructions.{beats_of, effect_of, return_of, sign_extended}
 use Rattle.m0_beats.specs.Conditions.{is_exception_return}
-use Rattle.m0_beats.specs.Effects.{effect_of, return_of}
 use Rattle.m0_beats.specs.Registers.{register_of, with_pc}
-use Rattle.m0_beats.specs.Rows.{sign_extended}
 use Rattle.m0_core.specs.Fetch.{is_ram}
 use Rattle.core_laws.specs.Laws.{half_at}
 use Rattle.core_runs.specs.Bytes.{put, answer, IsSram}

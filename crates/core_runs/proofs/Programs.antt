@@ -5,8 +5,8 @@ use Rattle.rp_base.specs.declared.op.Op.{Op}
 use Rattle.thumb_rows.specs.Rows.{begins_long, operation_of}
 use Rattle.m0_beats.specs.declared.registers.Regs.{Regs}
 use Rattle.m0_beats.specs.declared.timing.Beat.{Beat}
-use Rattle.m0_beats.specs.Beats.{beats_of, is_unaligned_beat, is_unaligned_of}
-use Rattle.m0_beats.specs.Effects.{effect_of, return_of}
+use Rattle.m0_beats.specs.Beats.{is_unaligned_beat}
+use Rattle.m0_beats.specs.Instructions.{beats_of, is_unaligned_of, effect_of, return_of}
 use Rattle.m0_core.specs.Fetch.{is_ram}
 use Rattle.core_laws.specs.Laws.{half_at, IsEncoded, IsFetched}
 use Rattle.core_runs.specs.Bytes.{answer}

@@ -8,8 +8,7 @@ use Rattle.rp_base.specs.Map.{place_of}
 use Rattle.m0_beats.specs.declared.registers.Regs.{Regs}
 use Rattle.m0_beats.specs.declared.timing.Beat.{Beat}
 use Rattle.m0_beats.specs.declared.timing.Beat.TheVariants.{Inner, Access}
-use Rattle.m0_beats.specs.Beats.{beats_of, is_unaligned_of}
-use Rattle.m0_beats.specs.Effects.{effect_of, return_of}
+use Rattle.m0_beats.specs.Instructions.{beats_of, is_unaligned_of, effect_of, return_of}
 use Rattle.m0_core.specs.Fetch.{is_ram_spot}
 use Rattle.m0_core.specs.Kinds.{is_breakpoint, is_signal, is_undefined, is_call, awaits_event, awaits_interrupt}
 use Rattle.core_laws.specs.Laws.{IsFetched}

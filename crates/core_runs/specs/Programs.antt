@@ -11,9 +11,9 @@ use Rattle.rp_base.specs.Word.{has_bit}
 use Rattle.thumb_rows.specs.Rows.{begins_long, operation_of}
 use Rattle.m0_beats.specs.declared.registers.Regs.{Regs}
 use Rattle.m0_beats.specs.declared.timing.Beat.{Beat}
-use Rattle.m0_beats.specs.Beats.{beats_of, is_unaligned_beat}
+use Rattle.m0_beats.specs.Beats.{is_unaligned_beat}
+use Rattle.m0_beats.specs.Instructions.{beats_of, effect_of, return_of}
 use Rattle.m0_beats.specs.Conditions.{is_exception_return}
-use Rattle.m0_beats.specs.Effects.{effect_of, return_of}
 use Rattle.m0_core.specs.Fetch.{is_ram, is_ram_spot}
 use Rattle.core_laws.specs.Laws.{half_at}
 use Rattle.core_runs.specs.Bytes.{put, Holds, IsSram, word_from, answer, bytes_of, stored_by}

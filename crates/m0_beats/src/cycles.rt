@@ -1,9 +1,9 @@
 //! How many beats an instruction has, by the timing table (ARM Cortex-M0+ Technical Reference Manual, 3.3).
 
 ghost use Rattle.std.specs.Prelude.{◌≡◌, ◌+◌, ◌-◌, ◌^◌, ◌<◌, ◌≤◌, true, nat_lt, length};
-ghost use Rattle.m0_beats.specs.Beats.{registers_of, is_one_access, beats_of};
-ghost use Rattle.m0_beats.specs.Rows.{action_of};
-ghost use Rattle.m0_beats.specs.Shapes.{beats_of_shape};
+ghost use Rattle.m0_beats.specs.Beats.{registers_of};
+ghost use Rattle.m0_beats.specs.Instructions.{beats_of};
+ghost use Rattle.m0_beats.specs.Shapes.{beats_of_shape, is_one_access};
 
 use crate::effects::is_listed;
 use crate::registers::Regs;
@@ -21,7 +21,7 @@ pub fn beat_count(op: &Op, regs: &Regs) -> usize
 /// A load or a store of one register.
 #[inline(always)]
 pub fn is_one_access(op: &Op) -> bool
-    ensures { result ≡ is_one_access (action_of op.now) }
+    ensures { result ≡ is_one_access op.now }
 {
     matches!(
         op,
@@ -48,7 +48,7 @@ pub fn is_one_access(op: &Op) -> bool
 /// Where so many beats of an instruction are done, and one more, it has another one. The second beat of a load or a store of one
 /// register is its last, whatever the address; and of a branch by an offset no row is looked up.
 #[inline(always)]
-#[tactic(auto, unfolding(crate::specs::Beats::beats_of))]
+#[tactic(auto, unfolding(crate::specs::Instructions::beats_of))]
 pub fn has_more(op: &Op, regs: &Regs, done: usize) -> bool
     ensures value { result ≡ nat_lt (done + 1) (length (beats_of op.now regs.now)) }
     ensures room { result ≡ true → done < 2 ^ 64 - 1 }

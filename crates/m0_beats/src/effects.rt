@@ -1,8 +1,10 @@
 //! What an instruction leaves in the registers and flags.
 
 ghost use Rattle.std.specs.Prelude.{◌≡◌, slice_index};
-ghost use Rattle.m0_beats.specs.Beats.{value_of, registers_of, bytes_of_list, push_address};
-ghost use Rattle.m0_beats.specs.Effects.{with_result, sum_result, with_sum_flags, after_sum, word_result, after_word, after_shift, after_value, loaded, exchanged, exchanged_link, with_loaded, with_all_loaded, base_after, after_load_many, after_store_many, after_push, after_pop, link_value, branched, branched_if, branched_link, after_read_special, after_write_special, after_mask, effect_of_action, effect_of, return_of};
+ghost use Rattle.m0_beats.specs.Beats.{registers_of, bytes_of_list, push_address};
+ghost use Rattle.m0_beats.specs.Actions.{value_of, sum_result, word_result, meaning_of_action};
+ghost use Rattle.m0_beats.specs.Instructions.{effect_of};
+ghost use Rattle.m0_beats.specs.Effects.{with_result, with_sum_flags, after_sum, after_word, after_shift, after_value, loaded, exchanged, exchanged_link, with_loaded, with_all_loaded, base_after, after_load_many, after_store_many, after_push, after_pop, link_value, branched, branched_if, branched_link, after_read_special, after_write_special, after_mask};
 ghost use Rattle.m0_beats.specs.Registers.{register_of};
 ghost use Rattle.rp_base.specs.Word.{has_bit};
 
@@ -15,7 +17,7 @@ use rp_base::op::Op;
 
 /// What the instruction at `regs.pc` leaves in registers and flags. `read` has the values that its access beats read, in
 /// their order, a narrow one zero-extended.
-#[tactic(auto, unfolding(crate::specs::Effects::effect_of))]
+#[tactic(auto, unfolding(crate::specs::Instructions::effect_of))]
 pub fn effect(op: &Op, regs: &mut Regs, read: &[u32])
     ensures { regs.new ≡ effect_of op.now regs.old read.now }
 {
@@ -25,7 +27,7 @@ pub fn effect(op: &Op, regs: &mut Regs, read: &[u32])
 
 /// What an action leaves.
 fn carry_out(action: &Action, regs: &mut Regs, read: &[u32])
-    ensures { regs.new ≡ effect_of_action action.now regs.old read.now }
+    ensures { regs.new ≡ (meaning_of_action action.now).effect regs.old read.now }
 {
     match *action {
         Action::Shift(kind, d, m, by) => {
@@ -66,7 +68,7 @@ fn carry_out(action: &Action, regs: &mut Regs, read: &[u32])
 impl Operand {
     /// The word of the operand.
     pub fn value(&self, regs: &Regs) -> u32
-        ensures { result ≡ value_of self.now regs.now }
+        ensures { result ≡ value_of self.now (register_of regs.now) }
     {
         match *self {
             Operand::Register(k) => regs.register(k),
@@ -88,7 +90,7 @@ impl Regs {
 
     /// A sum, with its flags.
     fn after_sum(&mut self, kind: SumKind, d: Option<u8>, x: u32, y: u32)
-        ensures { self.new ≡ after_sum kind d x y self.old }
+        ensures { self.new ≡ after_sum d (sum_result kind x y self.old.c) self.old }
     {
         let (value, c, v) = sum_result(kind, x, y, self.c);
         self.move_on(2);
@@ -230,7 +232,7 @@ impl Regs {
 
     /// LDM.
     fn after_load_many(&mut self, n: u8, list: u16, read: &[u32])
-        ensures { self.new ≡ after_load_many n list read.now self.old }
+        ensures { self.new ≡ after_load_many n list self.old read.now }
     {
         let base = self.register(n).wrapping_add(bytes_of_list(list));
         self.move_on(2);
@@ -260,7 +262,7 @@ impl Regs {
 
     /// POP.
     fn after_pop(&mut self, list: u16, read: &[u32])
-        ensures { self.new ≡ after_pop list read.now self.old }
+        ensures { self.new ≡ after_pop list self.old read.now }
     {
         let sp = self.active_sp().wrapping_add(bytes_of_list(list));
         if !is_listed(list, 15) {

@@ -1,12 +1,11 @@
 //! Which instructions fault at their addresses, and which begin an exception return.
 
 ghost use Rattle.std.specs.Prelude.{◌≡◌};
-ghost use Rattle.m0_beats.specs.Beats.{bytes_of, TellsUnaligned, is_unaligned_beat, is_unaligned_of};
+ghost use Rattle.m0_beats.specs.Beats.{bytes_of, is_unaligned_beat};
+ghost use Rattle.m0_beats.specs.Instructions.{is_unaligned_of, return_of};
 ghost use Rattle.std.specs.List.{list_any};
-ghost use Rattle.m0_beats.specs.Shapes.{beats_of_shape};
-ghost use Rattle.m0_beats.specs.Effects.{return_of, last_read};
-ghost use Rattle.m0_beats.specs.Conditions.{is_exception_return};
-ghost use Rattle.std.specs.Bool.{then_some};
+ghost use Rattle.m0_beats.specs.Shapes.{beats_of_shape, TellsUnaligned};
+ghost use Rattle.m0_beats.specs.Effects.{returned, last_read};
 
 use crate::conditions::is_exception_return;
 use crate::effects::{is_listed, value_at};
@@ -18,7 +17,7 @@ use rp_base::op::Op;
 
 /// The instruction makes an access whose address is no multiple of its size, and so faults (ARMv6-M Architecture Reference
 /// Manual, A3.2.1).
-#[tactic(auto, unfolding(crate::specs::Beats::is_unaligned_of, crate::specs::Beats::beats_of))]
+#[tactic(auto, unfolding(crate::specs::Instructions::is_unaligned_of, crate::specs::Instructions::beats_of))]
 pub fn is_unaligned(op: &Op, regs: &Regs) -> bool
     ensures { result ≡ is_unaligned_of op.now regs.now }
 {
@@ -59,7 +58,7 @@ fn are_unaligned(list: u16, address: u32) -> bool
 
 /// The value with which the instruction begins an exception return, if it does: it is a BX or a POP of PC in Handler mode
 /// whose value stands for no address. `read` is as for `effect`, which then leaves PC at the instruction.
-#[tactic(auto, unfolding(crate::specs::Effects::return_of))]
+#[tactic(auto, unfolding(crate::specs::Instructions::return_of))]
 pub fn exception_return(op: &Op, regs: &Regs, read: &[u32]) -> Option<u32>
     ensures { result ≡ return_of op.now regs.now read.now }
 {
@@ -72,7 +71,7 @@ pub fn exception_return(op: &Op, regs: &Regs, read: &[u32]) -> Option<u32>
 
 /// A value, where it begins an exception return.
 fn return_value(regs: &Regs, value: u32) -> Option<u32>
-    ensures { result ≡ then_some (is_exception_return regs.now.ipsr value) value }
+    ensures { result ≡ returned regs.now value }
 {
     if is_exception_return(regs.ipsr, value) {
         Some(value)

@@ -1,7 +1,8 @@
 //! The beats of an instruction one by one, without a list of them.
 
 ghost use Rattle.std.specs.Prelude.{◌≡◌, ◌∷◌, ◌≤◌, ◌+◌, ◌*◌, ◌%◌, ◌^◌, slice_get};
-ghost use Rattle.m0_beats.specs.Beats.{registers_of, reads, writes, single, access, inner, pop_end, pop_beats, beats_of};
+ghost use Rattle.m0_beats.specs.Beats.{registers_of, reads, writes, single, access, inner, pop_end, pop_beats};
+ghost use Rattle.m0_beats.specs.Instructions.{beats_of};
 ghost use Rattle.m0_beats.specs.Shapes.{beats_of_shape};
 ghost use Rattle.m0_beats.specs.declared.timing.Beat.TheVariants.{Inner};
 

@@ -2,7 +2,8 @@
 
 ghost use Rattle.std.specs.Prelude.{◌≡◌, ◌<◌, ◌≤◌, ◌^◌, ◌-◌, ◌+◌, ◌*◌, ◌==◌};
 ghost use Rattle.rp_base.specs.Word.{bit_number, has_bit};
-ghost use Rattle.m0_beats.specs.Rows.{action_of, right_amount, sign_extended, link_offset};
+ghost use Rattle.m0_beats.specs.Actions.{meaning_of_action};
+ghost use Rattle.m0_beats.specs.Instructions.{meaning_of, right_amount, sign_extended, link_offset};
 
 use crate::registers::one;
 use Operand::{AlignedPc, Number, Register};
@@ -112,7 +113,7 @@ pub enum Action {
 /// What an instruction does.
 #[inline(always)]
 pub fn classify(op: &Op) -> Action
-    ensures { result ≡ action_of op.now }
+    ensures { meaning_of_action result ≡ meaning_of op.now }
 {
     match *op {
         // A5.2.1, shifts by a number, sums and moves

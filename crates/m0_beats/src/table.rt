@@ -1,7 +1,10 @@
 //! The table of beats (ARM Cortex-M0+ Technical Reference Manual, 3.3): which beats the instructions of each kind have.
 
-ghost use Rattle.std.specs.Prelude.{◌≡◌};
-ghost use Rattle.m0_beats.specs.Beats.{address_of, stored, beats_of_action, beats_of};
+ghost use Rattle.std.specs.Prelude.{◌≡◌, ◌+◌, ◌%◌, ◌^◌};
+ghost use Rattle.m0_beats.specs.Actions.{value_of, meaning_of_action};
+ghost use Rattle.m0_beats.specs.Beats.{stored};
+ghost use Rattle.m0_beats.specs.Instructions.{beats_of};
+ghost use Rattle.m0_beats.specs.Registers.{register_of};
 ghost use Rattle.m0_beats.specs.Shapes.{beats_of_shape};
 
 use crate::effects::push_address;
@@ -32,7 +35,7 @@ pub enum Shape {
 
 /// The beats of an instruction by the table, so that a caller that asks more than once of them looks it up once.
 #[inline(always)]
-#[tactic(auto, unfolding(crate::specs::Beats::beats_of))]
+#[tactic(auto, unfolding(crate::specs::Instructions::beats_of))]
 pub fn shape_of(op: &Op, regs: &Regs) -> Shape
     ensures { beats_of_shape result regs.now ≡ beats_of op.now regs.now }
 {
@@ -43,7 +46,7 @@ pub fn shape_of(op: &Op, regs: &Regs) -> Shape
 /// The beats of an action: the rows of the table.
 #[inline(always)]
 pub(crate) fn action_shape(action: &Action, regs: &Regs) -> Shape
-    ensures { beats_of_shape result regs.now ≡ beats_of_action action.now regs.now }
+    ensures { beats_of_shape result regs.now ≡ (meaning_of_action action.now).beats regs.now }
 {
     match *action {
         Action::Move(d, _) | Action::Total(d, _, _) => {
@@ -86,7 +89,7 @@ pub(crate) fn action_shape(action: &Action, regs: &Regs) -> Shape
 /// The address of a single load or store.
 #[inline(always)]
 fn address(x: Operand, y: Operand, regs: &Regs) -> u32
-    ensures { result ≡ address_of x y regs.now }
+    ensures { result ≡ (value_of x (register_of regs.now) + value_of y (register_of regs.now)) % 2 ^ 32 }
 {
     x.value(regs).wrapping_add(y.value(regs))
 }

@@ -2,7 +2,8 @@
 
 ghost use Rattle.std.specs.Prelude.{◌≡◌, ◌≤◌, ◌++◌, ◌∷◌, [], ◌+◌, length};
 ghost use Rattle.arrayvec.specs.ArrayVec.{array_vec_len};
-ghost use Rattle.m0_beats.specs.Beats.{access, registers_of, reads, writes, single, inner, pop_beats, beats_of};
+ghost use Rattle.m0_beats.specs.Beats.{access, registers_of, reads, writes, single, inner, pop_beats};
+ghost use Rattle.m0_beats.specs.Instructions.{beats_of};
 ghost use Rattle.m0_beats.specs.Registers.{register_of};
 
 use crate::effects::is_listed;

@@ -6,10 +6,12 @@ use Rattle.rp_base.specs.declared.op.Op.{Op}
 use Rattle.rp_base.specs.declared.op.Op.TheVariants as op
 use Rattle.m0_beats.specs.declared.registers.Regs.{Regs}
 use Rattle.m0_beats.specs.declared.timing.Beat.{Beat}
-use Rattle.m0_beats.specs.Beats.{beats_of, is_unaligned_of, single}
+use Rattle.m0_beats.specs.Beats.{single}
+use Rattle.m0_beats.specs.Instructions.{beats_of, is_unaligned_of}
 use Rattle.m0_core.specs.Cycle.{ended, followed, passed_instruction}
 use Rattle.m0_core.specs.Fetch.{asks_beat, asks_decoded, asks_fault}
-use Rattle.m0_core.specs.Kinds.{is_breakpoint, is_call, is_one_access, is_undefined}
+use Rattle.m0_core.specs.Kinds.{is_breakpoint, is_call, is_undefined}
+use Rattle.m0_beats.specs.Shapes.{is_one_access}
 use Rattle.m0_core.specs.State.{State}
 use Rattle.m0_core.specs.declared.doing.Work.TheVariants as works
 

@@ -4,7 +4,8 @@ use Rattle.std.specs.List.{list_any}
 use Rattle.rp_base.specs.declared.op.Op.{Op}
 use Rattle.m0_beats.specs.declared.registers.Regs.{Regs}
 use Rattle.m0_beats.specs.declared.table.Shape.{Shape}
-use Rattle.m0_beats.specs.Beats.{beats_of, is_unaligned_beat, is_unaligned_of}
+use Rattle.m0_beats.specs.Beats.{is_unaligned_beat}
+use Rattle.m0_beats.specs.Instructions.{beats_of, is_unaligned_of}
 use Rattle.m0_beats.specs.Shapes.{beats_of_shape}
 
 pub unaligned_shape : (shape : Shape) (op : Op) (r : Regs) → beats_of_shape shape r ≡ beats_of op r → list_any is_unaligned_beat (beats_of_shape shape r) ≡ is_unaligned_of op r

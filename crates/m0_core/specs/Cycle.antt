@@ -4,8 +4,7 @@
 use Rattle.std.specs.Prelude.{ℕ, ◌+◌, ◌==◌, ◌&&◌, ◌||◌, Bool, true, false, not, nat_lt, if◌then◌else◌, List, [], ◌∷◌, ◌++◌, length, Option, Some, None, slice_get}
 use Rattle.rp_base.specs.declared.Request.{Request}
 use Rattle.rp_base.specs.declared.op.Op.{Op}
-use Rattle.m0_beats.specs.Beats.{beats_of}
-use Rattle.m0_beats.specs.Effects.{effect_of, return_of}
+use Rattle.m0_beats.specs.Instructions.{beats_of, effect_of, return_of}
 use Rattle.m0_nvic.specs.Exceptions.{HARDFAULT, SVCALL}
 use Rattle.m0_nvic.specs.State.{Exceptions}
 use Rattle.m0_nvic.specs.Changes.{pended}

@@ -14,7 +14,7 @@ use Rattle.rp_base.specs.Map.{place_of}
 use Rattle.thumb_rows.specs.Rows.{begins_long, operation_of}
 use Rattle.m0_beats.specs.declared.timing.Beat.{Beat}
 use Rattle.m0_beats.specs.declared.timing.Beat.TheVariants.{Inner, Access}
-use Rattle.m0_beats.specs.Beats.{beats_of, is_unaligned_of}
+use Rattle.m0_beats.specs.Instructions.{beats_of, is_unaligned_of}
 use Rattle.m0_nvic.specs.Exceptions.{SVCALL}
 use Rattle.m0_nvic.specs.Priority.{best_of, priority_of, comes_before, rank_of}
 use Rattle.m0_nvic.specs.Words.{is_allowed}

@@ -4,7 +4,7 @@ use Rattle.rp_base.specs.declared.Request.{Request}
 use Rattle.m0_beats.specs.declared.registers.Regs.{Regs}
 use Rattle.m0_beats.specs.declared.timing.Beat.{Beat}
 use Rattle.m0_beats.specs.declared.timing.Beat.TheVariants.{Access}
-use Rattle.m0_beats.specs.Beats.{beats_of}
+use Rattle.m0_beats.specs.Instructions.{beats_of}
 use Rattle.m0_core.specs.declared.doing.Work.{Work}
 use Rattle.m0_core.specs.declared.doing.Work.TheVariants as works
 

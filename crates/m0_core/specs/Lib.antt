@@ -9,5 +9,6 @@ pub mod Kinds
 pub mod Private
 pub mod Quiet
 pub mod Return
+pub mod Shortcuts
 pub mod Start
 pub mod State

@@ -1,15 +1,14 @@
 //! What a core asks in a cycle.
 
 ghost use Rattle.std.specs.Prelude.{◌≡◌, ◌%◌, ◌^◌, Some, true};
-ghost use Rattle.m0_core.specs.Kinds.{is_one_access};
 ghost use Rattle.rp_base.specs.Map.{place_of};
 ghost use Rattle.lane_look.specs.Asking.{Runs};
 ghost use Rattle.lane_look.specs.declared.lane.Ask.TheVariants.{Lines};
 ghost use Rattle.lane_look.specs.Asking.Asking.{Ready};
 ghost use Rattle.rp_base.specs.Access.{master_of};
-ghost use Rattle.m0_beats.specs.Beats.{beats_of};
+ghost use Rattle.m0_beats.specs.Instructions.{beats_of};
 ghost use Rattle.m0_core.specs.Begins.{begins};
-ghost use Rattle.m0_beats.specs.Shapes.{beats_of_shape};
+ghost use Rattle.m0_beats.specs.Shapes.{beats_of_shape, is_one_access};
 ghost use Rattle.m0_core.specs.Fetch.{is_ram, is_locked, asks_fault, is_callable, is_faulty, beat_of, beat_of_work, in_ram, in_private, at_spot, in_beat, asks_beat, locks_last, asks_return, asks_decoded, asks_second, asks_first, taken_of, asks_boundary, asks_work, asks_awake, asks};
 
 use crate::doing::{Act, Doing, Work};

@@ -2,7 +2,8 @@
 
 ghost use Rattle.std.specs.Prelude.{◌≡◌, ◌<◌, ◌||◌, Decides, if◌then◌else◌, true, Some, slice_get};
 ghost use Rattle.lane_look.specs.declared.lane.Want.TheVariants.{Nothing};
-ghost use Rattle.m0_core.specs.Kinds.{is_plain, is_one_access};
+ghost use Rattle.m0_beats.specs.Shapes.{is_one_access};
+ghost use Rattle.m0_core.specs.Shortcuts.{is_plain};
 ghost use Rattle.m0_core.specs.Cycle.{signals, want_of, waiting, followed, with_read, returning, called, ended, passed_instruction, passed_entry, passed_return, passed_work, passed, is_paused_op, is_paused, after_inner, faulted, done_word, after_access, value_of, after_outward, after_private, after, closed, is_idle, next};
 
 use crate::doing::{Act, Doing, Work};

@@ -1,7 +1,8 @@
 //! The instructions that a core treats by themselves.
 
 ghost use Rattle.std.specs.Prelude.{◌≡◌, ◌||◌};
-ghost use Rattle.m0_core.specs.Kinds.{is_breakpoint, is_signal, awaits_event, awaits_interrupt, is_call, is_undefined, is_plain, is_branch, is_single};
+ghost use Rattle.m0_core.specs.Kinds.{is_breakpoint, is_signal, awaits_event, awaits_interrupt, is_call, is_undefined};
+ghost use Rattle.m0_core.specs.Shortcuts.{is_plain, is_branch, is_single};
 
 use rp_base::op::Op;
 
