@@ -5,7 +5,6 @@ use Rattle.m0_alu.specs.Sum.{add_with_carry}
 use Rattle.m0_alu.specs.Shift.{shifted}
 use Rattle.m0_alu.specs.Extend.{extended}
 use Rattle.m0_alu.specs.Product.{product_of}
-use Rattle.m0_beats.specs.declared.registers.Regs.{Regs}
 use Rattle.m0_beats.specs.declared.rows.Action.{Action}
 use Rattle.m0_beats.specs.declared.rows.Action.TheVariants as act
 use Rattle.m0_beats.specs.declared.rows.Operand.{Operand}

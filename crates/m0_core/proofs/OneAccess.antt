@@ -10,8 +10,8 @@ use Rattle.m0_beats.specs.Beats.{single}
 use Rattle.m0_beats.specs.Instructions.{beats_of, is_unaligned_of}
 use Rattle.m0_core.specs.Cycle.{ended, followed, passed_instruction}
 use Rattle.m0_core.specs.Fetch.{asks_beat, asks_decoded, asks_fault}
-use Rattle.m0_core.specs.Kinds.{is_breakpoint, is_call, is_undefined}
 use Rattle.m0_beats.specs.Shapes.{is_one_access}
+use Rattle.m0_core.proofs.Plain.{accessing}
 use Rattle.m0_core.specs.State.{State}
 use Rattle.m0_core.specs.declared.doing.Work.TheVariants as works
 
@@ -50,33 +50,12 @@ last_over o s h begun =
 
 pub ruleset second_over = (last_over)
 
--- it does not stop, and is neither undefined nor a call
-kinds : (o : Op) → is_one_access o ≡ true → (is_breakpoint o ≡ false) × ((is_undefined o ≡ false) × (is_call o ≡ false))
-kinds (op.LdrLit u i) h = (refl, (refl, refl))
-kinds (op.StrReg m n u) h = (refl, (refl, refl))
-kinds (op.StrhReg m n u) h = (refl, (refl, refl))
-kinds (op.StrbReg m n u) h = (refl, (refl, refl))
-kinds (op.LdrsbReg m n u) h = (refl, (refl, refl))
-kinds (op.LdrReg m n u) h = (refl, (refl, refl))
-kinds (op.LdrhReg m n u) h = (refl, (refl, refl))
-kinds (op.LdrbReg m n u) h = (refl, (refl, refl))
-kinds (op.LdrshReg m n u) h = (refl, (refl, refl))
-kinds (op.StrImm i n u) h = (refl, (refl, refl))
-kinds (op.LdrImm i n u) h = (refl, (refl, refl))
-kinds (op.StrbImm i n u) h = (refl, (refl, refl))
-kinds (op.LdrbImm i n u) h = (refl, (refl, refl))
-kinds (op.StrhImm i n u) h = (refl, (refl, refl))
-kinds (op.LdrhImm i n u) h = (refl, (refl, refl))
-kinds (op.StrSp u i) h = (refl, (refl, refl))
-kinds (op.LdrSp u i) h = (refl, (refl, refl))
-kinds _ h = absurd (cc h)
-
 -- it faults without T, and where its access is unaligned
 pub asked_one : (o : Op) (s : State) → is_one_access o ≡ true
     → asks_decoded o s ≡ (if not s.regs.t || is_unaligned_of o s.regs then asks_fault s else asks_beat (works.Instruction o) s)
 unfolding asks_decoded
 asked_one o s h =
-    let k = kinds o h in
-    rw (k.0, k.1.0, k.1.1, or-false (is_unaligned_of o s.regs)) refl
+    let k = accessing o h in
+    rw (k.breakpoint, k.undefined, k.call, or-false (is_unaligned_of o s.regs)) refl
 
 pub ruleset asking = (asked_one)

@@ -67,58 +67,83 @@ decoded o s n breakpoint undefined call beats t =
     breakpoint fault
     ∙ begins o s (inner_beat o s n beats)
 
+-- what a plain instruction is not; it begins no return
+pub record Ordinary (o : Op) : Type 0 where
+  pub breakpoint : is_breakpoint o ≡ false
+  pub undefined : is_undefined o ≡ false
+  pub call : is_call o ≡ false
+  pub event : awaits_event o ≡ false
+  pub interrupt : awaits_interrupt o ≡ false
+  pub returns : (g : Regs) (read : List ℕ) → return_of o g read ≡ None
+
+ordinary : {o : Op} → is_breakpoint o ≡ false → is_undefined o ≡ false → is_call o ≡ false → awaits_event o ≡ false →
+    awaits_interrupt o ≡ false → ((g : Regs) (read : List ℕ) → return_of o g read ≡ None) → Ordinary o
+ordinary b u c e i r = record { breakpoint = b; undefined = u; call = c; event = e; interrupt = i; returns = r }
+
+-- one that is no branch has one beat
+singly : (o : Op) → is_single o ≡ true → Ordinary o × ((g : Regs) → beats_of o g ≡ inner 1)
+unfolding beats_of return_of
+singly (op.LslImm i m d) h = (ordinary refl refl refl refl refl (λ g read. refl), λ g. refl)
+singly (op.LsrImm i m d) h = (ordinary refl refl refl refl refl (λ g read. refl), λ g. refl)
+singly (op.AsrImm i m d) h = (ordinary refl refl refl refl refl (λ g read. refl), λ g. refl)
+singly (op.AddReg m n d) h = (ordinary refl refl refl refl refl (λ g read. refl), λ g. refl)
+singly (op.SubReg m n d) h = (ordinary refl refl refl refl refl (λ g read. refl), λ g. refl)
+singly (op.AddImm3 i n d) h = (ordinary refl refl refl refl refl (λ g read. refl), λ g. refl)
+singly (op.SubImm3 i n d) h = (ordinary refl refl refl refl refl (λ g read. refl), λ g. refl)
+singly (op.MovImm d i) h = (ordinary refl refl refl refl refl (λ g read. refl), λ g. refl)
+singly (op.CmpImm d i) h = (ordinary refl refl refl refl refl (λ g read. refl), λ g. refl)
+singly (op.AddImm8 d i) h = (ordinary refl refl refl refl refl (λ g read. refl), λ g. refl)
+singly (op.SubImm8 d i) h = (ordinary refl refl refl refl refl (λ g read. refl), λ g. refl)
+singly (op.And m d) h = (ordinary refl refl refl refl refl (λ g read. refl), λ g. refl)
+singly (op.Eor m d) h = (ordinary refl refl refl refl refl (λ g read. refl), λ g. refl)
+singly (op.LslReg m d) h = (ordinary refl refl refl refl refl (λ g read. refl), λ g. refl)
+singly (op.LsrReg m d) h = (ordinary refl refl refl refl refl (λ g read. refl), λ g. refl)
+singly (op.AsrReg m d) h = (ordinary refl refl refl refl refl (λ g read. refl), λ g. refl)
+singly (op.Adc m d) h = (ordinary refl refl refl refl refl (λ g read. refl), λ g. refl)
+singly (op.Sbc m d) h = (ordinary refl refl refl refl refl (λ g read. refl), λ g. refl)
+singly (op.Ror m d) h = (ordinary refl refl refl refl refl (λ g read. refl), λ g. refl)
+singly (op.Tst m d) h = (ordinary refl refl refl refl refl (λ g read. refl), λ g. refl)
+singly (op.Rsb m d) h = (ordinary refl refl refl refl refl (λ g read. refl), λ g. refl)
+singly (op.Cmp m d) h = (ordinary refl refl refl refl refl (λ g read. refl), λ g. refl)
+singly (op.Cmn m d) h = (ordinary refl refl refl refl refl (λ g read. refl), λ g. refl)
+singly (op.Orr m d) h = (ordinary refl refl refl refl refl (λ g read. refl), λ g. refl)
+singly (op.Mul m d) h = (ordinary refl refl refl refl refl (λ g read. refl), λ g. refl)
+singly (op.Bic m d) h = (ordinary refl refl refl refl refl (λ g read. refl), λ g. refl)
+singly (op.Mvn m d) h = (ordinary refl refl refl refl refl (λ g read. refl), λ g. refl)
+singly (op.CmpHigh d m) h = (ordinary refl refl refl refl refl (λ g read. refl), λ g. refl)
+singly (op.SubSpImm i) h = (ordinary refl refl refl refl refl (λ g read. refl), λ g. refl)
+singly (op.Sxth m d) h = (ordinary refl refl refl refl refl (λ g read. refl), λ g. refl)
+singly (op.Sxtb m d) h = (ordinary refl refl refl refl refl (λ g read. refl), λ g. refl)
+singly (op.Uxth m d) h = (ordinary refl refl refl refl refl (λ g read. refl), λ g. refl)
+singly (op.Uxtb m d) h = (ordinary refl refl refl refl refl (λ g read. refl), λ g. refl)
+singly (op.Rev m d) h = (ordinary refl refl refl refl refl (λ g read. refl), λ g. refl)
+singly (op.Rev16 m d) h = (ordinary refl refl refl refl refl (λ g read. refl), λ g. refl)
+singly (op.Revsh m d) h = (ordinary refl refl refl refl refl (λ g read. refl), λ g. refl)
+singly _ h = absurd (cc h)
+
+branches : (o : Op) → is_branch o ≡ true → Ordinary o × ((g : Regs) → (n : ℕ) × (beats_of o g ≡ inner n))
+unfolding beats_of return_of
+branches (op.BCond c i) h =
+    (ordinary refl refl refl refl refl (λ g read. refl), λ g. (cond (condition_holds c g) 2 1, either_inner (condition_holds c g)))
+branches (op.B i) h = (ordinary refl refl refl refl refl (λ g read. refl), λ g. (2, refl))
+branches (op.Bl q i j) h = (ordinary refl refl refl refl refl (λ g read. refl), λ g. (3, refl))
+branches _ h = absurd (cc h)
+
+plainly : (o : Op) (branch : Bool) → is_branch o ≡ branch → is_plain o ≡ true → Ordinary o × ((g : Regs) → (n : ℕ) × (beats_of o g ≡ inner n))
+plainly o true e h = branches o e
+plainly o false e h =
+    let s = singly o (rw (h, e) refl) in (s.0, λ g. (1, s.1 g))
+
 pub plain_decoded : (o : Op) (s : State) → is_plain o ≡ true → s.regs.t ≡ true →
     asks_decoded o s ≡ Ready (act.Inner (works.Instruction o))
-unfolding beats_of
-plain_decoded (op.LslImm i m d) s h t = decoded (op.LslImm i m d) s 1 refl refl refl refl t
-plain_decoded (op.LsrImm i m d) s h t = decoded (op.LsrImm i m d) s 1 refl refl refl refl t
-plain_decoded (op.AsrImm i m d) s h t = decoded (op.AsrImm i m d) s 1 refl refl refl refl t
-plain_decoded (op.AddReg m n d) s h t = decoded (op.AddReg m n d) s 1 refl refl refl refl t
-plain_decoded (op.SubReg m n d) s h t = decoded (op.SubReg m n d) s 1 refl refl refl refl t
-plain_decoded (op.AddImm3 i n d) s h t = decoded (op.AddImm3 i n d) s 1 refl refl refl refl t
-plain_decoded (op.SubImm3 i n d) s h t = decoded (op.SubImm3 i n d) s 1 refl refl refl refl t
-plain_decoded (op.MovImm d i) s h t = decoded (op.MovImm d i) s 1 refl refl refl refl t
-plain_decoded (op.CmpImm d i) s h t = decoded (op.CmpImm d i) s 1 refl refl refl refl t
-plain_decoded (op.AddImm8 d i) s h t = decoded (op.AddImm8 d i) s 1 refl refl refl refl t
-plain_decoded (op.SubImm8 d i) s h t = decoded (op.SubImm8 d i) s 1 refl refl refl refl t
-plain_decoded (op.And m d) s h t = decoded (op.And m d) s 1 refl refl refl refl t
-plain_decoded (op.Eor m d) s h t = decoded (op.Eor m d) s 1 refl refl refl refl t
-plain_decoded (op.LslReg m d) s h t = decoded (op.LslReg m d) s 1 refl refl refl refl t
-plain_decoded (op.LsrReg m d) s h t = decoded (op.LsrReg m d) s 1 refl refl refl refl t
-plain_decoded (op.AsrReg m d) s h t = decoded (op.AsrReg m d) s 1 refl refl refl refl t
-plain_decoded (op.Adc m d) s h t = decoded (op.Adc m d) s 1 refl refl refl refl t
-plain_decoded (op.Sbc m d) s h t = decoded (op.Sbc m d) s 1 refl refl refl refl t
-plain_decoded (op.Ror m d) s h t = decoded (op.Ror m d) s 1 refl refl refl refl t
-plain_decoded (op.Tst m d) s h t = decoded (op.Tst m d) s 1 refl refl refl refl t
-plain_decoded (op.Rsb m d) s h t = decoded (op.Rsb m d) s 1 refl refl refl refl t
-plain_decoded (op.Cmp m d) s h t = decoded (op.Cmp m d) s 1 refl refl refl refl t
-plain_decoded (op.Cmn m d) s h t = decoded (op.Cmn m d) s 1 refl refl refl refl t
-plain_decoded (op.Orr m d) s h t = decoded (op.Orr m d) s 1 refl refl refl refl t
-plain_decoded (op.Mul m d) s h t = decoded (op.Mul m d) s 1 refl refl refl refl t
-plain_decoded (op.Bic m d) s h t = decoded (op.Bic m d) s 1 refl refl refl refl t
-plain_decoded (op.Mvn m d) s h t = decoded (op.Mvn m d) s 1 refl refl refl refl t
-plain_decoded (op.CmpHigh d m) s h t = decoded (op.CmpHigh d m) s 1 refl refl refl refl t
-plain_decoded (op.SubSpImm i) s h t = decoded (op.SubSpImm i) s 1 refl refl refl refl t
-plain_decoded (op.Sxth m d) s h t = decoded (op.Sxth m d) s 1 refl refl refl refl t
-plain_decoded (op.Sxtb m d) s h t = decoded (op.Sxtb m d) s 1 refl refl refl refl t
-plain_decoded (op.Uxth m d) s h t = decoded (op.Uxth m d) s 1 refl refl refl refl t
-plain_decoded (op.Uxtb m d) s h t = decoded (op.Uxtb m d) s 1 refl refl refl refl t
-plain_decoded (op.Rev m d) s h t = decoded (op.Rev m d) s 1 refl refl refl refl t
-plain_decoded (op.Rev16 m d) s h t = decoded (op.Rev16 m d) s 1 refl refl refl refl t
-plain_decoded (op.Revsh m d) s h t = decoded (op.Revsh m d) s 1 refl refl refl refl t
-plain_decoded (op.BCond c i) s h t =
-    decoded (op.BCond c i) s (cond (condition_holds c s.regs) 2 1) refl refl refl (either_inner (condition_holds c s.regs)) t
-plain_decoded (op.B i) s h t = decoded (op.B i) s 2 refl refl refl refl t
-plain_decoded (op.Bl q i j) s h t = decoded (op.Bl q i j) s 3 refl refl refl refl t
-plain_decoded _ s h t = absurd (cc h)
+plain_decoded o s h t =
+    let q = plainly o (is_branch o) refl h in
+    let beats = q.1 s.regs in
+    decoded o s beats.0 q.0.breakpoint q.0.undefined q.0.call beats.1 t
 
 -- each beat of a branch by an offset is inside the core
 pub branch_begins : (o : Op) (s : State) → is_branch o ≡ true → asks_beat (works.Instruction o) s ≡ Ready (act.Inner (works.Instruction o))
-unfolding beats_of
-branch_begins (op.BCond c i) s h = begins (op.BCond c i) s (inner_beat (op.BCond c i) s (cond (condition_holds c s.regs) 2 1) (either_inner (condition_holds c s.regs)))
-branch_begins (op.B i) s h = begins (op.B i) s (inner_beat (op.B i) s 2 refl)
-branch_begins (op.Bl q i j) s h = begins (op.Bl q i j) s (inner_beat (op.Bl q i j) s 3 refl)
-branch_begins _ s h = absurd (cc h)
+branch_begins o s h = let beats = (branches o h).1 s.regs in begins o s (inner_beat o s beats.0 beats.1)
 
 -- so is each beat of WFI and WFE
 pub pause_begins : (o : Op) (s : State) → (awaits_interrupt o || awaits_event o) ≡ true
@@ -129,50 +154,6 @@ pause_begins op.Wfe s h = begins op.Wfe s (inner_beat op.Wfe s 2 refl)
 pause_begins _ s h = absurd (cc h)
 
 -- ---- the end
-
-inner_only : (o : Op) → is_plain o ≡ true →
-    (is_call o ≡ false) × ((awaits_event o ≡ false) × ((awaits_interrupt o ≡ false) × ((r : Regs) (read : List ℕ) → return_of o r read ≡ None)))
-unfolding return_of
-inner_only (op.LslImm i m d) h = (refl, (refl, (refl, λ r read. refl)))
-inner_only (op.LsrImm i m d) h = (refl, (refl, (refl, λ r read. refl)))
-inner_only (op.AsrImm i m d) h = (refl, (refl, (refl, λ r read. refl)))
-inner_only (op.AddReg m n d) h = (refl, (refl, (refl, λ r read. refl)))
-inner_only (op.SubReg m n d) h = (refl, (refl, (refl, λ r read. refl)))
-inner_only (op.AddImm3 i n d) h = (refl, (refl, (refl, λ r read. refl)))
-inner_only (op.SubImm3 i n d) h = (refl, (refl, (refl, λ r read. refl)))
-inner_only (op.MovImm d i) h = (refl, (refl, (refl, λ r read. refl)))
-inner_only (op.CmpImm d i) h = (refl, (refl, (refl, λ r read. refl)))
-inner_only (op.AddImm8 d i) h = (refl, (refl, (refl, λ r read. refl)))
-inner_only (op.SubImm8 d i) h = (refl, (refl, (refl, λ r read. refl)))
-inner_only (op.And m d) h = (refl, (refl, (refl, λ r read. refl)))
-inner_only (op.Eor m d) h = (refl, (refl, (refl, λ r read. refl)))
-inner_only (op.LslReg m d) h = (refl, (refl, (refl, λ r read. refl)))
-inner_only (op.LsrReg m d) h = (refl, (refl, (refl, λ r read. refl)))
-inner_only (op.AsrReg m d) h = (refl, (refl, (refl, λ r read. refl)))
-inner_only (op.Adc m d) h = (refl, (refl, (refl, λ r read. refl)))
-inner_only (op.Sbc m d) h = (refl, (refl, (refl, λ r read. refl)))
-inner_only (op.Ror m d) h = (refl, (refl, (refl, λ r read. refl)))
-inner_only (op.Tst m d) h = (refl, (refl, (refl, λ r read. refl)))
-inner_only (op.Rsb m d) h = (refl, (refl, (refl, λ r read. refl)))
-inner_only (op.Cmp m d) h = (refl, (refl, (refl, λ r read. refl)))
-inner_only (op.Cmn m d) h = (refl, (refl, (refl, λ r read. refl)))
-inner_only (op.Orr m d) h = (refl, (refl, (refl, λ r read. refl)))
-inner_only (op.Mul m d) h = (refl, (refl, (refl, λ r read. refl)))
-inner_only (op.Bic m d) h = (refl, (refl, (refl, λ r read. refl)))
-inner_only (op.Mvn m d) h = (refl, (refl, (refl, λ r read. refl)))
-inner_only (op.CmpHigh d m) h = (refl, (refl, (refl, λ r read. refl)))
-inner_only (op.SubSpImm i) h = (refl, (refl, (refl, λ r read. refl)))
-inner_only (op.Sxth m d) h = (refl, (refl, (refl, λ r read. refl)))
-inner_only (op.Sxtb m d) h = (refl, (refl, (refl, λ r read. refl)))
-inner_only (op.Uxth m d) h = (refl, (refl, (refl, λ r read. refl)))
-inner_only (op.Uxtb m d) h = (refl, (refl, (refl, λ r read. refl)))
-inner_only (op.Rev m d) h = (refl, (refl, (refl, λ r read. refl)))
-inner_only (op.Rev16 m d) h = (refl, (refl, (refl, λ r read. refl)))
-inner_only (op.Revsh m d) h = (refl, (refl, (refl, λ r read. refl)))
-inner_only (op.BCond c i) h = (refl, (refl, (refl, λ r read. refl)))
-inner_only (op.B i) h = (refl, (refl, (refl, λ r read. refl)))
-inner_only (op.Bl q i j) h = (refl, (refl, (refl, λ r read. refl)))
-inner_only _ h = absurd (cc h)
 
 same_end : (o : Op) (s : State) (call wait : Bool) (value : Option ℕ) → call ≡ false → wait ≡ false → value ≡ None →
     record s {
@@ -192,38 +173,37 @@ plain_ended : (o : Op) (s : State) → is_plain o ≡ true →
     ended o s ≡ record s { regs = effect_of o s.regs s.read; work = None; beats_done = 0; read = [] }
 unfolding ended
 plain_ended o s h =
-    let q = inner_only o h in
-    same_end o s (is_call o) (awaits_event o) (return_of o s.regs s.read) q.0 q.1.0 (q.1.1.1 s.regs s.read)
+    let q = (plainly o (is_branch o) refl h).0 in
+    same_end o s (is_call o) (awaits_event o) (return_of o s.regs s.read) q.call q.event (q.returns s.regs s.read)
 
-access_only : (o : Op) → is_one_access o ≡ true →
-    (is_call o ≡ false) × ((awaits_event o ≡ false) × ((awaits_interrupt o ≡ false) × ((g : Regs) (read : List ℕ) → return_of o g read ≡ None)))
+pub accessing : (o : Op) → is_one_access o ≡ true → Ordinary o
 unfolding return_of
-access_only (op.LdrLit t i) h = (refl, (refl, (refl, λ g read. refl)))
-access_only (op.StrReg m n t) h = (refl, (refl, (refl, λ g read. refl)))
-access_only (op.StrhReg m n t) h = (refl, (refl, (refl, λ g read. refl)))
-access_only (op.StrbReg m n t) h = (refl, (refl, (refl, λ g read. refl)))
-access_only (op.LdrsbReg m n t) h = (refl, (refl, (refl, λ g read. refl)))
-access_only (op.LdrReg m n t) h = (refl, (refl, (refl, λ g read. refl)))
-access_only (op.LdrhReg m n t) h = (refl, (refl, (refl, λ g read. refl)))
-access_only (op.LdrbReg m n t) h = (refl, (refl, (refl, λ g read. refl)))
-access_only (op.LdrshReg m n t) h = (refl, (refl, (refl, λ g read. refl)))
-access_only (op.StrImm i n t) h = (refl, (refl, (refl, λ g read. refl)))
-access_only (op.LdrImm i n t) h = (refl, (refl, (refl, λ g read. refl)))
-access_only (op.StrbImm i n t) h = (refl, (refl, (refl, λ g read. refl)))
-access_only (op.LdrbImm i n t) h = (refl, (refl, (refl, λ g read. refl)))
-access_only (op.StrhImm i n t) h = (refl, (refl, (refl, λ g read. refl)))
-access_only (op.LdrhImm i n t) h = (refl, (refl, (refl, λ g read. refl)))
-access_only (op.StrSp t i) h = (refl, (refl, (refl, λ g read. refl)))
-access_only (op.LdrSp t i) h = (refl, (refl, (refl, λ g read. refl)))
-access_only _ h = absurd (cc h)
+accessing (op.LdrLit t i) h = ordinary refl refl refl refl refl (λ g read. refl)
+accessing (op.StrReg m n t) h = ordinary refl refl refl refl refl (λ g read. refl)
+accessing (op.StrhReg m n t) h = ordinary refl refl refl refl refl (λ g read. refl)
+accessing (op.StrbReg m n t) h = ordinary refl refl refl refl refl (λ g read. refl)
+accessing (op.LdrsbReg m n t) h = ordinary refl refl refl refl refl (λ g read. refl)
+accessing (op.LdrReg m n t) h = ordinary refl refl refl refl refl (λ g read. refl)
+accessing (op.LdrhReg m n t) h = ordinary refl refl refl refl refl (λ g read. refl)
+accessing (op.LdrbReg m n t) h = ordinary refl refl refl refl refl (λ g read. refl)
+accessing (op.LdrshReg m n t) h = ordinary refl refl refl refl refl (λ g read. refl)
+accessing (op.StrImm i n t) h = ordinary refl refl refl refl refl (λ g read. refl)
+accessing (op.LdrImm i n t) h = ordinary refl refl refl refl refl (λ g read. refl)
+accessing (op.StrbImm i n t) h = ordinary refl refl refl refl refl (λ g read. refl)
+accessing (op.LdrbImm i n t) h = ordinary refl refl refl refl refl (λ g read. refl)
+accessing (op.StrhImm i n t) h = ordinary refl refl refl refl refl (λ g read. refl)
+accessing (op.LdrhImm i n t) h = ordinary refl refl refl refl refl (λ g read. refl)
+accessing (op.StrSp t i) h = ordinary refl refl refl refl refl (λ g read. refl)
+accessing (op.LdrSp t i) h = ordinary refl refl refl refl refl (λ g read. refl)
+accessing _ h = absurd (cc h)
 
 -- so has a load or a store of one register
 access_ended : (o : Op) (s : State) → is_one_access o ≡ true →
     ended o s ≡ record s { regs = effect_of o s.regs s.read; work = None; beats_done = 0; read = [] }
 unfolding ended
 access_ended o s h =
-    let q = access_only o h in
-    same_end o s (is_call o) (awaits_event o) (return_of o s.regs s.read) q.0 q.1.0 (q.1.1.1 s.regs s.read)
+    let q = accessing o h in
+    same_end o s (is_call o) (awaits_event o) (return_of o s.regs s.read) q.call q.event (q.returns s.regs s.read)
 
 ended_by : (o : Op) (s : State) (plain : Bool) → is_plain o ≡ plain → (plain || is_one_access o) ≡ true →
     ended o s ≡ record s { regs = effect_of o s.regs s.read; work = None; beats_done = 0; read = [] }
@@ -233,47 +213,6 @@ ended_by o s false p h = access_ended o s h
 pub plainly_ended : (o : Op) (s : State) → (is_plain o || is_one_access o) ≡ true →
     ended o s ≡ record s { regs = effect_of o s.regs s.read; work = None; beats_done = 0; read = [] }
 plainly_ended o s h = ended_by o s (is_plain o) refl h
-
--- a plain instruction that is no branch has one beat, and is done at its end
-one_beat : (o : Op) → is_single o ≡ true → (g : Regs) → (beats_of o g ≡ inner 1) × (awaits_interrupt o ≡ false)
-unfolding beats_of
-one_beat (op.LslImm i m d) h g = (refl, refl)
-one_beat (op.LsrImm i m d) h g = (refl, refl)
-one_beat (op.AsrImm i m d) h g = (refl, refl)
-one_beat (op.AddReg m n d) h g = (refl, refl)
-one_beat (op.SubReg m n d) h g = (refl, refl)
-one_beat (op.AddImm3 i n d) h g = (refl, refl)
-one_beat (op.SubImm3 i n d) h g = (refl, refl)
-one_beat (op.MovImm d i) h g = (refl, refl)
-one_beat (op.CmpImm d i) h g = (refl, refl)
-one_beat (op.AddImm8 d i) h g = (refl, refl)
-one_beat (op.SubImm8 d i) h g = (refl, refl)
-one_beat (op.And m d) h g = (refl, refl)
-one_beat (op.Eor m d) h g = (refl, refl)
-one_beat (op.LslReg m d) h g = (refl, refl)
-one_beat (op.LsrReg m d) h g = (refl, refl)
-one_beat (op.AsrReg m d) h g = (refl, refl)
-one_beat (op.Adc m d) h g = (refl, refl)
-one_beat (op.Sbc m d) h g = (refl, refl)
-one_beat (op.Ror m d) h g = (refl, refl)
-one_beat (op.Tst m d) h g = (refl, refl)
-one_beat (op.Rsb m d) h g = (refl, refl)
-one_beat (op.Cmp m d) h g = (refl, refl)
-one_beat (op.Cmn m d) h g = (refl, refl)
-one_beat (op.Orr m d) h g = (refl, refl)
-one_beat (op.Mul m d) h g = (refl, refl)
-one_beat (op.Bic m d) h g = (refl, refl)
-one_beat (op.Mvn m d) h g = (refl, refl)
-one_beat (op.CmpHigh d m) h g = (refl, refl)
-one_beat (op.SubSpImm i) h g = (refl, refl)
-one_beat (op.Sxth m d) h g = (refl, refl)
-one_beat (op.Sxtb m d) h g = (refl, refl)
-one_beat (op.Uxth m d) h g = (refl, refl)
-one_beat (op.Uxtb m d) h g = (refl, refl)
-one_beat (op.Rev m d) h g = (refl, refl)
-one_beat (op.Rev16 m d) h g = (refl, refl)
-one_beat (op.Revsh m d) h g = (refl, refl)
-one_beat _ h g = absurd (cc h)
 
 both : (a b : Bool) → (a && b) ≡ true → (a ≡ true) × (b ≡ true)
 both true b h = (refl, h)
@@ -299,18 +238,16 @@ passes o s n h =
 pub single_after : (o : Op) (s : State) → is_single o ≡ true → after_inner (works.Instruction o) s ≡ ended o s
 unfolding after_inner passed passed_instruction
 single_after o s h =
-    let plain = single_plain o h in
-    let one = one_beat o h s.regs in
-    let inner = inner_only o plain in
-    ap (λ paused. cond paused (waiting (works.Instruction o) s) (passed (works.Instruction o) None s)) (goes_on o s inner.1.0 one.1)
-    ∙ passes o s (length (beats_of o s.regs)) (ap length one.0)
+    let one = singly o h in
+    ap (λ paused. cond paused (waiting (works.Instruction o) s) (passed (works.Instruction o) None s)) (goes_on o s one.0.event one.0.interrupt)
+    ∙ passes o s (length (beats_of o s.regs)) (ap length (one.1 s.regs))
 
 -- a plain instruction does not last, nor does a load or a store of one register
 awaits_nothing : (o : Op) (plain : Bool) → is_plain o ≡ plain → (plain || is_one_access o) ≡ true → (awaits_event o ≡ false) × (awaits_interrupt o ≡ false)
 awaits_nothing o true p h =
-    let inner = inner_only o p in (inner.1.0, inner.1.1.0)
+    let plain = (plainly o (is_branch o) refl p).0 in (plain.event, plain.interrupt)
 awaits_nothing o false p h =
-    let access = access_only o h in (access.1.0, access.1.1.0)
+    let access = accessing o h in (access.event, access.interrupt)
 
 pub plainly_after : (o : Op) (s : State) → (is_plain o || is_one_access o) ≡ true → after_inner (works.Instruction o) s ≡ passed_instruction o s
 unfolding after_inner passed
