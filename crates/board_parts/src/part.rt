@@ -55,7 +55,7 @@ pub trait Part: Drop {
     /// What it drives in a cycle, without going on: what `step` gives. It has at most 128 words.
     fn drives(&self, state: &[u32], cycle: u64, pads: u32) -> Drive
         requires state { length state.now ≡ (meaning self.now).words }
-        requires room { (meaning self.now).words ≤ 128 }
+        requires room { length state.now ≤ 128 }
         requires placed { are_pins (meaning self.now).pins (attached self.now) ≡ true }
         ensures { result ≡ (meaning self.now).drives (attached self.now) state.now cycle pads }
     {

@@ -63,8 +63,7 @@ impl<A: Device, B: Device> Device for Pair<A, B> {
     fn drives(&self, state: &[u32], cycle: u64, pads: u32) -> Wires {
         let (front, back) = state.split_at(self.first.words());
         let first = self.first.drives(front, cycle, pads);
-        let second = self.second.drives(back, cycle, pads);
-        join(first, second)
+        join(first, self.second.drives(back, cycle, pads))
     }
 
     #[inline(always)]
