@@ -12,7 +12,8 @@ use rp_machine::{Machine, Steps, World};
 use std::sync::ledger::Ledger;
 
 /// Goes over cycles in which core 0 alone is at work in SRAM beside quiet peripherals and nothing stops it, at most up to a cycle, and counts
-/// them. Gives how many there are, 0 also where an access lasts. Each of them happens, has no events, and leaves the pads as they are.
+/// them. Gives how many there are, 0 also where an access lasts or core 1 is awake. Each of them happens, has no events, and leaves the pads
+/// as they are.
 #[inline(always)]
 pub fn pass_watched<X: Device, W: Watch, L: Ledger>(
     machine: &mut Machine,
@@ -30,7 +31,7 @@ pub fn pass_watched<X: Device, W: Watch, L: Ledger>(
     ensures marks { marks.new ≡ marks.old }
     ensures steps { steps.new ≡ steps.old + result }
 {
-    if machine.fabric.holds() {
+    if machine.fabric.holds() || !machine.core1.is_asleep() {
         return 0;
     }
     pass_onward(machine, world, to, watch, marks, steps)
