@@ -118,6 +118,10 @@ next_beside w x s h =
     (steps_alone w (turns w (begun s) (beside x) s (granted (beside x) s)) s (with_grants (beside x) s) h refl refl refl refl)
     ∙ ends_alone w (begun s) x s
 
+pub next_begun : (w : Setting) (b : Begun) (s : State) → b ≡ begun s → next_by w b (wanted b) s ≡ next w s
+unfolding next
+next_begun w b s e = rw e refl
+
 pub next_alone : (w : Setting) (s : State) → IsAlone s → next w s ≡ alone_next w (begun s).core0 (begun s).outer (core.want_of (begun s).core0) s
 unfolding next
 next_alone w s h =
@@ -148,6 +152,11 @@ behind b h =
       read = nothing (dma.want_of b.dma.read) c.0;
       write = nothing (dma.want_of b.dma.write) d.0;
     }
+
+pub no_cause : (w : Setting) (b : Begun) (s : State) → core.want_of b.core0 ≡ want.Nothing
+    → cause_of w b.outer s (wanted_by master.Core0 (core.want_of b.core0)) ≡ None
+unfolding cause_of
+no_cause w b s e = rw e refl
 
 pub cause_first : (w : Setting) (b : Begun) (s : State) → is_first_alone (wanted b) ≡ true
     → cause_of w b.outer s (wanted_by master.Core0 (core.want_of b.core0)) ≡ cause_in w b (wanted b) s
