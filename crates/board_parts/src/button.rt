@@ -50,7 +50,11 @@ impl Part for Button {
 
     fn start(&self, _state: &mut [u32]) {}
 
-    fn step(&self, _state: &mut [u32], cycle: u64, _pads: u32) -> Drive {
+    fn step(&self, _state: &mut [u32], cycle: u64, pads: u32) -> Drive {
+        self.drives(&[], cycle, pads)
+    }
+
+    fn drives(&self, _state: &[u32], cycle: u64, _pads: u32) -> Drive {
         if cycle % PERIOD < PRESSED {
             return Drive::default();
         }

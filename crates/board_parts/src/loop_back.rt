@@ -47,6 +47,10 @@ impl Part for Loop {
         at_level(self.pins[1], level_of(self.pins[0], pads))
     }
 
+    fn drives(&self, _state: &[u32], _cycle: u64, pads: u32) -> Drive {
+        at_level(self.pins[1], level_of(self.pins[0], pads))
+    }
+
     fn quiet(&self, _state: &[u32], _cycle: u64, _pads: u32) -> u64 {
         u64::MAX
     }

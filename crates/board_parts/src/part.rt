@@ -52,6 +52,18 @@ pub trait Part: Drop {
         ensures drive { result ≡ (meaning self.now).drives (attached self.now) state.old cycle pads }
         ensures state { state.new ≡ (meaning self.now).after_step (attached self.now) state.old cycle pads };
 
+    /// What it drives in a cycle, without going on: what `step` gives. It has at most 128 words.
+    fn drives(&self, state: &[u32], cycle: u64, pads: u32) -> Drive
+        requires state { length state.now ≡ (meaning self.now).words }
+        requires room { length state.now ≤ 128 }
+        requires placed { are_pins (meaning self.now).pins (attached self.now) ≡ true }
+        ensures { result ≡ (meaning self.now).drives (attached self.now) state.now cycle pads }
+    {
+        let mut words: ArrayVec<u32, 128> = ArrayVec::new();
+        let _fits = words.try_extend_from_slice(state);
+        self.step(words.as_mut_slice(), cycle, pads)
+    }
+
     /// For so many cycles from this one on it is quiet: as long as the pads have these levels it drives in each of them what it
     /// drives in the first one. Any smaller number is right too.
     fn quiet(&self, _state: &[u32], _cycle: u64, _pads: u32) -> u64

@@ -50,6 +50,10 @@ impl Part for Box<dyn Part + Sync> {
         (**self).step(state, cycle, pads)
     }
 
+    fn drives(&self, state: &[u32], cycle: u64, pads: u32) -> Drive {
+        (**self).drives(state, cycle, pads)
+    }
+
     fn quiet(&self, state: &[u32], cycle: u64, pads: u32) -> u64 {
         (**self).quiet(state, cycle, pads)
     }
@@ -115,6 +119,10 @@ impl<P: Part + Sync> Device for Row<P> {
         }
     }
 
+    fn drives(&self, state: &[u32], cycle: u64, pads: u32) -> Wires {
+        drives_all(&self.list, state, cycle, pads)
+    }
+
     fn quiet(&self, state: &[u32], cycle: u64, pads: u32) -> u64 {
         quiet_all(&self.list, state, cycle, pads)
     }
@@ -164,6 +172,23 @@ fn step_all<P: Part>(list: &[P], state: &mut [u32], cycle: u64, pads: u32) -> Wi
             let (words, others) = state.split_at_mut(first.words());
             let drive = first.step(words, cycle, pads);
             join(drive, step_all(rest, others, cycle, pads))
+        }
+    }
+}
+
+/// What parts drive in a cycle, each by its own words.
+fn drives_all<P: Part>(list: &[P], state: &[u32], cycle: u64, pads: u32) -> Wires
+    requires state { length state.now ≡ words_of (map (λ p. placed_at (P.attached p) (P.meaning p)) list.now) }
+    requires room { length state.now ≤ 128 }
+    requires placed { all_placed (map (λ p. placed_at (P.attached p) (P.meaning p)) list.now) ≡ true }
+    ensures { result ≡ wires_of (map (λ p. placed_at (P.attached p) (P.meaning p)) list.now) state.now cycle pads }
+{
+    match list {
+        [] => Wires::default(),
+        [first, rest @ ..] => {
+            let (own, others) = state.split_at(first.words());
+            let drive = first.drives(own, cycle, pads);
+            join(drive, drives_all(rest, others, cycle, pads))
         }
     }
 }

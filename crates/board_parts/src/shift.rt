@@ -47,14 +47,18 @@ impl Part for Shift {
         state[1] = 0;
     }
 
-    fn step(&self, state: &mut [u32], _cycle: u64, pads: u32) -> Drive {
-        let register = state[0];
+    fn step(&self, state: &mut [u32], cycle: u64, pads: u32) -> Drive {
+        let drive = self.drives(state, cycle, pads);
         let clock = level_of(self.pins[0], pads);
         if state[1] == 0 && clock == 1 {
-            state[0] = register % 128 * 2 + level_of(self.pins[1], pads);
+            state[0] = state[0] % 128 * 2 + level_of(self.pins[1], pads);
         }
         state[1] = clock;
-        at_level(self.pins[2], level_of(7, register))
+        drive
+    }
+
+    fn drives(&self, state: &[u32], _cycle: u64, _pads: u32) -> Drive {
+        at_level(self.pins[2], level_of(7, state[0]))
     }
 
     fn quiet(&self, state: &[u32], _cycle: u64, pads: u32) -> u64 {

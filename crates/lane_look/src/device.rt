@@ -4,6 +4,8 @@ ghost use Rattle.std.specs.Prelude.{◌≡◌, ◌≤◌, ◌<◌, ◌+◌, ◌^
 ghost use Rattle.lane_look.specs.Device.{DeviceMeaning, no_device};
 ghost use Rattle.lane_look.specs.Quiet.{IsDeviceQuiet, device_after};
 
+use arrayvec::ArrayVec;
+
 /// What a device drives in a cycle. Pad 0 and interrupt line 0 are in bit 0.
 #[derive(Clone, Copy, Debug, PartialEq, Eq, Default)]
 pub struct Wires {
@@ -54,6 +56,17 @@ pub trait Device: Sync + Drop {
         requires { length state.old ≡ (meaning self.now).count }
         ensures wires { result ≡ (meaning self.now).wires state.old cycle pads }
         ensures state { state.new ≡ (meaning self.now).after_step state.old cycle pads };
+
+    /// What it drives in a cycle, without going on: what `step` gives.
+    fn drives(&self, state: &[u32], cycle: u64, pads: u32) -> Wires
+        requires { length state.now ≡ (meaning self.now).count }
+        ensures { result ≡ (meaning self.now).wires state.now cycle pads }
+    {
+        let _count = self.words();
+        let mut words: ArrayVec<u32, 128> = ArrayVec::new();
+        let _fits = words.try_extend_from_slice(state);
+        self.step(words.as_mut_slice(), cycle, pads)
+    }
 
     /// For so many cycles from this one on it is quiet: as long as the pads have these levels it drives in each of them what it
     /// drives in the first one. Any smaller number is right too.
@@ -111,6 +124,10 @@ impl Device for NoDevice {
     fn write(&self, _state: &mut [u32], _address: u32, _value: u32) {}
 
     fn step(&self, _state: &mut [u32], _cycle: u64, _pads: u32) -> Wires {
+        Wires::default()
+    }
+
+    fn drives(&self, _state: &[u32], _cycle: u64, _pads: u32) -> Wires {
         Wires::default()
     }
 

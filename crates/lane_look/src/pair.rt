@@ -59,6 +59,14 @@ impl<A: Device, B: Device> Device for Pair<A, B> {
         join(first, second)
     }
 
+    #[inline(always)]
+    fn drives(&self, state: &[u32], cycle: u64, pads: u32) -> Wires {
+        let (front, back) = state.split_at(self.first.words());
+        let first = self.first.drives(front, cycle, pads);
+        join(first, self.second.drives(back, cycle, pads))
+    }
+
+    #[inline(always)]
     fn quiet(&self, state: &[u32], cycle: u64, pads: u32) -> u64 {
         let (front, back) = state.split_at(self.first.words());
         let first = self.first.quiet(front, cycle, pads);

@@ -8,8 +8,23 @@ use lane_look::Wires;
 use pin_script::{Cursor, Drives, Script};
 
 /// What the script and the device drive in a cycle.
+#[inline(always)]
+pub(crate) fn drives(script: &Script, cursor: &mut Cursor, wires: &Wires, cycle: u64) -> Drives
+    ensures { (pin : ℕ) → pin < 30 → by_sets result.driven result.high pin
+        ≡ outside_of script.now wires.now cycle pin }
+{
+    if script.as_slice().is_empty() {
+        return Drives {
+            driven: wires.mask,
+            high: wires.level,
+        };
+    }
+    outside(script, cursor, wires, cycle)
+}
+
+/// The same, by the entries of the script.
 #[inline(never)]
-pub(crate) fn outside(script: &Script, cursor: &mut Cursor, wires: &Wires, cycle: u64) -> Drives
+fn outside(script: &Script, cursor: &mut Cursor, wires: &Wires, cycle: u64) -> Drives
     ensures { (pin : ℕ) → pin < 30 → by_sets result.driven result.high pin
         ≡ outside_of script.now wires.now cycle pin }
 {

@@ -5,8 +5,8 @@ ghost use Rattle.pin_script.specs.Reading.{cycle_at, IsDueBefore};
 ghost use Rattle.outer_lane.specs.Quiet.{AreWordsQuiet, IsScriptQuiet, words_after};
 
 use crate::outer::Outer;
-use crate::outside::outside;
-use crate::step::step_device;
+use crate::outside::drives;
+use crate::step::driven_by;
 use crate::world::{SeenOutputs, World};
 use arrayvec::ArrayVec;
 use lane_look::Device;
@@ -91,14 +91,13 @@ impl Outer {
     fn is_settled<X: Device>(&self, world: &World<'_, X>, seen: &SeenOutputs) -> bool
         ensures { result ≡ true → IsSettled (setting X.meaning world.now) seen.now self.now }
     {
-        let mut words = self.words();
         let levels = self.pads();
-        let wires = step_device(world.device, &mut words, seen.cycle, levels);
+        let wires = driven_by(world.device, &self.device, seen.cycle, levels);
         if wires.irq != self.irq {
             return false;
         }
         let mut cursor = self.cursor;
-        let drives = outside(world.script, &mut cursor, &wires, seen.cycle);
+        let drives = drives(world.script, &mut cursor, &wires, seen.cycle);
         self.stays_by(&wires, seen, drives)
     }
 
@@ -107,23 +106,18 @@ impl Outer {
     pub fn quiet<X: Device>(&self, world: &World<'_, X>, seen: &SeenOutputs) -> u64
         ensures { IsQuiet (setting X.meaning world.now) seen.now self.now result }
     {
-        let levels = self.pads.pads();
         let inside = self.blocks.quiet(seen.cycle);
         if !self.stays || inside == 0 {
             return 0;
         }
-        let script = script_quiet(world.script, seen.cycle);
+        let levels = self.pads.pads();
         let words = words_quiet(world.device, &self.device, seen.cycle, levels);
-        let beyond = script.min(words);
-        let least = inside.min(beyond);
-        if least == 0 {
+        let within = inside.min(words);
+        if within == 0 || !self.is_settled(world, seen) {
             return 0;
         }
-        if self.is_settled(world, seen) {
-            least
-        } else {
-            0
-        }
+        let script = script_quiet(world.script, seen.cycle);
+        within.min(script)
     }
 
     /// So many cycles of the timer and the UARTs from this one on, where the pads stay.
@@ -153,6 +147,9 @@ impl Outer {
         requires quiet { IsQuiet (setting X.meaning world.now) seen.now self.old n }
         ensures { self.new ≡ outer_after (setting X.meaning world.now) seen.now n self.old }
     {
+        if n == 0 {
+            return;
+        }
         self.pass_blocks(seen.cycle, n);
         self.pass_device(world.device, seen.cycle, n);
     }

@@ -4,12 +4,12 @@ ghost use Rattle.std.specs.Prelude.{◌≡◌, ◌∷◌, [], true, false};
 ghost use Rattle.io_bank.specs.Interrupts.{line_of};
 ghost use Rattle.io_bank.specs.Step.{is_at_rest};
 ghost use Rattle.outer_lane.specs.BroughtUp.{blocks_outs};
-ghost use Rattle.outer_lane.specs.Step.{wires_by, words_by};
+ghost use Rattle.outer_lane.specs.Step.{wires_by};
 
 use crate::behind::Behind;
 use crate::drivers::Drivers;
 use crate::outer::Outer;
-use crate::outside::outside;
+use crate::outside::drives;
 use crate::world::SeenOutputs;
 use arrayvec::ArrayVec;
 use io_bank::{IoBank, Outs};
@@ -30,19 +30,19 @@ fn do_stay(pads: &IoBank, blocks: &Behind, drivers: &Drivers) -> bool
     pads.is_at_rest() && pads.is_silent() && drivers.has_uarts(blocks.outs())
 }
 
-/// The device steps, by the levels of the pads at the start. One that has another number of words does nothing.
-#[tactic(auto, unfolding(crate::specs::Step::wires_by, crate::specs::Step::words_by))]
-pub(crate) fn step_device<X: Device>(
+/// What the device drives in a cycle, by the levels of the pads at the start. One that has another number of words drives nothing.
+#[inline(always)]
+#[tactic(auto, unfolding(crate::specs::Step::wires_by))]
+pub(crate) fn driven_by<X: Device>(
     device: &X,
-    words: &mut ArrayVec<u32, 128>,
+    words: &ArrayVec<u32, 128>,
     cycle: u64,
     levels: u32,
 ) -> Wires
-    ensures wires { result ≡ wires_by (X.meaning device.now) words.old.items cycle levels }
-    ensures words { words.new.items ≡ words_by (X.meaning device.now) words.old.items cycle levels }
+    ensures { result ≡ wires_by (X.meaning device.now) words.now.items cycle levels }
 {
     if words.len() == device.words() {
-        device.step(words.as_mut_slice(), cycle, levels)
+        device.drives(words.as_slice(), cycle, levels)
     } else {
         Wires::default()
     }
@@ -62,13 +62,7 @@ impl Outer {
         ensures drives { (pin : ℕ) → pin < 30 → by_sets result.driven result.high pin
             ≡ outside_of script.now wires.now cycle pin }
     {
-        if script.as_slice().is_empty() {
-            return Drives {
-                driven: wires.mask,
-                high: wires.level,
-            };
-        }
-        outside(script, &mut self.cursor, wires, cycle)
+        drives(script, &mut self.cursor, wires, cycle)
     }
 
     /// What the UARTs put out, by pin: levels and enables.

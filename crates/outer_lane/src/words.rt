@@ -6,7 +6,7 @@ ghost use Rattle.io_bank.specs.Words.{effect_of};
 ghost use Rattle.outer_lane.specs.Words.{bank_accessed};
 
 use crate::outer::Outer;
-use crate::step::step_device;
+use crate::step::driven_by;
 use crate::world::{SeenOutputs, World};
 use arrayvec::ArrayVec;
 use io_bank::registers::{PAD_GPIO29, PADS_BANK0};
@@ -92,12 +92,11 @@ impl Outer {
         self.read_pin_word(world, seen, PADS_BANK0 + offset)
     }
 
-    /// The outputs of all parts in this cycle. The device says what it drives, on a copy of its words.
+    /// The outputs of all parts in this cycle.
     fn outs_now<X: Device>(&self, world: &World<'_, X>, seen: &SeenOutputs) -> Outs
         ensures { result ≡ outs_now (setting X.meaning world.now) seen.now self.now }
     {
-        let mut words = self.words();
-        let wires = step_device(world.device, &mut words, seen.cycle, self.pads.pads());
+        let wires = driven_by(world.device, &self.device, seen.cycle, self.pads.pads());
         self.outs(&wires, seen)
     }
 

@@ -2,7 +2,7 @@
 
 ghost use Rattle.std.specs.Prelude.{◌≡◌, length};
 ghost use Rattle.lane_look.specs.Quiet.{device_after};
-ghost use Rattle.pwm_block.specs.Device.{packed_step, pwm_device};
+ghost use Rattle.pwm_block.specs.Device.{packed_step, packed_wires, pwm_device};
 ghost use Rattle.pwm_block.specs.State.{at_reset};
 ghost use Rattle.pwm_block.specs.Step.{after_step};
 ghost use Rattle.pwm_block.specs.Packing.{words_of, block_of};
@@ -49,17 +49,17 @@ impl Device for Pwm {
 
     #[inline(always)]
     fn step(&self, state: &mut [u32], _cycle: u64, pads: u32) -> Wires {
-        let signs = state[SIGNS];
-        let wires = Wires {
-            mask: 0,
-            level: 0,
-            pwm: state[PINS],
-            irq: ((signs >> 8) & 1) << 4,
-        };
+        let wires = driven(state);
         cycle(state, pads);
         wires
     }
 
+    #[inline(always)]
+    fn drives(&self, state: &[u32], _cycle: u64, _pads: u32) -> Wires {
+        driven(state)
+    }
+
+    #[inline(always)]
     fn quiet(&self, state: &[u32], _cycle: u64, _pads: u32) -> u64 {
         if state[SIGNS] & 0xff == 0 {
             u64::MAX
@@ -68,6 +68,7 @@ impl Device for Pwm {
         }
     }
 
+    #[inline(always)]
     fn pass(&self, state: &mut [u32], first: u64, pads: u32, n: u64) {
         if state[SIGNS] & 0xff == 0 {
             if 0 < n {
@@ -92,6 +93,20 @@ fn start(state: &mut [u32])
     renew(state, &Change::Reset, 0, none);
 }
 
+/// What it drives, whatever the cycle.
+#[inline(always)]
+fn driven(state: &[u32]) -> Wires
+    requires { length state.now ≡ 68 }
+    ensures { result ≡ packed_wires state.now }
+{
+    Wires {
+        mask: 0,
+        level: 0,
+        pwm: state[PINS],
+        irq: ((state[SIGNS] >> 8) & 1) << 4,
+    }
+}
+
 /// A cycle: where no slice is enabled it changes the last levels of the pads alone.
 #[inline(always)]
 fn cycle(state: &mut [u32], pads: u32)
@@ -106,6 +121,7 @@ fn cycle(state: &mut [u32], pads: u32)
 }
 
 /// So many cycles one by one.
+#[inline(never)]
 fn cycles(state: &mut [u32], _first: u64, pads: u32, n: u64)
     requires { length state.old ≡ 68 }
     ensures { state.new ≡ device_after pwm_device pads _first n state.old }

@@ -7,9 +7,9 @@
 
 pub mod laws;
 mod onward;
-pub mod pace;
 mod pass;
+pub mod ways;
 
 pub use onward::Watch;
-pub use pace::{Pace, pass_quiet, pass_watched};
 pub use pass::pass_waiting;
+pub use ways::{pass_quiet, pass_watched};

@@ -11,7 +11,7 @@ ghost use Rattle.reverse_debug.specs.Reply.{ends_by, seen};
 use crate::sight::Sight;
 use crate::watch::{Watched, ends_by, seen};
 use lane_look::{Device, Marks};
-use quiet_run::{Pace, pass_quiet, pass_waiting, pass_watched};
+use quiet_run::{pass_quiet, pass_waiting, pass_watched};
 use rp_base::Why;
 use rp_machine::{Machine, Steps, World};
 use std::sync::ledger::Ledger;
@@ -45,9 +45,8 @@ pub(crate) fn advance<X: Device, L: Ledger>(
     ensures steps { CountsMove machine.old machine.new steps.old steps.new }
 {
     let most = passable(machine.number(), to, world.limit);
-    let mut pace = Pace::default();
     'cycles: while machine.number() < to {
-        pass_quiet(machine, world, most, &mut pace, marks, steps);
+        pass_quiet(machine, world, most, marks, steps);
         match machine.cycle(world, marks, steps) {
             Some(why) => return Some(why),
             None => continue 'cycles,
@@ -72,7 +71,6 @@ fn pass_seeking<X: Device, L: Ledger>(
     watched: Watched,
     before: u32,
     to: u64,
-    pace: &mut Pace,
     marks: &mut Marks,
     steps: &mut Steps<L>,
 ) -> u64
@@ -89,14 +87,14 @@ fn pass_seeking<X: Device, L: Ledger>(
         return pass_waiting(machine, world, to, steps);
     }
     match watched {
-        Watched::Pin(_) => pass_quiet(machine, world, to, pace, marks, steps),
+        Watched::Pin(_) => pass_quiet(machine, world, to, marks, steps),
         Watched::Word(address) => {
             let sight = Sight::Word(address, before);
-            pass_watched(machine, world, to, &sight, pace, marks, steps)
+            pass_watched(machine, world, to, &sight, marks, steps)
         }
         Watched::Begun(core, address) => {
             let sight = Sight::Begun(core != 0, address);
-            pass_watched(machine, world, to, &sight, pace, marks, steps)
+            pass_watched(machine, world, to, &sight, marks, steps)
         }
     }
 }
@@ -108,7 +106,6 @@ pub(crate) fn seek<X: Device, L: Ledger>(
     world: &World<'_, X>,
     watched: Watched,
     to: u64,
-    pace: &mut Pace,
     marks: &mut Marks,
     steps: &mut Steps<L>,
 ) -> Option<Why>
@@ -123,7 +120,7 @@ pub(crate) fn seek<X: Device, L: Ledger>(
     let before = seen(machine, watched);
     let most = passable(machine.number(), to, world.limit);
     'cycles: while machine.number() < to {
-        let passed = pass_seeking(machine, world, watched, before, most, pace, marks, steps);
+        let passed = pass_seeking(machine, world, watched, before, most, marks, steps);
         if has_ended(passed, watched, before, machine) {
             return None;
         }

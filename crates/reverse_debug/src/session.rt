@@ -13,7 +13,6 @@ use crate::search::nth_before;
 use crate::watch::{Watched, ends_by, seen};
 use arrayvec::ArrayVec;
 use lane_look::{Device, Marks};
-use quiet_run::Pace;
 use rp_base::Why;
 use rp_machine::{Machine, Steps, World};
 use snap_ring::Ring;
@@ -231,7 +230,6 @@ impl Session {
         &mut self,
         world: &World<'_, X>,
         watched: Watched,
-        pace: &mut Pace,
         marks: &mut Marks,
         steps: &mut Steps<L>,
     ) -> Option<Why>
@@ -243,7 +241,7 @@ impl Session {
         ensures steps { CountsMove self.old.now self.new.now steps.old steps.new }
     {
         let until = self.next_stop(u64::MAX);
-        let why = seek(&mut self.machine, world, watched, until, pace, marks, steps);
+        let why = seek(&mut self.machine, world, watched, until, marks, steps);
         self.reached = greater(self.reached, self.machine.number());
         self.ring.keep(&self.machine);
         self.near.keep(&self.machine);
@@ -331,11 +329,10 @@ impl Session {
         ensures { ComesTo (setting X.meaning world.now) watched count self.old self.new result steps.old steps.new }
     {
         let mut left = count;
-        let mut pace = Pace::default();
         let mut marks = Marks::new();
         'cycles: while 0 < left {
             let before = seen(&self.machine, watched);
-            match self.seek(world, watched, &mut pace, &mut marks, steps) {
+            match self.seek(world, watched, &mut marks, steps) {
                 Some(why) => return Some(why),
                 None => {
                     let ended = ends_by(watched, before, seen(&self.machine, watched));

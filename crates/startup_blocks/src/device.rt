@@ -46,6 +46,11 @@ impl Device for Startup {
         Wires::default()
     }
 
+    #[inline(always)]
+    fn drives(&self, _state: &[u32], _cycle: u64, _pads: u32) -> Wires {
+        Wires::default()
+    }
+
     fn quiet(&self, _state: &[u32], _cycle: u64, _pads: u32) -> u64 {
         u64::MAX
     }

@@ -10,9 +10,10 @@ returns g c t =
     let d = g.X.Device.meaning c.args.world.now.device.now in
     let s = c.args.self.now in
     let cycle = c.args.seen.now.cycle in
-    let e : c.step_device-wires.result ≡ wires_of d cycle s =
-    c.step_device-wires.ensures.wires
-    ∙ ap (λ (xs : List ℕ). wires_by d xs cycle c.pads-levels.result) c.words-words.ensures
+    let own : c.self.inside.device.items ≡ s.device = ap (λ (x : OuterState). x.device) c.self.view_is in
+    let e : c.driven_by-wires.result ≡ wires_of d cycle s =
+    c.driven_by-wires.ensures
+    ∙ ap (λ (xs : List ℕ). wires_by d xs cycle c.pads-levels.result) own
     ∙ ap (λ (n : ℕ). wires_by d s.device cycle n) c.pads-levels.ensures in
-    settled_by (setting g.X.Device.meaning c.args.world.now) c.args.seen.now s c.step_device-wires.result c.outside-drives.result e
-    c.outside-drives.ensures (c.stays_by.ensures t) (c.if-wires-self.false ∙ ap (λ (x : OuterState). x.irq) c.self.view_is)
+    settled_by (setting g.X.Device.meaning c.args.world.now) c.args.seen.now s c.driven_by-wires.result c.drives-drives.result e
+    c.drives-drives.ensures (c.stays_by.ensures t) (c.if-wires-self.false ∙ ap (λ (x : OuterState). x.irq) c.self.view_is)

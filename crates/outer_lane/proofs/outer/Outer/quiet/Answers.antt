@@ -9,23 +9,20 @@ use Rattle.outer_lane.proofs.outer.Outer.quiet.Goals as goal
 pub returns-then-not-self : goal.returns-then-not-self
 returns-then-not-self g c = quiet_zero (setting g.X.Device.meaning c.args.world.now) c.args.seen.now c.args.self.now
 
-pub returns-then-least-eq0 : goal.returns-then-least-eq0
-returns-then-least-eq0 g c = quiet_zero (setting g.X.Device.meaning c.args.world.now) c.args.seen.now c.args.self.now
+pub returns-then-within-eq0 : goal.returns-then-within-eq0
+returns-then-within-eq0 g c = quiet_zero (setting g.X.Device.meaning c.args.world.now) c.args.seen.now c.args.self.now
 
-pub returns-else-is_settled : goal.returns-else-is_settled
-returns-else-is_settled g c = quiet_zero (setting g.X.Device.meaning c.args.world.now) c.args.seen.now c.args.self.now
-
-pub returns-then-is_settled : goal.returns-then-is_settled
-returns-then-is_settled g c =
+pub returns-else-within-eq0 : goal.returns-else-within-eq0
+returns-else-within-eq0 g c =
     let w = setting g.X.Device.meaning c.args.world.now in
     let i = c.self.inside in
     let s = the_view i in
     let words =
     subst (λ (x : ℕ). AreWordsQuiet w.device s.device c.args.seen.now.cycle x c.words_quiet-words.result) c.pads-levels.ensures c.words_quiet-words.ensures in
-    let b = c.min-beyond.ensures in
-    let e = c.min-least.ensures in
-    subst (λ (o : OuterState). IsQuiet w c.args.seen.now o c.min-least.result) c.self.view_is
+    let b = c.min-within.ensures in
+    let e = c.min.ensures in
+    subst (λ (o : OuterState). IsQuiet w c.args.seen.now o c.min.result) c.self.view_is
     (least_quiet w c.args.seen.now s i.blocks.line0 i.blocks.line1 c.quiet-inside.result c.script_quiet-script.result c.words_quiet-words.result
-    c.min-least.result c.self.invariant.0 c.self.invariant.1.0 c.quiet-inside.ensures c.script_quiet-script.ensures words
+    c.min.result c.self.invariant.0 c.self.invariant.1.0 c.quiet-inside.ensures c.script_quiet-script.ensures words
     (omega (arith, b, e)) (omega (arith, b, e)) (omega (arith, b, e))
-    (subst (IsSettled w c.args.seen.now) (sym c.self.view_is) (c.is_settled.ensures c.if-is_settled.true)))
+    (subst (IsSettled w c.args.seen.now) (sym c.self.view_is) (c.is_settled.ensures c.if-not-is_settled.false)))

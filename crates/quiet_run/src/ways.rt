@@ -1,4 +1,4 @@
-//! When it is worth while to try to go over many cycles.
+//! Which way to go over many cycles.
 
 ghost use Rattle.std.specs.Prelude.{◌≡◌, ℕ, ◌+◌, ◌<◌, ◌≤◌, false};
 ghost use Rattle.outer_lane.specs.Setting.{setting};
@@ -11,28 +11,15 @@ use lane_look::{Device, Marks};
 use rp_machine::{Machine, Steps, World};
 use std::sync::ledger::Ledger;
 
-/// A try that goes over fewer cycles than this was not worth while.
-const FEW: u64 = 16;
-
-/// So many cycles are done one by one behind it.
-const APART: u64 = 64;
-
-/// Before which cycle core 0 at work is not tried again: a loop that polls a register would pay for a try in each of its turns.
-#[derive(Clone, Copy, Debug, Default)]
-pub struct Pace {
-    next: u64,
-}
-
 /// Goes over cycles in which core 0 alone is at work in SRAM beside quiet peripherals and nothing stops it, at most up to a cycle, and counts
-/// them. Gives how many there are, 0 also where it is not worth while to look. Each of them happens, has no events, and leaves the pads as
-/// they are.
+/// them. Gives how many there are, 0 also where an access lasts or core 1 is awake. Each of them happens, has no events, and leaves the pads
+/// as they are.
 #[inline(always)]
 pub fn pass_watched<X: Device, W: Watch, L: Ledger>(
     machine: &mut Machine,
     world: &World<'_, X>,
     to: u64,
     watch: &W,
-    pace: &mut Pace,
     marks: &mut Marks,
     steps: &mut Steps<L>,
 ) -> u64
@@ -44,25 +31,19 @@ pub fn pass_watched<X: Device, W: Watch, L: Ledger>(
     ensures marks { marks.new ≡ marks.old }
     ensures steps { steps.new ≡ steps.old + result }
 {
-    let at = machine.number();
-    if at < pace.next {
+    if machine.fabric.holds() || !machine.core1.is_asleep() {
         return 0;
     }
-    let done = pass_onward(machine, world, to, watch, marks, steps);
-    if done < FEW {
-        pace.next = at.saturating_add(APART);
-    }
-    done
+    pass_onward(machine, world, to, watch, marks, steps)
 }
 
 /// Goes over cycles of which nothing is told, at most up to a cycle, and counts them: those in which nobody has anything to do, or in
-/// which core 0 alone is at work in SRAM beside quiet peripherals. Gives how many there are, 0 also where it is not worth while to look.
+/// which core 0 alone is at work in SRAM beside quiet peripherals. Gives how many there are, 0 also where an access lasts.
 /// Each of them happens, has no events, and leaves the pads as they are.
 pub fn pass_quiet<X: Device, L: Ledger>(
     machine: &mut Machine,
     world: &World<'_, X>,
     to: u64,
-    pace: &mut Pace,
     marks: &mut Marks,
     steps: &mut Steps<L>,
 ) -> u64
@@ -76,5 +57,5 @@ pub fn pass_quiet<X: Device, L: Ledger>(
     if machine.core0.is_waiting() {
         return pass_waiting(machine, world, to, steps);
     }
-    pass_watched(machine, world, to, &Unwatched, pace, marks, steps)
+    pass_watched(machine, world, to, &Unwatched, marks, steps)
 }
