@@ -116,9 +116,6 @@ impl Machine {
         ensures { result ≡ cause_in (setting X.meaning world.now) begun.now (wanted begun.now)
             self.now }
     {
-        if begun.core0.wants_nothing() {
-            return None;
-        }
         self.cause_of_core0(world, &begun.outer, &begun.core0)
     }
 
@@ -465,6 +462,12 @@ impl Machine {
             return Some(Why::Limit);
         }
         let first = is_core0_first(lanes);
+        if first && self.is_bus_free(&lanes.core0) {
+            marks.clear();
+            steps.tick();
+            self.step_at_rest(world, lanes, marks);
+            return None;
+        }
         let cause = if first {
             self.cause_first(world, lanes)
         } else {
@@ -475,12 +478,10 @@ impl Machine {
         }
         marks.clear();
         steps.tick();
-        if !first {
-            self.step_for_all(world, lanes, marks);
-        } else if self.is_bus_free(&lanes.core0) {
-            self.step_at_rest(world, lanes, marks);
-        } else {
+        if first {
             self.step_for_core0(world, lanes, marks);
+        } else {
+            self.step_for_all(world, lanes, marks);
         }
         None
     }

@@ -1,13 +1,7 @@
-use Rattle.std.proofs.Common.{◌∙◌, sym}
+use Rattle.std.proofs.Common.{◌∙◌}
 use Rattle.outer_lane.specs.Setting.{setting_of}
-use Rattle.rp_machine.proofs.OneCore.{cause_first, no_cause}
+use Rattle.rp_machine.proofs.OneCore.{cause_first}
 use Rattle.rp_machine.proofs.machine.Machine.cause_first.Goals as goal
-
-pub returns-then-wants_nothing : goal.returns-then-wants_nothing
-returns-then-wants_nothing g c =
-    let w = setting_of c.args.world.now.script.now (g.X.Device.meaning c.args.world.now.device.now) c.args.world.now.limit in
-    sym (no_cause w c.args.begun.now c.args.self.now (c.wants_nothing.ensures.0 c.if-wants_nothing.true))
-    ∙ cause_first w c.args.begun.now c.args.self.now c.requires
 
 pub returns : goal.returns
 returns g c =
