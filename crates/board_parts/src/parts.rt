@@ -113,14 +113,13 @@ impl<P: Part + Sync> Device for Row<P> {
     #[inline(always)]
     fn step(&self, state: &mut [u32], cycle: u64, pads: u32) -> Wires {
         match self.list.as_slice() {
-            [] => Wires::default(),
-            [only] => join(only.step(state, cycle, pads), Wires::default()),
-            list => step_all(list, state, cycle, pads),
+            [only] => wires(join(only.step(state, cycle, pads), Drive::default())),
+            list => wires(step_all(list, state, cycle, pads)),
         }
     }
 
     fn drives(&self, state: &[u32], cycle: u64, pads: u32) -> Wires {
-        drives_all(&self.list, state, cycle, pads)
+        wires(drives_all(&self.list, state, cycle, pads))
     }
 
     fn quiet(&self, state: &[u32], cycle: u64, pads: u32) -> u64 {
@@ -145,29 +144,39 @@ fn start_all<P: Part>(list: &[P], state: &mut [u32])
 }
 
 /// What a part drives together with later ones: the earlier one gives the level of a pin.
-fn join(first: Drive, rest: Wires) -> Wires
-    ensures { result ≡ joined (wires_by first) rest }
+fn join(first: Drive, rest: Drive) -> Drive
+    ensures { wires_by result ≡ joined (wires_by first) (wires_by rest) }
 {
-    Wires {
+    Drive {
         mask: first.mask | rest.mask,
         level: first.level & first.mask | rest.level & !first.mask,
-        pwm: rest.pwm,
-        irq: rest.irq,
+    }
+}
+
+/// What a device drives that drives these pins alone.
+fn wires(drive: Drive) -> Wires
+    ensures { result ≡ wires_by drive }
+{
+    Wires {
+        mask: drive.mask,
+        level: drive.level,
+        pwm: 0,
+        irq: 0,
     }
 }
 
 /// A cycle of parts, each over its own words.
 #[inline(never)]
-fn step_all<P: Part>(list: &[P], state: &mut [u32], cycle: u64, pads: u32) -> Wires
+fn step_all<P: Part>(list: &[P], state: &mut [u32], cycle: u64, pads: u32) -> Drive
     requires state { length state.old ≡ words_of (map (λ p. placed_at (P.attached p) (P.meaning p)) list.now) }
     requires placed { all_placed (map (λ p. placed_at (P.attached p) (P.meaning p)) list.now) ≡ true }
-    ensures wires { result ≡ wires_of (map (λ p. placed_at (P.attached p) (P.meaning p)) list.now)
+    ensures wires { wires_by result ≡ wires_of (map (λ p. placed_at (P.attached p) (P.meaning p)) list.now)
         state.old cycle pads }
     ensures state { state.new ≡ states_after (map (λ p. placed_at (P.attached p) (P.meaning p)) list.now)
         state.old cycle pads }
 {
     match list {
-        [] => Wires::default(),
+        [] => Drive::default(),
         [first, rest @ ..] => {
             let (words, others) = state.split_at_mut(first.words());
             let drive = first.step(words, cycle, pads);
@@ -177,14 +186,14 @@ fn step_all<P: Part>(list: &[P], state: &mut [u32], cycle: u64, pads: u32) -> Wi
 }
 
 /// What parts drive in a cycle, each by its own words.
-fn drives_all<P: Part>(list: &[P], state: &[u32], cycle: u64, pads: u32) -> Wires
+fn drives_all<P: Part>(list: &[P], state: &[u32], cycle: u64, pads: u32) -> Drive
     requires state { length state.now ≡ words_of (map (λ p. placed_at (P.attached p) (P.meaning p)) list.now) }
     requires room { length state.now ≤ 128 }
     requires placed { all_placed (map (λ p. placed_at (P.attached p) (P.meaning p)) list.now) ≡ true }
-    ensures { result ≡ wires_of (map (λ p. placed_at (P.attached p) (P.meaning p)) list.now) state.now cycle pads }
+    ensures { wires_by result ≡ wires_of (map (λ p. placed_at (P.attached p) (P.meaning p)) list.now) state.now cycle pads }
 {
     match list {
-        [] => Wires::default(),
+        [] => Drive::default(),
         [first, rest @ ..] => {
             let (own, others) = state.split_at(first.words());
             let drive = first.drives(own, cycle, pads);

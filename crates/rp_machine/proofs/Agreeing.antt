@@ -111,15 +111,15 @@ reset_agrees w core1 dma pio0 pio1 outer sio bits pins offer =
 
 -- ---- the steps
 
-pub steps_agree : (w : Setting) (reset : ℕ) (core1 : Core) (dma : Engine) (pio0 pio1 : Pio) (outer : OuterState) (sio : SioState)
-    (b1 : CoreDoing) (b2 : DmaDoing) (b3 b4 : Option Inputs) (seen : SeenOutputs) (t1 t2 : List Turn)
+pub steps_agree : (reset : ℕ) (core1 : Core) (dma : Engine) (pio0 pio1 : Pio) (outer : OuterState) (sio : SioState)
+    (b1 : CoreDoing) (b2 : DmaDoing) (b3 b4 : Option Inputs) (t1 t2 : List Turn)
     → Agree reset core1 dma pio0 pio1 outer sio
-    → Agree reset (core_steps.next core1 b1 t1) (dma_steps.next dma b2 t2) (pio_steps.next b3 pio0) (pio_steps.next b4 pio1) (outer_steps.next w outer seen) sio
-steps_agree w reset core1 dma pio0 pio1 outer sio b1 b2 b3 b4 seen t1 t2 a =
+    → Agree reset (core_steps.next core1 b1 t1) (dma_steps.next dma b2 t2) (pio_steps.next b3 pio0) (pio_steps.next b4 pio1) outer sio
+steps_agree reset core1 dma pio0 pio1 outer sio b1 b2 b3 b4 t1 t2 a =
     with_core (core_next core1 b1 t1 core1.offer (record { is = refl }))
     (with_dma (dma_next dma b2 t2 dma.held (record { is = refl }))
     (with_pio0 (pio_next b3 pio0.held pio0 (record { is = refl }))
-    (with_pio1 (pio_next b4 pio1.held pio1 (record { is = refl })) (with_outer (outer_next w outer seen) a))))
+    (with_pio1 (pio_next b4 pio1.held pio1 (record { is = refl })) a)))
 
 -- ---- SIO tells what it has
 

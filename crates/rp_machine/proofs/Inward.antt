@@ -210,7 +210,7 @@ record IsStep (w : Setting) (s : State) (k : ℕ) : Type 0 where
   next : next w (onward_after w s k) ≡ onward_after w s (suc k)
   events : events w (onward_after w s k) ≡ []
 
-stop_none : (w : Setting) (s : State) → s.cycle < w.limit → cause_in w (begun s) (wanted (begun s)) s ≡ None → stop w s ≡ None
+pub stop_none : (w : Setting) (s : State) → s.cycle < w.limit → cause_in w (begun s) (wanted (begun s)) s ≡ None → stop w s ≡ None
 unfolding stop
 stop_none w s lt none = elim (eqb_tells s.cycle w.limit) [
   | inl e ↦ absurd (let same = e.1 in omega arith)

@@ -149,12 +149,27 @@ behind b h =
       write = nothing (dma.want_of b.dma.write) d.0;
     }
 
+pub no_cause : (w : Setting) (b : Begun) (s : State) → core.want_of b.core0 ≡ want.Nothing
+    → cause_of w b.outer s (wanted_by master.Core0 (core.want_of b.core0)) ≡ None
+unfolding cause_of
+no_cause w b s e = rw e refl
+
 pub cause_first : (w : Setting) (b : Begun) (s : State) → is_first_alone (wanted b) ≡ true
     → cause_of w b.outer s (wanted_by master.Core0 (core.want_of b.core0)) ≡ cause_in w b (wanted b) s
 unfolding wanted cause_in cause_of
 cause_first w b s h =
     let none = behind b h in
     rw (none.core1, none.read, none.write) (sym (alone_first (cause_of w b.outer s (wanted_by master.Core0 (core.want_of b.core0)))))
+
+-- nobody who wants nothing stops a cycle
+pub goes_on : (w : Setting) (b : Begun) (s : State) → b ≡ begun s → is_first_alone (wanted b) ≡ true → core.want_of b.core0 ≡ want.Nothing
+    → cause_in w (begun s) (wanted (begun s)) s ≡ None
+goes_on w b s e first none =
+    ap (λ x. cause_in w x (wanted x) s) (sym e) ∙ sym (cause_first w b s first) ∙ no_cause w b s none
+
+pub next_begun : (w : Setting) (b : Begun) (s : State) → b ≡ begun s → next_by w b (wanted b) s ≡ next w s
+unfolding next
+next_begun w b s e = rw e refl
 
 pub next_first : (w : Setting) (b : Begun) (s : State) → is_first_alone (wanted b) ≡ true
     → first_next w b (wanted_by master.Core0 (core.want_of b.core0)) s ≡ next_by w b (wanted b) s

@@ -113,15 +113,17 @@ turns w b xs s grants = turns_by w b.outer (first_want xs) s xs grants
 abbrev pub turn_for : List Turn → Master → Turn
 turn_for turns m = slice_index_or turns (number_of m) turn.Nothing
 
-unfoldable pub with_turns : Setting → Begun → List Turn → State → State
-with_turns w b turns s = record s {
+abbrev pub turned_inside : Begun → List Turn → State → State
+turned_inside b turns s = record s {
   core0 = core.next s.core0 b.core0 (turn_for turns master.Core0 ∷ turn.Nothing ∷ []);
   core1 = core.next s.core1 b.core1 (turn_for turns master.Core1 ∷ turn.Nothing ∷ []);
   dma = dma.next s.dma b.dma (turn_for turns master.DmaRead ∷ turn_for turns master.DmaWrite ∷ []);
   pio0 = pio.next b.pio0 s.pio0;
   pio1 = pio.next b.pio1 s.pio1;
-  outer = outer.next w s.outer b.outer;
 }
+
+unfoldable pub with_turns : Setting → Begun → List Turn → State → State
+with_turns w b turns s = record (turned_inside b turns s) { outer = outer.next w s.outer b.outer }
 
 -- ---- deeds
 

@@ -86,7 +86,7 @@ impl Machine {
     ghost use Rattle.rp_machine.specs.Deeds.{spot_of, StoresInSram};
     ghost use Rattle.rp_machine.specs.BusRest.{core1_at_rest, rest_next};
     ghost use Rattle.rp_machine.specs.Alone.{first_next, is_first_alone};
-    ghost use Rattle.rp_machine.specs.Cycle.{begun, wanted_by, wanted, cause_in, stop, turns, deeds, with_turns, signalled, pins_of, with_sio, found_by, sio_accessed, after_deed, after_launcher, after_core1, stored, ended, after_deeds, next_by, next, mark};
+    ghost use Rattle.rp_machine.specs.Cycle.{begun, wanted_by, wanted, cause_in, stop, turns, deeds, turned_inside, signalled, pins_of, with_sio, found_by, sio_accessed, after_deed, after_launcher, after_core1, stored, ended, after_deeds, next_by, next, mark};
 
     /// The first cause of a master to stop before a cycle in which this was begun, whoever wants anything.
     #[inline(never)]
@@ -162,20 +162,12 @@ impl Machine {
         ([turn0, turn1, turn2, turn3], [deed0, deed1, deed2, deed3])
     }
 
-    /// The lanes step by these turns.
+    /// The lanes but the peripherals step by these turns.
     #[inline(always)]
-    #[tactic(auto, unfolding(crate::specs::Cycle::with_turns))]
-    fn step_lanes<X: Device>(
-        &mut self,
-        world: &World<'_, X>,
-        begun: &Begun,
-        turns: [Turn; 4],
-        marks: &mut Marks,
-    )
+    fn step_inside(&mut self, begun: &Begun, turns: [Turn; 4], marks: &mut Marks)
         requires { length marks.old < 256 }
-        ensures state { self.new ≡ with_turns (setting X.meaning world.now) begun.now turns self.old }
-        ensures marks { marks.new ≡ marks.old ++ marked (setting X.meaning world.now) self.old.outer
-            begun.now.outer ∷ [] }
+        ensures state { self.new ≡ turned_inside begun.now turns self.old }
+        ensures marks { marks.new ≡ marks.old }
     {
         let [turn0, turn1, read, write] = turns;
         self.core0
@@ -187,8 +179,6 @@ impl Machine {
             .finish(&(), &begun.pio0, [Turn::Nothing; 2], marks);
         self.pio1
             .finish(&(), &begun.pio1, [Turn::Nothing; 2], marks);
-        self.outer
-            .finish(world, &begun.outer, [Turn::Nothing; 2], marks);
     }
 
     /// SEV sets the event registers of both cores.
@@ -343,7 +333,7 @@ impl Machine {
 
     /// One cycle in which this was begun, nobody wants anything, and no access lasts: only the lanes, SIO and the number change.
     #[inline(never)]
-    #[tactic(auto, unfolding(crate::specs::BusRest::rest_next))]
+    #[tactic(auto, unfolding(crate::specs::BusRest::rest_next, crate::specs::Cycle::with_turns))]
     fn step_at_rest<X: Device>(&mut self, world: &World<'_, X>, begun: &Begun, marks: &mut Marks)
         requires number { self.old.cycle < 2 ^ 64 - 1 }
         requires marks { length marks.old < 256 }
@@ -353,7 +343,9 @@ impl Machine {
     {
         let at = self.at;
         let offered = self.sio.offers();
-        self.step_lanes(world, begun, [Turn::Nothing; 4], marks);
+        self.step_inside(begun, [Turn::Nothing; 4], marks);
+        self.outer
+            .finish(world, &begun.outer, [Turn::Nothing; 2], marks);
         self.rest_core1(offered);
         self.end();
         self.at = at + 1;
@@ -361,7 +353,7 @@ impl Machine {
 
     /// One cycle in which this was begun, and no master but core 0 wants anything.
     #[inline(never)]
-    #[tactic(auto, unfolding(crate::specs::Alone::first_next))]
+    #[tactic(auto, unfolding(crate::specs::Alone::first_next, crate::specs::Cycle::with_turns))]
     fn step_for_core0<X: Device>(&mut self, world: &World<'_, X>, begun: &Begun, marks: &mut Marks)
         requires number { self.old.cycle < 2 ^ 64 - 1 }
         requires marks { length marks.old < 256 }
@@ -377,12 +369,13 @@ impl Machine {
         let offered = self.sio.offers();
         let found = self.found_by(Master::Core0, &deed);
         self.fabric = fabric;
-        self.step_lanes(
-            world,
+        self.step_inside(
             begun,
             [turn, Turn::Nothing, Turn::Nothing, Turn::Nothing],
             marks,
         );
+        self.outer
+            .finish(world, &begun.outer, [Turn::Nothing; 2], marks);
         self.do_deed(world, found, Master::Core0, &deed);
         self.rest_core1(offered);
         self.store(&deed);
@@ -392,7 +385,7 @@ impl Machine {
 
     /// One cycle in which this was begun, whoever wants anything.
     #[inline(never)]
-    #[tactic(auto, unfolding(crate::specs::Cycle::next_by, crate::specs::Cycle::stepped, crate::specs::Cycle::granted))]
+    #[tactic(auto, unfolding(crate::specs::Cycle::next_by, crate::specs::Cycle::stepped, crate::specs::Cycle::with_turns, crate::specs::Cycle::granted))]
     fn step_for_all<X: Device>(&mut self, world: &World<'_, X>, begun: &Begun, marks: &mut Marks)
         requires number { self.old.cycle < 2 ^ 64 - 1 }
         requires marks { length marks.old < 256 }
@@ -408,27 +401,11 @@ impl Machine {
         let granted = fabric.grant(&asked(&wants, &spots));
         let (turns, deeds) = self.all_served(world, begun, &wants, &spots, granted);
         self.fabric = fabric;
-        self.step_lanes(world, begun, turns, marks);
+        self.step_inside(begun, turns, marks);
+        self.outer
+            .finish(world, &begun.outer, [Turn::Nothing; 2], marks);
         self.do_deeds(world, &deeds);
         self.at = at + 1;
-    }
-
-    /// One cycle in which this was begun, and no master behind core 0 wants anything. In many core 0 does not either.
-    #[inline(always)]
-    fn step_first<X: Device>(&mut self, world: &World<'_, X>, begun: &Begun, marks: &mut Marks)
-        requires number { self.old.cycle < 2 ^ 64 - 1 }
-        requires marks { length marks.old < 256 }
-        requires first { is_first_alone (wanted begun.now) ≡ true }
-        ensures state { self.new ≡ next_by (setting X.meaning world.now) begun.now (wanted
-            begun.now) self.old }
-        ensures marks { marks.new ≡ marks.old ++ marked (setting X.meaning world.now) self.old.outer
-            begun.now.outer ∷ [] }
-    {
-        if self.is_bus_free(&begun.core0) {
-            self.step_at_rest(world, begun, marks);
-            return;
-        }
-        self.step_for_core0(world, begun, marks);
     }
 
     /// One cycle in which this was begun. Its mark goes to the end of the marks.
@@ -440,10 +417,12 @@ impl Machine {
         ensures marks { marks.new ≡ marks.old ++ marked (setting X.meaning world.now) self.old.outer
             begun.now.outer ∷ [] }
     {
-        if is_core0_first(begun) {
-            self.step_first(world, begun, marks);
-        } else {
+        if !is_core0_first(begun) {
             self.step_for_all(world, begun, marks);
+        } else if self.is_bus_free(&begun.core0) {
+            self.step_at_rest(world, begun, marks);
+        } else {
+            self.step_for_core0(world, begun, marks);
         }
     }
 
@@ -483,6 +462,12 @@ impl Machine {
             return Some(Why::Limit);
         }
         let first = is_core0_first(lanes);
+        if first && self.is_bus_free(&lanes.core0) {
+            marks.clear();
+            steps.tick();
+            self.step_at_rest(world, lanes, marks);
+            return None;
+        }
         let cause = if first {
             self.cause_first(world, lanes)
         } else {
@@ -494,7 +479,7 @@ impl Machine {
         marks.clear();
         steps.tick();
         if first {
-            self.step_first(world, lanes, marks);
+            self.step_for_core0(world, lanes, marks);
         } else {
             self.step_for_all(world, lanes, marks);
         }
