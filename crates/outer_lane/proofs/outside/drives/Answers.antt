@@ -5,7 +5,7 @@ use Rattle.std.proofs.Common.{List}
 use Rattle.outer_lane.proofs.Staying.{empty_outside}
 use Rattle.outer_lane.proofs.outside.drives.Goals as goal
 
-pub returns-then-is_empty : goal.returns-then-is_empty-clause-drives
+pub returns-then-is_empty : goal.returns-then-is_empty
 returns-then-is_empty c =
     let a = c.is_empty.ensures in
     let t = c.if-is_empty.true in

@@ -12,8 +12,8 @@ returns-then-not-self g c = quiet_zero (setting g.X.Device.meaning c.args.world.
 pub returns-then-within-eq0 : goal.returns-then-within-eq0
 returns-then-within-eq0 g c = quiet_zero (setting g.X.Device.meaning c.args.world.now) c.args.seen.now c.args.self.now
 
-pub returns-else-within-eq0 : goal.returns-else-within-eq0
-returns-else-within-eq0 g c =
+pub returns : goal.returns
+returns g c =
     let w = setting g.X.Device.meaning c.args.world.now in
     let i = c.self.inside in
     let s = the_view i in
