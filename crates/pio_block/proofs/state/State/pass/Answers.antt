@@ -1,0 +1,8 @@
+use Rattle.std.proofs.Common.{ap, ◌∙◌}
+use Rattle.pio_block.specs.State.{Block}
+use Rattle.pio_block.specs.Words.{is_at_rest}
+use Rattle.pio_block.proofs.Between.{rest_passed}
+use Rattle.pio_block.proofs.state.State.pass.Goals as goal
+
+pub returns-clause-rest : goal.returns-clause-rest
+returns-clause-rest c = rest_passed _ c.args.self.now c.args.n c.pass.new.self c.self.view_is c.pass.ensures
