@@ -7,7 +7,7 @@ use Rattle.std.proofs.lemmas.Bool.Decides.{nat_tests}
 use Rattle.std.proofs.lemmas.Nat.{and_mask}
 use Rattle.lane_look.specs.declared.lane.Ask.{Ask}
 use Rattle.lane_look.specs.declared.lane.Ask.TheVariants as ask
-use Rattle.lane_look.specs.Asking.{Asking, answered}
+use Rattle.lane_look.specs.Asking.{answered}
 use Rattle.lane_look.specs.Asking.Asking.{Ready, Question}
 use Rattle.lane_look.specs.Times.{times}
 use Rattle.pio_machine.specs.declared.machine.Machine1.{Machine1}
@@ -22,7 +22,7 @@ use Rattle.pio_block.specs.State.{Block, is_written, is_running, is_busy, each_f
 use Rattle.pio_block.specs.Cycle.{seen_by, written_from, all_written, all_stepped, joined, after_cycle, inputs_of, asks, next}
 use Rattle.pio_block.specs.Queues.{bits_of}
 use Rattle.pio_block.specs.Words.{has_room, has_words, intr_of, lines_of, room_left, words_held, pacing_of, is_at_rest}
-use Rattle.pio_block.specs.Quiet.{divider_after, IsBetweenTicks, AreBetweenTicks, HasWords, IsQuiet, block_after, GoesOn, AQuietBlockShowsTheSame}
+use Rattle.pio_block.specs.Quiet.{divider_after, IsBetweenTicks, AreBetweenTicks, HasWords, IsQuiet, block_after, AQuietBlockShowsTheSame}
 
 -- ---- a divider
 

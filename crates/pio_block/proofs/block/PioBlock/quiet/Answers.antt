@@ -1,5 +1,4 @@
-use Rattle.std.proofs.Common.{◌≡◌, sym, ap, subst, ◌∙◌}
-use Rattle.pio_block.specs.State.{Block}
+use Rattle.std.proofs.Common.{sym, ap, subst, ◌∙◌}
 use Rattle.pio_block.specs.Quiet.{HasWords}
 use Rattle.pio_block.specs.Words.{is_at_rest}
 use Rattle.pio_block.proofs.Between.{quiet_at_rest}

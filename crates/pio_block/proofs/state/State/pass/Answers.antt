@@ -1,6 +1,3 @@
-use Rattle.std.proofs.Common.{ap, ◌∙◌}
-use Rattle.pio_block.specs.State.{Block}
-use Rattle.pio_block.specs.Words.{is_at_rest}
 use Rattle.pio_block.proofs.Between.{rest_passed}
 use Rattle.pio_block.proofs.state.State.pass.Goals as goal
 
