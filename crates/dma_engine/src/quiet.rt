@@ -130,12 +130,8 @@ impl Dma {
         }
         match self.unmoved_by {
             Some(counts)
-                if counts == begun.counts
-                    && is_nothing(&begun.read)
-                    && is_nothing(&begun.write) =>
-            {
-                u64::MAX
-            }
+                if counts == begun.counts && is_nothing(&begun.read) && is_nothing(&begun.write) =>
+                { u64::MAX }
             _ => 0,
         }
     }
