@@ -1,5 +1,5 @@
 -- Core 0 has gone on by itself, and the other lanes, which are quiet, are brought up behind it.
-use Rattle.std.proofs.Common.{◌≡◌, ℕ, ◌+◌, ◌<◌, ◌≤◌, Bool, true, false, sym, ap, subst, ◌∙◌, arith}
+use Rattle.std.proofs.Common.{◌≡◌, ℕ, ◌+◌, ◌<◌, ◌≤◌, Bool, true, false, refl, sym, ap, subst, ◌∙◌, arith}
 use Rattle.std.specs.Prelude.{slice_index}
 use Rattle.dma_engine.specs.State.{Engine}
 use Rattle.dma_engine.specs.Quiet.{GivesNone}

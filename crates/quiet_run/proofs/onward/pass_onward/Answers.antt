@@ -18,7 +18,7 @@ pub returns-then-blocks-eq0-clause-quiet : goal.returns-then-blocks-eq0-clause-q
 returns-then-blocks-eq0-clause-quiet g c = quiet_none (setting g.X.Device.meaning c.args.world.now) c.args.machine.now
 
 pub pass_blocks-requires-clause-dma : goal.pass_blocks-requires-clause-dma
-pass_blocks-requires-clause-dma g c κs within =
+pass_blocks-requires-clause-dma g c =
     let w = setting g.X.Device.meaning c.args.world.now in
     let min = c.min-most.ensures in
     let lanes = c.min-lanes.ensures in
@@ -30,7 +30,7 @@ pass_blocks-requires-clause-dma g c κs within =
     (blocks_pass w c.args.machine.now c.go_onward-done.new.machine c.begin_outer-seen.result c.min-most.result c.go_onward-done.result begun c.go_onward-done.ensures.most c.go_onward-done.ensures.state).dma
 
 pub pass_blocks-requires-clause-pio0 : goal.pass_blocks-requires-clause-pio0
-pass_blocks-requires-clause-pio0 g c κs within =
+pass_blocks-requires-clause-pio0 g c =
     let w = setting g.X.Device.meaning c.args.world.now in
     let min = c.min-most.ensures in
     let lanes = c.min-lanes.ensures in
@@ -42,7 +42,7 @@ pass_blocks-requires-clause-pio0 g c κs within =
     (blocks_pass w c.args.machine.now c.go_onward-done.new.machine c.begin_outer-seen.result c.min-most.result c.go_onward-done.result begun c.go_onward-done.ensures.most c.go_onward-done.ensures.state).pio0
 
 pub pass_blocks-requires-clause-pio1 : goal.pass_blocks-requires-clause-pio1
-pass_blocks-requires-clause-pio1 g c κs within =
+pass_blocks-requires-clause-pio1 g c =
     let w = setting g.X.Device.meaning c.args.world.now in
     let min = c.min-most.ensures in
     let lanes = c.min-lanes.ensures in
