@@ -54,6 +54,9 @@ rests s h =
       timers = both_right (list_all is_idle_channel s.channels) _ last;
     }
 
+pub rests_timers : (s : Engine) → is_at_rest s ≡ true → list_all is_idle_timer s.timers ≡ true
+rests_timers s h = (rests s h).timers
+
 -- ---- channels
 
 idle_at : (cs : List Channel) (n : ℕ) → list_all is_idle_channel cs ≡ true → (get_or cs n idle_channel).busy ≡ false

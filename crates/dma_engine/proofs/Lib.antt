@@ -8,6 +8,7 @@ pub mod First
 pub mod Four
 pub mod Idle
 pub mod InTurn
+pub mod Lasting
 pub mod Only
 pub mod Packing
 pub mod Passing

@@ -13,7 +13,7 @@ added_by : (t : PacingTimer) (r : Bool) → runs t ≡ r → (r && nat_le t.y (s
 added_by t true e h = rw h refl
 added_by t false e h = sym (ap (λ a. record t { accumulator = a }) (no_step t e))
 
-sum-added : (t : PacingTimer) → gives t ≡ false → stepped t ≡ record t { accumulator = sum_of t }
+pub sum-added : (t : PacingTimer) → gives t ≡ false → stepped t ≡ record t { accumulator = sum_of t }
 sum-added t h = added_by t (runs t) refl h
 
 none_by : (b : Bool) (sum n : ℕ) → cond b None (Some sum) ≡ Some n → b ≡ false

@@ -29,7 +29,7 @@ both_not : (a b : Bool) → b ≡ false → (a && b) ≡ false
 both_not true b h = h
 both_not false b h = refl
 
-idle_timer : (t : PacingTimer) → is_idle_timer t ≡ true → stepped t ≡ t
+pub idle_timer : (t : PacingTimer) → is_idle_timer t ≡ true → stepped t ≡ t
 idle_timer t h = rw (not_is _ h) refl
 
 gives_none : (t : PacingTimer) → is_idle_timer t ≡ true → gives t ≡ false
@@ -87,7 +87,7 @@ either_way : (f : PacingTimer → Bool) (b : Bool) (x y : PacingTimer) (r : Bool
 either_way f true x y r h i = h
 either_way f false x y r h i = i
 
-runs_on : (t : PacingTimer) → is_idle_timer (stepped t) ≡ is_idle_timer t
+pub runs_on : (t : PacingTimer) → is_idle_timer (stepped t) ≡ is_idle_timer t
 runs_on t = either_way is_idle_timer (runs t) (record t { accumulator = accumulated t }) t (is_idle_timer t) refl refl
 
 run_on : (ts : List PacingTimer) → list_all is_idle_timer (map stepped ts) ≡ list_all is_idle_timer ts

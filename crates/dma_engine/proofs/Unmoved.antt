@@ -17,6 +17,7 @@ pub stays_by : (s : Engine) (counts : ℕ) → list_all is_idle_timer s.timers �
     → ((k : ℕ) → k < 12 → is_candidate false counts s k ≡ false) → ((k : ℕ) → k < 12 → is_over s k ≡ false) → StaysBy counts s
 unfolding next
 stays_by s counts timers choice ends = record {
+  timers = timers;
   stays = λ begun same read write turns.
       let moved : after_transfers s begun turns ≡ s =
       nothing_moves s begun turns read write (subst (λ c. (k : ℕ) → k < 12 → is_candidate false c s k ≡ false) (sym same) choice) ends in

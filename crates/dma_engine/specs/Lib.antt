@@ -9,6 +9,7 @@ pub mod Laws
 pub mod Pace
 pub mod PaceMeant
 pub mod Paused
+pub mod Quiet
 pub mod Requests
 pub mod Rest
 pub mod State

@@ -65,7 +65,7 @@ fn are_idle(channels: &[Channel; 12]) -> bool
 }
 
 /// No timer runs.
-fn are_idle_timers(timers: &[PacingTimer; 4]) -> bool
+pub(crate) fn are_idle_timers(timers: &[PacingTimer; 4]) -> bool
     ensures { result ≡ list_all is_idle_timer timers.now }
 {
     timers.iter().all(|timer| !timer.runs())

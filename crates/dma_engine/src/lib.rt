@@ -19,6 +19,7 @@ pub mod laws;
 pub mod line;
 pub mod pace;
 mod pause;
+mod quiet;
 pub mod registers;
 pub mod timer;
 mod transfer;

@@ -30,7 +30,7 @@ impl PacingTimer {
     }
 
     /// What a cycle adds.
-    fn step(&self) -> u16
+    pub(crate) fn step(&self) -> u16
         ensures value { result ≡ step_of self.now }
         ensures bound { result ≤ self.now.y }
     {

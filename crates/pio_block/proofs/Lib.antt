@@ -1,4 +1,5 @@
 pub mod AtRest
+pub mod Between
 pub mod Depths
 pub mod Held
 pub mod Highest

@@ -5,6 +5,7 @@ pub mod InstrLaws
 pub mod InterruptLaws
 pub mod Laws
 pub mod Queues
+pub mod Quiet
 pub mod Registers
 pub mod State
 pub mod Told

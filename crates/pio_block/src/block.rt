@@ -12,9 +12,9 @@ use std::marker::Model;
 /// A PIO block (RP2040 Datasheet, chapter 3).
 #[derive(Drop)]
 pub struct PioBlock {
-    state: State,
+    pub(crate) state: State,
     /// No machine is enabled, no written word waits, and no interrupt is enabled or forced.
-    at_rest: bool,
+    pub(crate) at_rest: bool,
     /// No interrupt is enabled or forced.
     silent: bool,
 }

@@ -1,6 +1,6 @@
 //! A machine with what its registers say.
 
-use crate::machine::{clear_stalls, control, send, take, write_register};
+use crate::machine::{clear_stalls, control, pass, quiet, send, take, write_register};
 use pio_machine::settings::Settings;
 use pio_machine::{Done, Machine1, Seen, tick};
 use std::marker::Model;
@@ -29,6 +29,7 @@ impl Kept {
     ghost use Rattle.pio_machine.specs.Start.{at_reset};
     ghost use Rattle.pio_machine.specs.Operation.{with_pc};
     ghost use Rattle.pio_machine.specs.Cycle.{after_cycle, written_in_cycle};
+    ghost use Rattle.pio_block.specs.Quiet.{IsBetweenTicks, divider_after};
     ghost use Rattle.pio_block.specs.Control.{controlled};
     ghost use Rattle.pio_block.specs.Words.{room_left};
     ghost use Rattle.pio_block.specs.Queues.{with_stalls_cleared, with_sent, with_taken};
@@ -68,6 +69,23 @@ impl Kept {
         ensures done { done.new ≡ written_in_cycle number seen.now self.old done.old }
     {
         tick(&mut self.machine, &self.settings, number, seen, done);
+    }
+
+    /// For so many cycles from now on the machine does not tick, and no word that was written waits.
+    #[inline(always)]
+    pub(crate) fn quiet(&self) -> u64
+        ensures { IsBetweenTicks self.now result }
+    {
+        quiet(&self.machine)
+    }
+
+    /// So many cycles at once, in which the machine does not tick.
+    #[inline(always)]
+    pub(crate) fn pass(&mut self, n: u64)
+        requires { IsBetweenTicks self.old n }
+        ensures { self.new ≡ divider_after n self.old }
+    {
+        pass(&mut self.machine, n);
     }
 
     /// A write of CTRL, to the machine of that number.

@@ -1,6 +1,7 @@
 //! The laws of a block, each the contract of a function without arguments.
 
 ghost use Rattle.pio_block.specs.Laws.{TheHighestMachineDecides, AHeldBlockStays, NoFifoHoldsTooMuch};
+ghost use Rattle.pio_block.specs.Quiet.{AQuietBlockShowsTheSame};
 ghost use Rattle.pio_block.specs.InstrLaws.{AWrittenWordComesNext};
 ghost use Rattle.pio_block.specs.InterruptLaws.{WhatIsEnabledOrForcedIsShown};
 ghost use Rattle.pio_block.specs.Words.{EachRegisterIsAtItsOffset};
@@ -13,6 +14,12 @@ pub fn the_highest_machine_decides()
 /// A block that is held stays in its reset state: it does not step, no access changes it, and it reads 0.
 pub fn a_held_block_stays()
     ensures { AHeldBlockStays }
+{}
+
+/// In cycles in which none of its machines ticks or tries a word a block does not heed its inputs: only the dividers go on, and its pins,
+/// its interrupt lines and the counts that pace DMA channels stay.
+pub fn a_quiet_block_shows_the_same()
+    ensures { AQuietBlockShowsTheSame }
 {}
 
 /// No FIFO holds more words than it has room for, whatever happens to a block from its reset state on: cycles, accesses to any

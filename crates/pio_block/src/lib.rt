@@ -10,6 +10,7 @@ pub mod laws;
 mod machine;
 mod machines;
 mod queues;
+mod quiet;
 pub mod registers;
 mod state;
 mod words;

@@ -3,6 +3,7 @@
 ghost use Rattle.std.specs.Prelude.{◌≡◌, ◌<◌};
 ghost use Rattle.pio_machine.specs.Ready.{settings_of};
 ghost use Rattle.pio_block.specs.State.{is_running, is_written};
+ghost use Rattle.pio_block.specs.Quiet.{IsBetweenTicks, divider_after};
 ghost use Rattle.pio_block.specs.Control.{restarted_if, with_divider_restarted, controlled};
 ghost use Rattle.pio_block.specs.Queues.{with_stalls_cleared, with_sent, with_taken};
 ghost use Rattle.pio_block.specs.Registers.{execctrl_of, register_of, joined, register_written};
@@ -26,6 +27,33 @@ pub(crate) fn is_running(machine: &Machine1) -> bool
     ensures { result ≡ is_running machine.now }
 {
     machine.enabled || is_written(machine.waiting)
+}
+
+/// For so many cycles from now on the machine does not tick, and no word that was written waits.
+#[inline(always)]
+pub(crate) fn quiet(machine: &Machine1) -> u64
+    ensures { IsBetweenTicks machine.now result }
+{
+    if is_written(machine.waiting) {
+        return 0;
+    }
+    if machine.enabled {
+        u64::from(machine.acc / 256)
+    } else {
+        u64::MAX
+    }
+}
+
+/// So many cycles at once, in which the machine does not tick.
+#[inline(always)]
+pub(crate) fn pass(machine: &mut Machine1, n: u64)
+    requires { IsBetweenTicks machine.old n }
+    ensures after { machine.new ≡ divider_after n machine.old }
+    ensures settings { settings_of machine.new ≡ settings_of machine.old }
+{
+    if machine.enabled {
+        machine.acc = (u64::from(machine.acc) - 256 * n) as u32;
+    }
 }
 
 /// A write of CTRL, to the machine of that number.

@@ -24,10 +24,11 @@ impl Model for Machines {
 }
 
 impl Machines {
-    ghost use Rattle.std.specs.Prelude.{◌≡◌, ◌<◌, Decides, replicate};
+    ghost use Rattle.std.specs.Prelude.{◌≡◌, ◌<◌, Decides, replicate, map};
     ghost use Rattle.std.specs.List.{list_any};
     ghost use Rattle.pio_machine.specs.Start.{at_reset};
     ghost use Rattle.pio_block.specs.State.{machine_of, changed, each, is_running};
+    ghost use Rattle.pio_block.specs.Quiet.{AreBetweenTicks, divider_after};
     ghost use Rattle.pio_block.specs.Control.{controlled};
     ghost use Rattle.pio_block.specs.Words.{pacing_of};
     ghost use Rattle.pio_block.specs.Queues.{with_stalls_cleared, with_sent, with_taken};
@@ -80,6 +81,26 @@ impl Machines {
         self.second.tick(1, seen, done);
         self.third.tick(2, seen, done);
         self.fourth.tick(3, seen, done);
+    }
+
+    /// For so many cycles from now on no machine ticks, and no word that was written waits.
+    pub(crate) fn quiet(&self) -> u64
+        ensures { AreBetweenTicks self.now result }
+    {
+        let low = self.first.quiet().min(self.second.quiet());
+        let high = self.third.quiet().min(self.fourth.quiet());
+        low.min(high)
+    }
+
+    /// So many cycles at once, in which no machine ticks.
+    pub(crate) fn pass(&mut self, n: u64)
+        requires { AreBetweenTicks self.old n }
+        ensures { self.new ≡ map (divider_after n) self.old }
+    {
+        self.first.pass(n);
+        self.second.pass(n);
+        self.third.pass(n);
+        self.fourth.pass(n);
     }
 
     /// The room left in the TX FIFOs, then the words of the RX FIFOs.

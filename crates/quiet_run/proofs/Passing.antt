@@ -3,6 +3,7 @@ use Rattle.std.proofs.Common.{◌≡◌, ℕ, zero, suc, ◌+◌, ◌<◌, ◌�
 use Rattle.std.specs.Prelude.{if◌then◌else◌, slice_index, slice_index_or}
 use Rattle.std.proofs.lemmas.Bool.Decides.{nat_tests}
 use Rattle.lane_look.specs.declared.lane.Want.TheVariants as want
+use Rattle.lane_look.specs.declared.lane.Turn.{Turn}
 use Rattle.lane_look.specs.declared.lane.Turn.TheVariants as turn
 use Rattle.lane_look.specs.Asking.{answered}
 use Rattle.lane_look.specs.Times.{times}
@@ -11,12 +12,11 @@ use Rattle.m0_core.specs.declared.doing.Doing.{Doing}
 use Rattle.m0_core.specs.Fetch as core_asks
 use Rattle.m0_core.specs.Cycle as core
 use Rattle.m0_core.specs.Quiet as core_quiet
-use Rattle.dma_engine.specs.Asks.{idle_begun}
 use Rattle.dma_engine.specs.State.{Engine}
 use Rattle.dma_engine.specs.Cycle as dma
 use Rattle.pio_block.specs.State.{Block as Pio}
-use Rattle.pio_block.specs.declared.inputs.Inputs.{Inputs}
 use Rattle.pio_block.specs.Cycle as pio
+use Rattle.pio_block.proofs.Between.{a_quiet_block_shows_the_same}
 use Rattle.sio_block.specs.State.{SioState}
 use Rattle.sio_block.specs.Launcher.{offers_of}
 use Rattle.sio_block.specs.Cycle as sio_end
@@ -28,7 +28,8 @@ use Rattle.outer_lane.specs.Step as outer
 use Rattle.outer_lane.specs.Quiet as outer_quiet
 use Rattle.outer_lane.specs.Quiet.{seen_in, outer_after, held_blocks}
 use Rattle.rp_machine.specs.State.{State}
-use Rattle.rp_machine.specs.Answers.{answer_of, lines_of, block_lines}
+use Rattle.rp_machine.specs.Alone.{Blocks, AreBlocksQuiet, blocks_after, with_blocks}
+use Rattle.rp_machine.specs.Answers.{answer_of, lines_of, pacing_of}
 use Rattle.rp_machine.specs.Copies.{Agree, CopiesAgree}
 use Rattle.rp_machine.specs.Cycle.{begun, wanted, cause_in, stop, with_turns, with_sio, with_offer, with_pins, pins_of, launched_where, ended, next, mark}
 use Rattle.rp_machine.specs.Deeds.{cause_of}
@@ -38,13 +39,21 @@ use Rattle.rp_machine.specs.Run.{states}
 use Rattle.rp_machine.specs.Quiet.{IsQuiet}
 use Rattle.quiet_run.specs.Parts.{ArePartsQuiet, ArePartsAtRest, passed, QuietPartsGoTheirOwnWay}
 use Rattle.rp_machine.proofs.BusRest.{rest_four}
+use Rattle.rp_machine.proofs.Going.{none_after, fewer_cycles}
+use Rattle.rp_machine.proofs.Inward.{TellOn, tell_on, lines_on, pacing_on, outs_on}
+use Rattle.rp_machine.proofs.OneCore.{first_want, second_want}
 use Rattle.rp_machine.proofs.Quietly.{states_through, no_events, seen_later, seen_number}
 
 -- ---- what is asked and begun there
 
+told : (w : Setting) (s : State) (n k : ℕ) → ArePartsQuiet w s n → k ≤ n → TellOn s (passed w s k)
+told w s n k q le = tell_on w s (passed w s k) n k le q.blocks q.peripherals
+
 same_lines : (w : Setting) (s : State) (n k number : ℕ) → ArePartsQuiet w s n → k ≤ n → lines_of number (passed w s k) ≡ lines_of number s
-unfolding lines_of block_lines
-same_lines w s n k number q le = rw (q.peripherals.lines k le number) refl
+same_lines w s n k number q le = lines_on s (passed w s k) number refl (told w s n k q le)
+
+same_pacing : (w : Setting) (s : State) (n k : ℕ) → ArePartsQuiet w s n → k ≤ n → pacing_of (passed w s k) ≡ pacing_of s
+same_pacing w s n k q le = pacing_on s (passed w s k) (told w s n k q le)
 
 begun_core0 : (w : Setting) (s : State) (n k : ℕ) → ArePartsQuiet w s n → k < n → (begun (passed w s k)).core0 ≡ answered (λ ask. lines_of 0 s) (core_asks.asks (passed w s k).core0 (s.cycle + k))
 unfolding begun
@@ -54,20 +63,25 @@ begun_core1 : (w : Setting) (s : State) (n k : ℕ) → ArePartsQuiet w s n → 
 unfolding begun
 begun_core1 w s n k q lt = q.core1.begins k lt (answer_of 1 (passed w s k)) (same_lines w s n k 1 q (omega arith))
 
-begun_dma : (w : Setting) (s : State) (n k : ℕ) → ArePartsQuiet w s n → (begun (passed w s k)).dma ≡ idle_begun
+-- what the blocks want, and come to
+wants_dma : (w : Setting) (s : State) (n k : ℕ) → ArePartsQuiet w s n → k < n → dma.wanted (begun (passed w s k)).dma ≡ want.Nothing ∷ want.Nothing ∷ []
 unfolding begun
-begun_dma w s n k q = rw q.dma.asks_nothing refl
+wants_dma w s n k q lt = q.blocks.dma.wants k lt (answer_of 2 (passed w s k)) (same_pacing w s n k q (omega arith))
 
-begun_pio0 : (w : Setting) (s : State) (n k : ℕ) → ArePartsQuiet w s n → (begun (passed w s k)).pio0 ≡ None
+dma_more : (w : Setting) (s : State) (n k : ℕ) (turns : List Turn) → ArePartsQuiet w s n → k < n → dma.next (passed w s k).dma (begun (passed w s k)).dma turns ≡ (passed w s (suc k)).dma
 unfolding begun
-begun_pio0 w s n k q = rw q.pio0.asks_nothing refl
+dma_more w s n k turns q lt = q.blocks.dma.steps k lt (answer_of 2 (passed w s k)) (same_pacing w s n k q (omega arith)) turns
 
-begun_pio1 : (w : Setting) (s : State) (n k : ℕ) → ArePartsQuiet w s n → (begun (passed w s k)).pio1 ≡ None
+pio0_more : (w : Setting) (s : State) (n k : ℕ) → ArePartsQuiet w s n → k < n → pio.next (begun (passed w s k)).pio0 (passed w s k).pio0 ≡ (passed w s (suc k)).pio0
 unfolding begun
-begun_pio1 w s n k q = rw q.pio1.asks_nothing refl
+pio0_more w s n k q lt = (a_quiet_block_shows_the_same s.pio0 n q.blocks.pio0).steps k lt (answer_of 3 (passed w s k))
+
+pio1_more : (w : Setting) (s : State) (n k : ℕ) → ArePartsQuiet w s n → k < n → pio.next (begun (passed w s k)).pio1 (passed w s k).pio1 ≡ (passed w s (suc k)).pio1
+unfolding begun
+pio1_more w s n k q lt = (a_quiet_block_shows_the_same s.pio1 n q.blocks.pio1).steps k lt (answer_of 4 (passed w s k))
 
 begun_outer : (w : Setting) (s : State) (n k : ℕ) → ArePartsQuiet w s n → k ≤ n → (begun (passed w s k)).outer ≡ seen_in (begun s).outer (s.cycle + k)
-begun_outer w s n k q le = seen_later s (passed w s k) (q.peripherals.pads k le) refl refl
+begun_outer w s n k q le = seen_later s (passed w s k) (q.peripherals.pads k le) (λ block. outs_on s (passed w s k) block (told w s n k q le))
 
 -- ---- nobody wants anything
 
@@ -77,16 +91,16 @@ wants_core0 w s n k q lt = ap core.want_of (begun_core0 w s n k q lt) ∙ q.core
 wants_core1 : (w : Setting) (s : State) (n k : ℕ) → ArePartsQuiet w s n → k < n → core.want_of (begun (passed w s k)).core1 ≡ want.Nothing
 wants_core1 w s n k q lt = ap core.want_of (begun_core1 w s n k q lt) ∙ q.core1.wants k lt
 
-wants_read : (w : Setting) (s : State) (n k : ℕ) → ArePartsQuiet w s n → dma.want_of (begun (passed w s k)).dma.read ≡ want.Nothing
-wants_read w s n k q = rw (begun_dma w s n k q) refl
+wants_read : (w : Setting) (s : State) (n k : ℕ) → ArePartsQuiet w s n → k < n → dma.want_of (begun (passed w s k)).dma.read ≡ want.Nothing
+wants_read w s n k q lt = first_want _ _ (wants_dma w s n k q lt)
 
-wants_write : (w : Setting) (s : State) (n k : ℕ) → ArePartsQuiet w s n → dma.want_of (begun (passed w s k)).dma.write ≡ want.Nothing
-wants_write w s n k q = rw (begun_dma w s n k q) refl
+wants_write : (w : Setting) (s : State) (n k : ℕ) → ArePartsQuiet w s n → k < n → dma.want_of (begun (passed w s k)).dma.write ≡ want.Nothing
+wants_write w s n k q lt = second_want _ _ (wants_dma w s n k q lt)
 
 no_cause : (w : Setting) (s : State) (n k : ℕ) → ArePartsQuiet w s n → k < n → cause_in w (begun (passed w s k)) (wanted (begun (passed w s k))) (passed w s k) ≡ None
 unfolding wanted cause_in cause_of
 no_cause w s n k q lt =
-    rw (wants_core0 w s n k q lt, wants_core1 w s n k q lt, wants_read w s n k q, wants_write w s n k q) refl
+    rw (wants_core0 w s n k q lt, wants_core1 w s n k q lt, wants_read w s n k q lt, wants_write w s n k q lt) refl
 
 below : (c limit : ℕ) → c < limit → (c == limit) ≡ false
 below c limit lt = grind (arith, nat_tests)
@@ -101,12 +115,9 @@ goes_on w s n k q lt =
 rests : (w : Setting) (s : State) (n k : ℕ) → ArePartsQuiet w s n → k < n → next w (passed w s k) ≡ rest_next w (begun (passed w s k)) (passed w s k)
 unfolding next wanted
 rests w s n k q lt =
-    rest_four w (begun (passed w s k)) _ _ _ _ (passed w s k) (wants_core0 w s n k q lt) (wants_core1 w s n k q lt) (wants_read w s n k q) (wants_write w s n k q) q.fabric
+    rest_four w (begun (passed w s k)) _ _ _ _ (passed w s k) (wants_core0 w s n k q lt) (wants_core1 w s n k q lt) (wants_read w s n k q lt) (wants_write w s n k q lt) q.fabric
 
 -- ---- the steps
-
-idle_stays : (p : Pio) (b : Option Inputs) → b ≡ None → pio.next None p ≡ p → pio.next b p ≡ p
-idle_stays p b h stays = rw h stays
 
 core_more : (lines : ℕ) (c : Core) (cycle k : ℕ) (b : Doing) → b ≡ answered (λ ask. lines) (core_asks.asks (times (core_quiet.rested lines) cycle k c) (cycle + k)) → core.next (times (core_quiet.rested lines) cycle k c) b (turn.Nothing ∷ turn.Nothing ∷ []) ≡ times (core_quiet.rested lines) cycle (suc k) c
 unfolding times
@@ -133,12 +144,13 @@ lanes_step : (w : Setting) (s : State) (n k : ℕ) → ArePartsQuiet w s n → k
 unfolding with_turns
 lanes_step w s n k q lt =
     let p = passed w s k in
-    turned p _ (lanes_passed w s k).core0 _ (lanes_passed w s k).core1 _ s.dma _ s.pio0 _ s.pio1 _ (lanes_passed w s k).outer
+    let l = lanes_passed w s k in
+    turned p _ l.core0 _ l.core1 _ l.dma _ l.pio0 _ l.pio1 _ l.outer
     (core_more (lines_of 0 s) s.core0 s.cycle k (begun p).core0 (begun_core0 w s n k q lt))
     (core_more (lines_of 1 s) s.core1 s.cycle k (begun p).core1 (begun_core1 w s n k q lt))
-    (q.dma.stays (begun p).dma _)
-    (idle_stays s.pio0 (begun p).pio0 (begun_pio0 w s n k q) q.pio0.stays)
-    (idle_stays s.pio1 (begun p).pio1 (begun_pio1 w s n k q) q.pio1.stays)
+    (dma_more w s n k _ q lt)
+    (pio0_more w s n k q lt)
+    (pio1_more w s n k q lt)
     (outer_more w s k (begun p).outer (begun_outer w s n k q (omega arith)))
 
 waits_by : (asleep offered : Bool) (t : State) → offered ≡ false → (if asleep then launched_where offered t else t) ≡ t
@@ -200,7 +212,9 @@ is_silent w s n k q lt =
 
 first_passed : (w : Setting) (s : State) → passed w s 0 ≡ s
 unfolding times
-first_passed w s = let e : s.cycle + 0 ≡ s.cycle = omega arith in rw e refl
+first_passed w s =
+    let e : s.cycle + 0 ≡ s.cycle = omega arith in
+    ap (λ (p : Blocks). record s { cycle = s.cycle + 0; dma = p.dma; pio0 = p.pio0; pio1 = p.pio1 }) (none_after s) ∙ rw e refl
 
 pub states_passed : (w : Setting) (s : State) (n k : ℕ) → CopiesAgree s → ArePartsQuiet w s n → k ≤ n → states w s k ≡ passed w s k
 states_passed w s n k agree q le =
@@ -285,8 +299,8 @@ core_fewer lines c cycle n m q le = record {
 }
 
 -- the same where the fields are these
-pub parts_by : (w : Setting) (i s : State) (lines0 lines1 a b c n at to : ℕ) (seen : SeenOutputs) → i ≡ s → ArePartsAtRest s → at ≡ s.cycle → lines0 ≡ lines_of 0 s → lines1 ≡ lines_of 1 s → seen ≡ (begun s).outer → core_quiet.IsQuiet lines0 i.core0 at a → core_quiet.IsQuiet lines1 i.core1 at b → outer_quiet.IsQuiet w seen i.outer c → n ≤ a → n ≤ b → n ≤ c → at + n ≤ to → to ≤ w.limit → ArePartsQuiet w s n
-parts_by w i s lines0 lines1 a b c n at to seen same rest ea e0 e1 es q0 q1 qo la lb lc lt ll =
+pub parts_by : (w : Setting) (i s : State) (lines0 lines1 a b c d n at to : ℕ) (seen : SeenOutputs) → i ≡ s → ArePartsAtRest s → at ≡ s.cycle → lines0 ≡ lines_of 0 s → lines1 ≡ lines_of 1 s → seen ≡ (begun s).outer → core_quiet.IsQuiet lines0 i.core0 at a → core_quiet.IsQuiet lines1 i.core1 at b → outer_quiet.IsQuiet w seen i.outer c → AreBlocksQuiet s d → n ≤ a → n ≤ b → n ≤ c → n ≤ d → at + n ≤ to → to ≤ w.limit → ArePartsQuiet w s n
+parts_by w i s lines0 lines1 a b c d n at to seen same rest ea e0 e1 es q0 q1 qo blocks la lb lc ld lt ll =
     let h0 : core_quiet.IsQuiet lines0 s.core0 at a = subst (λ (x : State). core_quiet.IsQuiet lines0 x.core0 at a) same q0 in
     let h1 : core_quiet.IsQuiet lines1 s.core1 at b = subst (λ (x : State). core_quiet.IsQuiet lines1 x.core1 at b) same q1 in
     let ho : outer_quiet.IsQuiet w seen s.outer c = subst (λ (x : State). outer_quiet.IsQuiet w seen x.outer c) same qo in
@@ -299,9 +313,7 @@ parts_by w i s lines0 lines1 a b c n at to seen same rest ea e0 e1 es q0 q1 qo l
       core0 = core_fewer (lines_of 0 s) s.core0 s.cycle a n r0 la;
       core1 = core_fewer (lines_of 1 s) s.core1 s.cycle b n r1 lb;
       peripherals = fewer w (begun s).outer s.outer c n ro lc;
-      dma = rest.dma;
-      pio0 = rest.pio0;
-      pio1 = rest.pio1;
+      blocks = fewer_cycles s d n blocks ld;
       sio = rest.sio;
       launcher = rest.launcher;
       fabric = rest.fabric;
@@ -322,24 +334,28 @@ core_went i s lines known at n c from to ea el ef e =
     ∙ ap (λ (x : ℕ). times (core_quiet.rested x) s.cycle n from) el
     ∙ ap (λ (x : Core). times (core_quiet.rested known) s.cycle n x) ef
 
-pub have_passed : (w : Setting) (i s : State) (lines0 lines1 at n : ℕ) (seen : SeenOutputs) (core0 core1 : Core) (outer : OuterState) → i ≡ s → at ≡ s.cycle → lines0 ≡ lines_of 0 s → lines1 ≡ lines_of 1 s → seen ≡ (begun s).outer → core0 ≡ times (core_quiet.rested lines0) at n i.core0 → core1 ≡ times (core_quiet.rested lines1) at n i.core1 → outer ≡ outer_after w seen n i.outer → HavePassed w i s core0 core1 outer n
+pub have_passed : (w : Setting) (i s : State) (lines0 lines1 at n : ℕ) (seen : SeenOutputs) (core0 core1 : Core) (outer : OuterState) → i ≡ with_blocks (blocks_after n s) s → at ≡ s.cycle → lines0 ≡ lines_of 0 s → lines1 ≡ lines_of 1 s → seen ≡ (begun s).outer → core0 ≡ times (core_quiet.rested lines0) at n i.core0 → core1 ≡ times (core_quiet.rested lines1) at n i.core1 → outer ≡ outer_after w seen n i.outer → HavePassed w i s core0 core1 outer n
 have_passed w i s lines0 lines1 at n seen core0 core1 outer same ea e0 e1 es c0 c1 o = record {
   core0_is = core_went i s lines0 (lines_of 0 s) at n core0 i.core0 s.core0 ea e0 (ap (λ (x : State). x.core0) same) c0;
   core1_is = core_went i s lines1 (lines_of 1 s) at n core1 i.core1 s.core1 ea e1 (ap (λ (x : State). x.core1) same) c1;
   outer_is = o ∙ ap (λ (x : SeenOutputs). outer_after w x n i.outer) es ∙ ap (λ (x : State). outer_after w (begun s).outer n x.outer) same;
 }
 
-fields_passed : (w : Setting) (s : State) (at n : ℕ) (core0 core1 : Core) (outer : OuterState) → at + n ≡ s.cycle + n → core0 ≡ (passed w s n).core0 → core1 ≡ (passed w s n).core1 → outer ≡ (passed w s n).outer → record s { cycle = at + n; core0 = core0; core1 = core1; outer = outer } ≡ passed w s n
+fields_passed : (w : Setting) (s : State) (at n : ℕ) (core0 core1 : Core) (outer : OuterState) → at + n ≡ s.cycle + n → core0 ≡ (passed w s n).core0 → core1 ≡ (passed w s n).core1 → outer ≡ (passed w s n).outer → record (with_blocks (blocks_after n s) s) { cycle = at + n; core0 = core0; core1 = core1; outer = outer } ≡ passed w s n
 fields_passed w s at n core0 core1 outer ea e0 e1 eo = rw (ea, e0, e1, eo) refl
 
-pub passed_states : (w : Setting) (i s : State) (at n : ℕ) (core0 core1 : Core) (outer : OuterState) → i ≡ s → at ≡ s.cycle → CopiesAgree i → ArePartsQuiet w s n → HavePassed w i s core0 core1 outer n → record i { cycle = at + n; core0 = core0; core1 = core1; outer = outer } ≡ states w s n
+-- the copies agreed before the blocks passed
+agree_before : (s : State) (n : ℕ) → CopiesAgree (with_blocks (blocks_after n s) s) → CopiesAgree s
+agree_before s n a = record { bits = a.bits; held = a.held; pins = a.pins; offer = a.offer }
+
+pub passed_states : (w : Setting) (i s : State) (at n : ℕ) (core0 core1 : Core) (outer : OuterState) → i ≡ with_blocks (blocks_after n s) s → at ≡ s.cycle → CopiesAgree i → ArePartsQuiet w s n → HavePassed w i s core0 core1 outer n → record i { cycle = at + n; core0 = core0; core1 = core1; outer = outer } ≡ states w s n
 passed_states w i s at n core0 core1 outer same ea agree q h =
-    let here : CopiesAgree s = subst CopiesAgree same agree in
+    let here : CopiesAgree s = agree_before s n (subst CopiesAgree same agree) in
     ap (λ (x : State). record x { cycle = at + n; core0 = core0; core1 = core1; outer = outer }) same
     ∙ fields_passed w s at n core0 core1 outer (ap (λ (c : ℕ). c + n) ea) h.core0_is h.core1_is h.outer_is
     ∙ sym (states_passed w s n n here q (omega arith))
 
-pub passed_agrees : (w : Setting) (i s : State) (n : ℕ) (core0 core1 : Core) (outer : OuterState) → i ≡ s → CopiesAgree i → ArePartsQuiet w s n → HavePassed w i s core0 core1 outer n → Agree (slice_index i.resets 0) core1 i.dma i.pio0 i.pio1 outer i.sio
+pub passed_agrees : (w : Setting) (i s : State) (n : ℕ) (core0 core1 : Core) (outer : OuterState) → i ≡ with_blocks (blocks_after n s) s → CopiesAgree i → ArePartsQuiet w s n → HavePassed w i s core0 core1 outer n → Agree (slice_index i.resets 0) core1 i.dma i.pio0 i.pio1 outer i.sio
 passed_agrees w i s n core0 core1 outer same agree q h =
     passing_agrees
     (ap (λ (x : Core). x.offer) h.core1_is ∙ q.core1.offer n (omega arith) ∙ sym (ap (λ (x : State). x.core1.offer) same))
@@ -349,7 +365,7 @@ passed_agrees w i s n core0 core1 outer same agree q h =
     agree
 
 -- the peripherals are quiet by what is seen now, where the fields are these
-pub outer_by : (w : Setting) (i s : State) (n : ℕ) (seen : SeenOutputs) → i ≡ s → seen ≡ (begun s).outer → ArePartsQuiet w s n → outer_quiet.IsQuiet w seen i.outer n
+pub outer_by : (w : Setting) (i s : State) (n : ℕ) (seen : SeenOutputs) → i ≡ with_blocks (blocks_after n s) s → seen ≡ (begun s).outer → ArePartsQuiet w s n → outer_quiet.IsQuiet w seen i.outer n
 outer_by w i s n seen same es q =
     subst (λ (x : State). outer_quiet.IsQuiet w seen x.outer n) (sym same)
     (subst (λ (x : SeenOutputs). outer_quiet.IsQuiet w x s.outer n) (sym es) q.peripherals)

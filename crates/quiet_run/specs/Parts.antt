@@ -3,39 +3,32 @@ use Rattle.std.specs.Prelude.{◌≡◌, ℕ, ◌+◌, ◌≤◌, false, None}
 use Rattle.lane_look.specs.Times.{times}
 use Rattle.m0_core.specs.Begins.{begins}
 use Rattle.m0_core.specs.Quiet as core
-use Rattle.dma_engine.specs.Rest.{StaysAtRest}
-use Rattle.pio_block.specs.Cycle.{Rests}
 use Rattle.bus_fabric.specs.State.{has_hold}
 use Rattle.sio_block.specs.Cycle.{after_cycle}
 use Rattle.sio_block.specs.Launcher.{offers_of}
 use Rattle.outer_lane.specs.Quiet as outer
 use Rattle.outer_lane.specs.Setting.{Setting}
 use Rattle.rp_machine.specs.State.{State}
+use Rattle.rp_machine.specs.Alone.{AreBlocksQuiet, blocks_after}
 use Rattle.rp_machine.specs.Answers.{lines_of}
 use Rattle.rp_machine.specs.Copies.{CopiesAgree}
 use Rattle.rp_machine.specs.Cycle.{begun}
 use Rattle.rp_machine.specs.Run.{states}
 use Rattle.rp_machine.specs.Quiet.{IsQuiet}
 
--- each core waits and the peripherals are quiet for so many cycles, the DMA engine, PIO and SIO are at rest, and no
--- access lasts
+-- each core waits, and the DMA engine, PIO and the peripherals are quiet for so many cycles, SIO is at rest, and no access lasts
 pub record ArePartsQuiet (w : Setting) (s : State) (n : ℕ) : Type 0 where
   pub core0 : core.IsQuiet (lines_of 0 s) s.core0 s.cycle n
   pub core1 : core.IsQuiet (lines_of 1 s) s.core1 s.cycle n
   pub peripherals : outer.IsQuiet w (begun s).outer s.outer n
-  pub dma : StaysAtRest s.dma
-  pub pio0 : Rests s.pio0
-  pub pio1 : Rests s.pio1
+  pub blocks : AreBlocksQuiet s n
   pub sio : after_cycle s.sio ≡ s.sio
   pub launcher : offers_of s.sio ≡ false
   pub fabric : has_hold s.fabric ≡ false
   pub limit : s.cycle + n ≤ w.limit
 
--- the same of the parts that are at rest or not
+-- of these, what is not counted in cycles
 pub record ArePartsAtRest (s : State) : Type 0 where
-  pub dma : StaysAtRest s.dma
-  pub pio0 : Rests s.pio0
-  pub pio1 : Rests s.pio1
   pub sio : after_cycle s.sio ≡ s.sio
   pub launcher : offers_of s.sio ≡ false
   pub fabric : has_hold s.fabric ≡ false
@@ -46,6 +39,9 @@ passed w s n = record s {
   cycle = s.cycle + n;
   core0 = times (core.rested (lines_of 0 s)) s.cycle n s.core0;
   core1 = times (core.rested (lines_of 1 s)) s.cycle n s.core1;
+  dma = (blocks_after n s).dma;
+  pio0 = (blocks_after n s).pio0;
+  pio1 = (blocks_after n s).pio1;
   outer = outer.outer_after w (begun s).outer n s.outer;
 }
 

@@ -1,4 +1,4 @@
-//! Core 0 at work by itself, beside peripherals that are quiet.
+//! Core 0 at work by itself, beside a DMA engine, PIO and peripherals that are quiet.
 
 ghost use Rattle.std.specs.Prelude.{◌≡◌, ℕ, ◌+◌, ◌<◌, ◌≤◌, false};
 ghost use Rattle.outer_lane.specs.Setting.{setting};
@@ -9,12 +9,13 @@ use lane_look::{Device, Marks};
 use rp_machine::{Machine, Steps, World};
 use std::sync::ledger::Ledger;
 
-/// What may stop core 0 at work, by the state behind a cycle; the peripherals are not looked at.
+/// What may stop core 0 at work, by the state behind a cycle; the DMA engine, PIO and the peripherals are not looked at.
 pub trait Watch {
     ghost use Rattle.std.specs.Prelude.{◌≡◌, ℕ, ◌+◌, ◌^◌, ◌<◌, ◌≤◌, Bool, false};
     ghost use Rattle.outer_lane.specs.State.{OuterState};
     ghost use Rattle.rp_machine.specs.State.{State};
-    ghost use Rattle.rp_machine.specs.Inward.{with_outer, inward_after, StaysInward};
+    ghost use Rattle.rp_machine.specs.Alone.{Blocks};
+    ghost use Rattle.rp_machine.specs.Inward.{with_beside, inward_after, StaysInward};
 
     /// It stops core 0 behind the cycle that left this state.
     ghost stops: { Self → State → Bool };
@@ -36,9 +37,9 @@ pub trait Watch {
         ensures marks { marks.new ≡ marks.old }
         ensures steps { steps.new ≡ steps.old + result };
 
-    /// It is the same beside other peripherals.
-    ghost looks_inward: { (watch : Self) (o : OuterState) (s : State) → stops watch (with_outer o s)
-        ≡ stops watch s };
+    /// It is the same beside others.
+    ghost looks_inward: { (watch : Self) (p : Blocks) (o : OuterState) (s : State) → stops watch
+        (with_beside p o s) ≡ stops watch s };
 }
 
 /// Nothing stops core 0.
@@ -62,7 +63,7 @@ impl Watch for Unwatched {
         machine.go_onward(most, marks, steps)
     }
 
-    ghost looks_inward = { λ watch o s. refl };
+    ghost looks_inward = { λ watch p o s. refl };
 }
 
 /// Goes on as far as core 0 alone is at work and reaches for nothing but SRAM, the peripherals are quiet and nothing stops it, at most up
@@ -85,12 +86,19 @@ pub(crate) fn pass_onward<X: Device, W: Watch, L: Ledger>(
     ensures steps { steps.new ≡ steps.old + result }
 {
     let at = machine.number();
-    if to <= at || !machine.is_core0_alone() || machine.sio.offers() {
+    if to <= at || !machine.core1.is_asleep() || machine.sio.offers() {
+        return 0;
+    }
+    let blocks = machine.quiet_blocks();
+    if blocks == 0 {
         return 0;
     }
     let seen = machine.begin_outer(world);
-    let most = machine.outer.quiet(world, &seen).min(to - at);
+    let outer = machine.outer.quiet(world, &seen);
+    let lanes = outer.min(blocks);
+    let most = lanes.min(to - at);
     let done = watch.go_onward(machine, most, marks, steps);
+    machine.pass_blocks(done);
     machine.outer.pass(world, &seen, done);
     done
 }

@@ -2,6 +2,7 @@
 
 ghost use Rattle.std.specs.Prelude.{◌≡◌, ℕ, ◌+◌, ◌^◌, ◌<◌, ◌≤◌, true};
 ghost use Rattle.outer_lane.specs.Setting.{setting};
+ghost use Rattle.rp_machine.specs.Alone.{AreBlocksQuiet};
 ghost use Rattle.rp_machine.specs.Cycle.{begun};
 ghost use Rattle.rp_machine.specs.Quiet.{IsQuiet};
 ghost use Rattle.rp_machine.specs.Run.{states};
@@ -12,16 +13,11 @@ use outer_lane::SeenOutputs;
 use rp_machine::{Machine, Steps, World};
 use std::sync::ledger::Ledger;
 
-/// The DMA engine, both PIO blocks and SIO are at rest, and no access lasts.
+/// SIO is at rest, and no access lasts.
 fn are_parts_at_rest(machine: &Machine) -> bool
     ensures { result ≡ true → ArePartsAtRest machine.now }
 {
-    machine.dma.is_at_rest()
-        && machine.pio0.is_at_rest()
-        && machine.pio1.is_at_rest()
-        && machine.sio.is_at_rest()
-        && !machine.sio.offers()
-        && !machine.fabric.holds()
+    machine.sio.is_at_rest() && !machine.sio.offers() && !machine.fabric.holds()
 }
 
 /// For so many cycles nobody has anything to do, where there are any; at most up to a cycle.
@@ -32,22 +28,29 @@ fn quiet<X: Device>(machine: &Machine, world: &World<'_, X>, to: u64) -> u64
     ensures within { 0 < result → machine.now.cycle + result ≤ to }
 {
     let at = machine.number();
-    if to <= at {
+    if to <= at || !are_parts_at_rest(machine) {
         return 0;
     }
-    if are_parts_at_rest(machine) {
-        least_quiet(machine, world, at, to)
-    } else {
-        0
+    let blocks = machine.quiet_blocks();
+    if blocks == 0 {
+        return 0;
     }
+    least_quiet(machine, world, blocks, at, to)
 }
 
-/// The least end of all, at most up to a cycle, where what is not at rest are the cores and the peripherals.
-fn least_quiet<X: Device>(machine: &Machine, world: &World<'_, X>, at: u64, to: u64) -> u64
+/// The least end of all, at most up to a cycle, where SIO is at rest and the DMA engine and PIO are quiet for so many cycles.
+fn least_quiet<X: Device>(
+    machine: &Machine,
+    world: &World<'_, X>,
+    blocks: u64,
+    at: u64,
+    to: u64,
+) -> u64
     requires at { at ≡ machine.now.cycle }
     requires room { at ≤ to }
     requires limit { to ≤ world.now.limit }
     requires rest { ArePartsAtRest machine.now }
+    requires blocks { AreBlocksQuiet machine.now blocks }
     ensures parts { ArePartsQuiet (setting X.meaning world.now) machine.now result }
     ensures within { machine.now.cycle + result ≤ to }
 {
@@ -58,7 +61,8 @@ fn least_quiet<X: Device>(machine: &Machine, world: &World<'_, X>, at: u64, to: 
     let core0 = machine.core0.quiet(lines0, at);
     let core1 = machine.core1.quiet(lines1, at);
     let cores = core0.min(core1);
-    let parts = outer.min(cores);
+    let lanes = outer.min(blocks);
+    let parts = lanes.min(cores);
     let room = to - at;
     parts.min(room)
 }
@@ -82,6 +86,7 @@ fn pass<X: Device>(machine: &mut Machine, world: &World<'_, X>, n: u64)
     let seen = seen_now(machine, world);
     let lines0 = machine.lines(0);
     let lines1 = machine.lines(1);
+    machine.pass_blocks(n);
     machine.core0.pass(lines0, at, n);
     machine.core1.pass(lines1, at, n);
     machine.outer.pass(world, &seen, n);

@@ -1,9 +1,10 @@
--- What is watched while core 0 is at work by itself, which does not look at the peripherals (the project's own).
+-- What is watched while core 0 is at work by itself, which does not look at the other lanes (the project's own).
 use Rattle.std.proofs.Common.{refl}
 use Rattle.std.specs.Prelude.{◌≡◌, ℕ, Bool, true, false, not, ◌==◌}
 use Rattle.outer_lane.specs.State.{OuterState}
 use Rattle.rp_machine.specs.State.{State}
-use Rattle.rp_machine.specs.Inward.{with_outer}
+use Rattle.rp_machine.specs.Alone.{Blocks}
+use Rattle.rp_machine.specs.Inward.{with_beside}
 use Rattle.rp_machine.specs.Reads.{begins_of}
 use Rattle.reverse_debug.specs.declared.sight.Sight.{Sight}
 use Rattle.reverse_debug.specs.declared.sight.Sight.TheVariants.{Word, Begun}
@@ -15,7 +16,7 @@ stops_at (Word address before) s = not (word_at s address == before)
 stops_at (Begun false address) s = is_begun address (begins_of 0 s)
 stops_at (Begun true address) s = is_begun address (begins_of 1 s)
 
-pub stops_inward : (sight : Sight) (o : OuterState) (s : State) → stops_at sight (with_outer o s) ≡ stops_at sight s
-stops_inward (Word address before) o s = refl
-stops_inward (Begun false address) o s = refl
-stops_inward (Begun true address) o s = refl
+pub stops_inward : (sight : Sight) (p : Blocks) (o : OuterState) (s : State) → stops_at sight (with_beside p o s) ≡ stops_at sight s
+stops_inward (Word address before) p o s = refl
+stops_inward (Begun false address) p o s = refl
+stops_inward (Begun true address) p o s = refl

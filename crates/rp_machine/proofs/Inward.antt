@@ -1,6 +1,6 @@
--- Core 0 goes on alone beside peripherals that lie behind: each cycle is the definition's.
+-- Core 0 goes on alone beside lanes that lie behind: each cycle is the definition's.
 use Rattle.std.proofs.lemmas.Bool.Decides.{eqb_tells}
-use Rattle.std.proofs.Common.{◌≡◌, ◌+◌, ◌<◌, ◌≤◌, zero, suc, inl, inr, arith, ℕ, true, false, Bool, if◌then◌else◌, List, [], ◌∷◌, Option, Some, None, bit_or, refl, sym, ap, ◌∙◌}
+use Rattle.std.proofs.Common.{◌≡◌, ◌+◌, ◌*◌, ◌^◌, ◌<◌, ◌≤◌, zero, suc, inl, inr, arith, ℕ, true, false, Bool, if◌then◌else◌, List, [], ◌∷◌, Option, Some, None, ◌==◌, bit_or, refl, sym, ap, ◌∙◌}
 use Rattle.rp_base.specs.declared.Master.TheVariants as master
 use Rattle.rp_base.specs.declared.Request.{Request}
 use Rattle.rp_base.specs.declared.Why.{Why}
@@ -20,6 +20,10 @@ use Rattle.m0_core.specs.Fetch as core_asks
 use Rattle.m0_core.specs.Cycle as core
 use Rattle.bus_fabric.specs.State.{has_hold}
 use Rattle.bus_fabric.proofs.Alone.{nobody-after}
+use Rattle.dma_engine.specs.Words as dma_words
+use Rattle.pio_block.specs.Words as pio_words
+use Rattle.pio_block.proofs.Between.{a_quiet_block_shows_the_same}
+use Rattle.sio_block.specs.State.{SioState}
 use Rattle.sio_block.specs.Launcher.{offers_of}
 use Rattle.io_bank.specs.State.{Bank}
 use Rattle.io_bank.specs.Levels.{inputs_of as inputs_of_pads}
@@ -32,19 +36,20 @@ use Rattle.outer_lane.specs.Step.{marked}
 use Rattle.outer_lane.specs.Quiet.{IsQuiet, seen_in, outer_after}
 use Rattle.lane_look.specs.Times.{times}
 use Rattle.rp_machine.specs.State.{State}
-use Rattle.rp_machine.specs.Answers.{answer_of, lines_of, block_lines, counts_of, packed, packed_pair, pacing_of, inputs_of, outs_of}
+use Rattle.rp_machine.specs.Answers.{answer_of, pair_number, sio_lines, lines_of, block_lines, packed_pair, pacing_of, inputs_of, outs_of}
 use Rattle.rp_machine.specs.Deeds.{asked_of, turn_of, deed_of, cause_of, stored_at}
 use Rattle.rp_machine.specs.Cycle.{begun, wanted, wanted_by, cause_in, with_pins, pins_of, with_sio, ended, after_deed, mark, stop, next}
 use Rattle.rp_machine.specs.BusRest.{core1_at_rest}
-use Rattle.rp_machine.specs.Alone.{IsAlone, alone_next, granted_alone, with_grant, with_store}
-use Rattle.rp_machine.specs.Inward.{with_outer, is_inward, core0_want, inward_turn, inward_deed, core0_stepped, inward_rest, inward_next, TellsSame, GoesAlone, GoesOn, inward_cycle, inward_after, StaysInward, onward_after, GoesOnward, Core0GoesOnAlone}
+use Rattle.rp_machine.specs.Alone.{Blocks, AreBlocksQuiet, blocks_after, with_blocks, IsAlone, alone_next, granted_alone, with_grant, with_store}
+use Rattle.rp_machine.specs.Inward.{with_beside, is_inward, core0_want, inward_turn, inward_deed, core0_stepped, inward_rest, inward_next, TellsSame, GoesAlone, GoesOn, inward_cycle, inward_after, StaysInward, onward_after, GoesOnward, Core0GoesOnAlone}
 use Rattle.rp_machine.specs.Events.{events}
 use Rattle.rp_machine.specs.Run.{states}
 use Rattle.rp_machine.proofs.Quietly.{RunsThrough, states_through, fewer, no_events, seen_later, seen_number}
 use Rattle.rp_machine.proofs.OneCore.{next_alone, cause_alone}
+use Rattle.rp_machine.proofs.Going.{none_after}
 use Rattle.rp_machine.proofs.HeldLanes.{outer_next}
 
--- ---- what is told beside other peripherals
+-- ---- what is told beside others
 
 pub answered_same : {B : Type 0} (f g : Ask → ℕ) → ((a : Ask) → f a ≡ g a) → (tree : Asking B) → answered f tree ≡ answered g tree
 answered_same f g h (Ready begun) = refl
@@ -54,18 +59,18 @@ same_way : {A : Type 0} (c : Bool) (x : A) → (if c then x else x) ≡ x
 same_way true x = refl
 same_way false x = refl
 
-answer_same : (o : OuterState) (s : State) → TellsSame o s → (a : Ask) → answer_of 0 (with_outer o s) a ≡ answer_of 0 s a
-unfolding lines_of pacing_of inputs_of block_lines outs_of
-answer_same o s h ask.Lines = ap (λ (n : ℕ). bit_or n (block_lines 0 s)) h.lines
-answer_same o s h (ask.Half address) = refl
-answer_same o s h (ask.Word address) = refl
-answer_same o s h ask.Pacing = ap (λ (uarts : List ℕ). packed (record (counts_of s) { uarts = uarts })) h.pacing
-answer_same o s h ask.Inputs = ap packed_pair h.inputs
-answer_same o s h (ask.Outs block) = refl
+answer_same : (p : Blocks) (o : OuterState) (s : State) → TellsSame p o s → (a : Ask) → answer_of 0 (with_beside p o s) a ≡ answer_of 0 s a
+unfolding inputs_of
+answer_same p o s h ask.Lines = h.lines
+answer_same p o s h (ask.Half address) = refl
+answer_same p o s h (ask.Word address) = refl
+answer_same p o s h ask.Pacing = h.pacing
+answer_same p o s h ask.Inputs = ap packed_pair h.inputs
+answer_same p o s h (ask.Outs block) = h.outs block
 
-begun_same : (o : OuterState) (s : State) → TellsSame o s → (begun (with_outer o s)).core0 ≡ (begun s).core0
+begun_same : (p : Blocks) (o : OuterState) (s : State) → TellsSame p o s → (begun (with_beside p o s)).core0 ≡ (begun s).core0
 unfolding begun
-begun_same o s h = answered_same (answer_of 0 (with_outer o s)) (answer_of 0 s) (answer_same o s h) (core_asks.asks s.core0 s.cycle)
+begun_same p o s h = answered_same (answer_of 0 (with_beside p o s)) (answer_of 0 s) (answer_same p o s h) (core_asks.asks s.core0 s.cycle)
 
 -- ---- the cycle
 
@@ -88,10 +93,10 @@ unfolding after_deed
 no_deed_where w found true request q = no_deed w found request request.write (place_of request.address) q
 no_deed_where w found false request q = refl
 
--- SIO ends its cycle beside other peripherals
-ends_beside : (o : OuterState) (p : State) → o.sio ≡ pins_of p.sio → ended (with_outer o p) ≡ with_outer o (ended p)
+-- SIO ends its cycle beside others
+ends_beside : (p : Blocks) (o : OuterState) (q : State) → o.sio ≡ pins_of q.sio → ended (with_beside p o q) ≡ with_beside p o (ended q)
 unfolding ended with_sio
-ends_beside o p h = ap (λ (pins : List ℕ). record (ended p) { outer = record o { sio = pins } }) (sym h)
+ends_beside p o q h = ap (λ (pins : List ℕ). with_beside p (record o { sio = pins }) (ended q)) (sym h)
 
 -- what a cycle has come to before the launcher has its turn
 abbrev reached : Doing → Want → State → State
@@ -100,36 +105,33 @@ reached b x s = core0_stepped b (inward_turn (granted_alone x s) x) (with_grant 
 abbrev closed : Want → ℕ → Bool → State → State
 closed x cycle granted q = record (ended (with_store (inward_deed granted x) q)) { cycle = cycle + 1 }
 
-inward_end : (w : Setting) (o : OuterState) (s : State) (b : Doing) (seen : SeenOutputs) (x : Want) → GoesAlone s → o.sio ≡ pins_of s.sio
-    → closed x s.cycle (granted_alone x s) (core1_at_rest (offers_of s.sio) (with_outer (outer.next w o seen) (reached b x s)))
-    ≡ with_outer (outer.next w o seen) (inward_next b x s)
+inward_end : (w : Setting) (p : Blocks) (o : OuterState) (s : State) (b : Doing) (seen : SeenOutputs) (x : Want) → GoesAlone s → o.sio ≡ pins_of s.sio
+    → closed x s.cycle (granted_alone x s) (core1_at_rest (offers_of s.sio) (with_beside p (outer.next w o seen) (reached b x s)))
+    ≡ with_beside p (outer.next w o seen) (inward_next b x s)
 unfolding inward_next
-inward_end w o s b seen x h pins =
-    ap (λ (q : State). closed x s.cycle (granted_alone x s) q) (rests_again (offers_of s.sio) (with_outer (outer.next w o seen) (reached b x s)) h.offers)
+inward_end w p o s b seen x h pins =
+    ap (λ (q : State). closed x s.cycle (granted_alone x s) q) (rests_again (offers_of s.sio) (with_beside p (outer.next w o seen) (reached b x s)) h.offers)
     ∙ ap (λ (q : State). record q { cycle = s.cycle + 1 })
-    (ends_beside (outer.next w o seen) (with_store (inward_deed (granted_alone x s) x) (reached b x s)) ((outer_next w o seen).sio ∙ pins))
+    (ends_beside p (outer.next w o seen) (with_store (inward_deed (granted_alone x s) x) (reached b x s)) ((outer_next w o seen).sio ∙ pins))
 
-inward_same : (w : Setting) (o : OuterState) (s : State) (b : Doing) (seen : SeenOutputs) (x : Want) → GoesAlone s → o.sio ≡ pins_of s.sio → is_inward x ≡ true
-    → alone_next w b seen x (with_outer o s) ≡ with_outer (outer.next w o seen) (inward_next b x s)
+inward_same : (w : Setting) (p q : Blocks) (o : OuterState) (s : State) (b : Doing) (seen : SeenOutputs) (x : Want) → GoesAlone s → o.sio ≡ pins_of s.sio → is_inward x ≡ true
+    → alone_next w q b seen x (with_beside p o s) ≡ with_beside q (outer.next w o seen) (inward_next b x s)
 unfolding alone_next turn_of deed_of asked_of after_deed
-inward_same w o s b seen want.Nothing h pins e = inward_end w o s b seen want.Nothing h pins
-inward_same w o s b seen (want.Ram request) h pins e =
-    ap (λ (q : State). closed (want.Ram request) s.cycle (granted_alone (want.Ram request) s) (core1_at_rest (offers_of s.sio) q))
-    (no_deed_where w _ (granted_alone (want.Ram request) s) request (with_outer (outer.next w o seen) (reached b (want.Ram request) s)))
-    ∙ inward_end w o s b seen (want.Ram request) h pins
-inward_same w o s b seen (want.Outward request) h pins e = cc
-inward_same w o s b seen want.Signal h pins e = cc
-inward_same w o s b seen (want.Stopped cause) h pins e = cc
+inward_same w p q o s b seen want.Nothing h pins e = inward_end w q o s b seen want.Nothing h pins
+inward_same w p q o s b seen (want.Ram request) h pins e =
+    ap (λ (r : State). closed (want.Ram request) s.cycle (granted_alone (want.Ram request) s) (core1_at_rest (offers_of s.sio) r))
+    (no_deed_where w _ (granted_alone (want.Ram request) s) request (with_beside q (outer.next w o seen) (reached b (want.Ram request) s)))
+    ∙ inward_end w q o s b seen (want.Ram request) h pins
+inward_same w p q o s b seen (want.Outward request) h pins e = cc
+inward_same w p q o s b seen want.Signal h pins e = cc
+inward_same w p q o s b seen (want.Stopped cause) h pins e = cc
 
-beside : (o : OuterState) (s : State) → IsAlone s → IsAlone (with_outer o s)
-beside o s h = record { asleep = h.asleep; dma = h.dma; pio0 = h.pio0; pio1 = h.pio1 }
-
-pub onward : (w : Setting) (o : OuterState) (s : State) → GoesAlone s → TellsSame o s → is_inward (core0_want s) ≡ true
-    → next w (with_outer o s) ≡ with_outer (outer.next w o (begun (with_outer o s)).outer) (inward_next (begun s).core0 (core0_want s) s)
-onward w o s h same inward =
-    next_alone w (with_outer o s) (beside o s h.alone)
-    ∙ ap (λ b. alone_next w b (begun (with_outer o s)).outer (core.want_of b) (with_outer o s)) (begun_same o s same)
-    ∙ inward_same w o s (begun s).core0 (begun (with_outer o s)).outer (core0_want s) h same.sio inward
+pub onward : (w : Setting) (p q : Blocks) (o : OuterState) (s : State) → GoesAlone s → IsAlone (with_beside p o s) q → TellsSame p o s → is_inward (core0_want s) ≡ true
+    → next w (with_beside p o s) ≡ with_beside q (outer.next w o (begun (with_beside p o s)).outer) (inward_next (begun s).core0 (core0_want s) s)
+onward w p q o s h alone same inward =
+    next_alone w (with_beside p o s) q alone
+    ∙ ap (λ b. alone_next w q b (begun (with_beside p o s)).outer (core.want_of b) (with_beside p o s)) (begun_same p o s same)
+    ∙ inward_same w p q o s (begun s).core0 (begun (with_beside p o s)).outer (core0_want s) h same.sio inward
 
 -- no master stops it
 no_cause : (w : Setting) (seen : SeenOutputs) (s : State) (x : Want) → is_inward x ≡ true → cause_of w seen s (wanted_by master.Core0 x) ≡ None
@@ -140,12 +142,12 @@ no_cause w seen s (want.Outward request) e = cc
 no_cause w seen s want.Signal e = cc
 no_cause w seen s (want.Stopped cause) e = cc
 
-pub onward_runs : (w : Setting) (o : OuterState) (s : State) → GoesAlone s → TellsSame o s → is_inward (core0_want s) ≡ true
-    → cause_in w (begun (with_outer o s)) (wanted (begun (with_outer o s))) (with_outer o s) ≡ None
-onward_runs w o s h same inward =
-    cause_alone w (with_outer o s) (beside o s h.alone)
-    ∙ ap (λ b. cause_of w (begun (with_outer o s)).outer (with_outer o s) (wanted_by master.Core0 (core.want_of b))) (begun_same o s same)
-    ∙ no_cause w (begun (with_outer o s)).outer (with_outer o s) (core0_want s) inward
+pub onward_runs : (w : Setting) (p q : Blocks) (o : OuterState) (s : State) → IsAlone (with_beside p o s) q → TellsSame p o s → is_inward (core0_want s) ≡ true
+    → cause_in w (begun (with_beside p o s)) (wanted (begun (with_beside p o s))) (with_beside p o s) ≡ None
+onward_runs w p q o s alone same inward =
+    cause_alone w (with_beside p o s) q alone
+    ∙ ap (λ b. cause_of w (begun (with_beside p o s)).outer (with_beside p o s) (wanted_by master.Core0 (core.want_of b))) (begun_same p o s same)
+    ∙ no_cause w (begun (with_beside p o s)).outer (with_beside p o s) (core0_want s) inward
 
 -- ---- a cycle in which nothing is wanted, and no access lasts
 
@@ -166,43 +168,140 @@ nothing_inward b s e nothing = ap (λ (d : Doing). is_inward (core.want_of d)) (
 pub inward_by : (b : Doing) (s : State) → b ≡ (begun s).core0 → is_inward (core.want_of b) ≡ true → is_inward (core0_want s) ≡ true
 inward_by b s e inward = ap (λ (d : Doing). is_inward (core.want_of d)) (sym e) ∙ inward
 
-goes_on : (w : Setting) (o : OuterState) (s : State) → GoesAlone s → TellsSame o s → is_inward (core0_want s) ≡ true → GoesOn w o s
-goes_on w o s h same inward = record { cause = onward_runs w o s h same inward; state = onward w o s h same inward }
+goes_on : (w : Setting) (p q : Blocks) (o : OuterState) (s : State) → GoesAlone s → IsAlone (with_beside p o s) q → TellsSame p o s → is_inward (core0_want s) ≡ true → GoesOn w p q o s
+goes_on w p q o s h alone same inward = record { cause = onward_runs w p q o s alone same inward; state = onward w p q o s h alone same inward }
 
 -- ---- one cycle after another
 
 -- what no such cycle changes
-record Stays (s t : State) (n : ℕ) : Type 0 where
-  alone : GoesAlone t
-  outer : t.outer ≡ s.outer
-  pio0 : t.pio0 ≡ s.pio0
-  pio1 : t.pio1 ≡ s.pio1
-  pins : pins_of t.sio ≡ pins_of s.sio
-  cycle : t.cycle ≡ s.cycle + n
+pub record Stays (s t : State) (n : ℕ) : Type 0 where
+  pub alone : GoesAlone t
+  pub outer : t.outer ≡ s.outer
+  pub dma : t.dma ≡ s.dma
+  pub pio0 : t.pio0 ≡ s.pio0
+  pub pio1 : t.pio1 ≡ s.pio1
+  pub pins : pins_of t.sio ≡ pins_of s.sio
+  pub cycle : t.cycle ≡ s.cycle + n
 
 stays_here : (s : State) → GoesAlone s → Stays s s 0
-stays_here s h = record { alone = h; outer = refl; pio0 = refl; pio1 = refl; pins = refl; cycle = omega arith }
+stays_here s h = record { alone = h; outer = refl; dma = refl; pio0 = refl; pio1 = refl; pins = refl; cycle = omega arith }
 
 stays_on : (b : Doing) (x : Want) (s t : State) (n : ℕ) → s.outer.sio ≡ pins_of s.sio → Stays s t n → Stays s (inward_next b x t) (suc n)
 unfolding inward_next ended with_sio
 stays_on b x s t n known h =
     let cycle = h.cycle in
     record {
-      alone = record {
-        alone = record { asleep = h.alone.alone.asleep; dma = h.alone.alone.dma; pio0 = h.alone.alone.pio0; pio1 = h.alone.alone.pio1 };
-        offers = h.alone.offers;
-      };
+      alone = record { asleep = h.alone.asleep; offers = h.alone.offers };
       outer = ap (λ (o : OuterState). record o { sio = pins_of t.sio }) h.outer ∙ ap (λ (pins : List ℕ). record s.outer { sio = pins }) (h.pins ∙ sym known);
+      dma = h.dma;
       pio0 = h.pio0;
       pio1 = h.pio1;
       pins = h.pins;
       cycle = omega arith;
     }
 
-stays_after : (s : State) (n : ℕ) → GoesAlone s → s.outer.sio ≡ pins_of s.sio → Stays s (inward_after n s) n
+pub stays_after : (s : State) (n : ℕ) → GoesAlone s → s.outer.sio ≡ pins_of s.sio → Stays s (inward_after n s) n
 unfolding inward_after
 stays_after s zero h known = stays_here s h
 stays_after s (suc n) h known = stays_on _ _ s (inward_after n s) n known (stays_after s n h known)
+
+-- the blocks and the peripherals, which are quiet, tell in the cycle k what they told first
+pub record TellOn (s t : State) : Type 0 where
+  pub lines : (core : ℕ) → outer_lines core t.outer ≡ outer_lines core s.outer
+  pub uarts : outer_pacing t.outer ≡ outer_pacing s.outer
+  pub dma : dma_words.lines_of t.dma ≡ dma_words.lines_of s.dma
+  pub lines0 : pio_words.lines_of t.pio0 ≡ pio_words.lines_of s.pio0
+  pub lines1 : pio_words.lines_of t.pio1 ≡ pio_words.lines_of s.pio1
+  pub outs0 : pio_words.outs_of t.pio0 ≡ pio_words.outs_of s.pio0
+  pub outs1 : pio_words.outs_of t.pio1 ≡ pio_words.outs_of s.pio1
+  pub pacing0 : pio_words.pacing_of t.pio0.machines ≡ pio_words.pacing_of s.pio0.machines
+  pub pacing1 : pio_words.pacing_of t.pio1.machines ≡ pio_words.pacing_of s.pio1.machines
+
+-- so the answers are the same
+abbrev lines_from : ℕ → List Bool → List Bool → List Bool → ℕ → ℕ
+lines_from outer first second dma own = bit_or outer (pair_number first * 2 ^ 7 + pair_number second * 2 ^ 9 + pair_number dma * 2 ^ 11 + own)
+
+pub lines_on : (s t : State) (number : ℕ) → t.sio ≡ s.sio → TellOn s t → lines_of number t ≡ lines_of number s
+unfolding lines_of block_lines
+lines_on s t number sio h =
+    ap (λ (x : ℕ). lines_from x (pio_words.lines_of t.pio0) (pio_words.lines_of t.pio1) (dma_words.lines_of t.dma) (sio_lines number t.sio)) (h.lines number)
+    ∙ ap (λ (x : List Bool). lines_from (outer_lines number s.outer) x (pio_words.lines_of t.pio1) (dma_words.lines_of t.dma) (sio_lines number t.sio)) h.lines0
+    ∙ ap (λ (x : List Bool). lines_from (outer_lines number s.outer) (pio_words.lines_of s.pio0) x (dma_words.lines_of t.dma) (sio_lines number t.sio)) h.lines1
+    ∙ ap (λ (x : List Bool). lines_from (outer_lines number s.outer) (pio_words.lines_of s.pio0) (pio_words.lines_of s.pio1) x (sio_lines number t.sio)) h.dma
+    ∙ ap (λ (x : SioState). lines_from (outer_lines number s.outer) (pio_words.lines_of s.pio0) (pio_words.lines_of s.pio1) (dma_words.lines_of s.dma) (sio_lines number x)) sio
+
+pub pacing_on : (s t : State) → TellOn s t → pacing_of t ≡ pacing_of s
+unfolding pacing_of
+pacing_on s t h = rw (h.uarts, h.pacing0, h.pacing1) refl
+
+outs_by : (first : Bool) (s t : State) → TellOn s t → pio_words.outs_of (if first then t.pio0 else t.pio1) ≡ pio_words.outs_of (if first then s.pio0 else s.pio1)
+outs_by true s t h = h.outs0
+outs_by false s t h = h.outs1
+
+pub outs_on : (s t : State) (block : ℕ) → TellOn s t → outs_of block t ≡ outs_of block s
+unfolding outs_of
+outs_on s t block h = ap packed_pair (outs_by (block == 0) s t h)
+
+-- the state in which the others have gone so many cycles, and core 0 has gone to t
+abbrev pub beside_after : Setting → State → ℕ → State → State
+beside_after w s k t = with_beside (blocks_after k s) (outer_after w (begun s).outer k s.outer) t
+
+pub tell_on : (w : Setting) (s t : State) (n k : ℕ) → k ≤ n → AreBlocksQuiet s n → IsQuiet w (begun s).outer s.outer n → TellOn s (beside_after w s k t)
+tell_on w s t n k le blocks quiet =
+    let on0 = a_quiet_block_shows_the_same s.pio0 n blocks.pio0 in
+    let on1 = a_quiet_block_shows_the_same s.pio1 n blocks.pio1 in
+    record {
+      lines = λ core. quiet.lines k le core;
+      uarts = quiet.pacing k le;
+      dma = refl;
+      lines0 = on0.lines k;
+      lines1 = on1.lines k;
+      outs0 = on0.outs k;
+      outs1 = on1.outs k;
+      pacing0 = on0.pacing k;
+      pacing1 = on1.pacing k;
+    }
+
+-- what stays beside core 0 tells the same too
+stayed : (s t : State) (n : ℕ) → Stays s t n → TellOn t s
+stayed s t n h = rw (h.outer, h.dma, h.pio0, h.pio1) record {
+  lines = λ core. refl;
+  uarts = refl;
+  dma = refl;
+  lines0 = refl;
+  lines1 = refl;
+  outs0 = refl;
+  outs1 = refl;
+  pacing0 = refl;
+  pacing1 = refl;
+}
+
+told_both : (s t u : State) → TellOn s t → TellOn u s → TellOn u t
+told_both s t u h i = record {
+  lines = λ core. h.lines core ∙ i.lines core;
+  uarts = h.uarts ∙ i.uarts;
+  dma = h.dma ∙ i.dma;
+  lines0 = h.lines0 ∙ i.lines0;
+  lines1 = h.lines1 ∙ i.lines1;
+  outs0 = h.outs0 ∙ i.outs0;
+  outs1 = h.outs1 ∙ i.outs1;
+  pacing0 = h.pacing0 ∙ i.pacing0;
+  pacing1 = h.pacing1 ∙ i.pacing1;
+}
+
+-- in a cycle of these the blocks come to what they are in the next
+alone_by : (w : Setting) (s t : State) (n k : ℕ) → k < n → t.core1.asleep ≡ true → AreBlocksQuiet s n → pacing_of (beside_after w s k t) ≡ pacing_of s
+    → IsAlone (beside_after w s k t) (blocks_after (suc k) s)
+unfolding begun
+alone_by w s t n k lt asleep blocks pacing =
+    let u = beside_after w s k t in
+    record {
+      asleep = asleep;
+      wants = blocks.dma.wants k lt (answer_of 2 u) pacing;
+      dma = λ turns. blocks.dma.steps k lt (answer_of 2 u) pacing turns;
+      pio0 = (a_quiet_block_shows_the_same s.pio0 n blocks.pio0).steps k lt (answer_of 3 u);
+      pio1 = (a_quiet_block_shows_the_same s.pio1 n blocks.pio1).steps k lt (answer_of 4 u);
+    }
 
 -- the cycle that comes next is one without a stop and without events
 record IsStep (w : Setting) (s : State) (k : ℕ) : Type 0 where
@@ -217,46 +316,55 @@ stop_none w s lt none = elim (eqb_tells s.cycle w.limit) [
   | inr e ↦ rw e.0 none
 ]
 
-a_step : (w : Setting) (s : State) (n k : ℕ) → k < n → GoesAlone s → s.outer.sio ≡ pins_of s.sio → IsQuiet w (begun s).outer s.outer n
+a_step : (w : Setting) (s : State) (n k : ℕ) → k < n → GoesAlone s → s.outer.sio ≡ pins_of s.sio → AreBlocksQuiet s n → IsQuiet w (begun s).outer s.outer n
     → is_inward (core0_want (inward_after k s)) ≡ true → s.cycle + n ≤ w.limit → IsStep w s k
 unfolding mark events inward_after times
-a_step w s n k lt h known quiet inward limit =
+a_step w s n k lt h known blocks quiet inward limit =
     let le : k ≤ n = omega arith in
     let t = inward_after k s in
+    let p = blocks_after k s in
     let o = outer_after w (begun s).outer k s.outer in
+    let u = beside_after w s k t in
     let stays = stays_after s k h known in
     let number = seen_number s in
     let cycle = stays.cycle in
-    let seen : (begun (with_outer o t)).outer ≡ seen_in (begun s).outer ((begun s).outer.cycle + k) =
-    seen_later s (with_outer o t) (quiet.pads k le) stays.pio0 stays.pio1 ∙ ap (λ (c : ℕ). seen_in (begun s).outer c) (omega arith) in
-    let tells : TellsSame o t = record {
-      lines = quiet.lines k le 0 ∙ ap (outer_lines 0) (sym stays.outer);
-      pacing = quiet.pacing k le ∙ ap outer_pacing (sym stays.outer);
-      inputs = ap (λ (p : Bank). inputs_of_pads p p.current ∷ inputs_of_pads p p.second ∷ []) (quiet.pads k le) ∙ ap outer_inputs (sym stays.outer);
+    let on = tell_on w s t n k le blocks quiet in
+    let here = told_both s u t on (stayed s t k stays) in
+    let seen : (begun u).outer ≡ seen_in (begun s).outer ((begun s).outer.cycle + k) =
+    seen_later s u (quiet.pads k le) (λ block. outs_on s u block on) ∙ ap (λ (c : ℕ). seen_in (begun s).outer c) (omega arith) in
+    let tells : TellsSame p o t = record {
+      lines = lines_on t u 0 refl here;
+      pacing = pacing_on t u here;
+      inputs = ap (λ (b : Bank). inputs_of_pads b b.current ∷ inputs_of_pads b b.second ∷ []) (quiet.pads k le) ∙ ap outer_inputs (sym stays.outer);
+      outs = λ block. outs_on t u block here;
       sio = quiet.sio k le ∙ known ∙ sym stays.pins;
     } in
-    let step = goes_on w o t stays.alone tells inward in
+    let step = goes_on w p (blocks_after (suc k) s) o t stays.alone (alone_by w s t n k lt stays.alone.asleep blocks (pacing_on s u on)) tells inward in
     record {
-      stop = stop_none w (with_outer o t) (omega arith) step.cause;
-      next = step.state ∙ ap (λ (x : SeenOutputs). with_outer (outer.next w o x) (inward_next (begun t).core0 (core0_want t) t)) seen;
-      events = no_events t.cycle o.pads.current (marked w o (begun (with_outer o t)).outer)
-          (ap (λ (x : SeenOutputs). marked w o x) seen ∙ quiet.mark k lt ∙ ap (λ (p : Bank). record { uart = None ∷ None ∷ []; pads = p.current }) (sym (quiet.pads k le)));
+      stop = stop_none w u (omega arith) step.cause;
+      next = step.state ∙ ap (λ (x : SeenOutputs). with_beside (blocks_after (suc k) s) (outer.next w o x) (inward_next (begun t).core0 (core0_want t) t)) seen;
+      events = no_events t.cycle o.pads.current (marked w o (begun u).outer)
+          (ap (λ (x : SeenOutputs). marked w o x) seen ∙ quiet.mark k lt ∙ ap (λ (b : Bank). record { uart = None ∷ None ∷ []; pads = b.current }) (sym (quiet.pads k le)));
     }
 
-runs_through : (w : Setting) (s : State) (n : ℕ) → GoesAlone s → s.outer.sio ≡ pins_of s.sio → IsQuiet w (begun s).outer s.outer n → StaysInward s n
+runs_through : (w : Setting) (s : State) (n : ℕ) → GoesAlone s → s.outer.sio ≡ pins_of s.sio → AreBlocksQuiet s n → IsQuiet w (begun s).outer s.outer n → StaysInward s n
     → s.cycle + n ≤ w.limit → RunsThrough w (onward_after w s) n
-runs_through w s n h known quiet inward limit = record {
-  stop = λ k lt. (a_step w s n k lt h known quiet (inward k lt) limit).stop;
-  next = λ k lt. (a_step w s n k lt h known quiet (inward k lt) limit).next;
-  events = λ k lt. (a_step w s n k lt h known quiet (inward k lt) limit).events;
+runs_through w s n h known blocks quiet inward limit = record {
+  stop = λ k lt. (a_step w s n k lt h known blocks quiet (inward k lt) limit).stop;
+  next = λ k lt. (a_step w s n k lt h known blocks quiet (inward k lt) limit).next;
+  events = λ k lt. (a_step w s n k lt h known blocks quiet (inward k lt) limit).events;
 }
 
-pub core0_goes_on_alone : Core0GoesOnAlone
+-- no cycle
+nothing_after : (w : Setting) (s : State) → onward_after w s 0 ≡ s
 unfolding inward_after times
-core0_goes_on_alone w s n h known quiet inward limit =
-    let runs = runs_through w s n h known quiet inward limit in
+nothing_after w s = ap (λ (p : Blocks). with_blocks p s) (none_after s)
+
+pub core0_goes_on_alone : Core0GoesOnAlone
+core0_goes_on_alone w s n h known blocks quiet inward limit =
+    let runs = runs_through w s n h known blocks quiet inward limit in
     let here : (k : ℕ) → k ≤ n → states w s k ≡ onward_after w s k =
-    λ k le. states_through w (onward_after w s) k (fewer w (onward_after w s) n k le runs) in
+    λ k le. ap (λ (x : State). states w x k) (sym (nothing_after w s)) ∙ states_through w (onward_after w s) k (fewer w (onward_after w s) n k le runs) in
     record {
       state = here n (omega arith);
       quiet = record {
@@ -267,14 +375,18 @@ core0_goes_on_alone w s n h known quiet inward limit =
       };
     }
 
+blocks_went : (s t : State) (n k : ℕ) → Stays s t k → blocks_after n t ≡ blocks_after n s
+blocks_went s t n k h = rw (h.dma, h.pio0, h.pio1) refl
+
 -- the same of what the calls of a run leave
 pub went_onward : (w : Setting) (s t : State) (o : OuterState) (seen : SeenOutputs) (n : ℕ) → GoesAlone s → s.outer.sio ≡ pins_of s.sio → seen ≡ (begun s).outer
-    → t ≡ inward_after n s → o ≡ outer_after w seen n t.outer → GoesOnward w s n → with_outer o t ≡ states w s n
+    → t ≡ inward_after n s → o ≡ outer_after w seen n t.outer → GoesOnward w s n → with_beside (blocks_after n t) o t ≡ states w s n
 went_onward w s t o seen n h known same went passed runs =
-    ap (λ (x : OuterState). with_outer x t) passed
-    ∙ ap (λ (x : State). with_outer (outer_after w seen n x.outer) x) went
-    ∙ ap (λ (x : SeenOutputs). with_outer (outer_after w x n (inward_after n s).outer) (inward_after n s)) same
-    ∙ ap (λ (x : OuterState). with_outer (outer_after w (begun s).outer n x) (inward_after n s)) (stays_after s n h known).outer
+    ap (λ (x : OuterState). with_beside (blocks_after n t) x t) passed
+    ∙ ap (λ (x : State). with_beside (blocks_after n x) (outer_after w seen n x.outer) x) went
+    ∙ ap (λ (x : SeenOutputs). with_beside (blocks_after n (inward_after n s)) (outer_after w x n (inward_after n s).outer) (inward_after n s)) same
+    ∙ ap (λ (x : OuterState). with_beside (blocks_after n (inward_after n s)) (outer_after w (begun s).outer n x) (inward_after n s)) (stays_after s n h known).outer
+    ∙ ap (λ (x : Blocks). with_beside x (outer_after w (begun s).outer n s.outer) (inward_after n s)) (blocks_went s (inward_after n s) n n (stays_after s n h known))
     ∙ sym runs.state
 
 -- ---- as far as core 0 reaches for nothing but SRAM

@@ -1,5 +1,6 @@
 -- A cycle in which core 0 alone is at work is the one that the definition says.
 use Rattle.std.proofs.Common.{◌≡◌, ◌+◌, ℕ, true, false, List, [], ◌∷◌, ◌++◌, Option, Some, None, refl, sym, ap, ◌∙◌}
+use Rattle.std.specs.Prelude.{slice_index_or}
 use Rattle.rp_base.specs.declared.Master.TheVariants as master
 use Rattle.rp_base.specs.declared.Why.{Why}
 use Rattle.lane_look.specs.declared.marks.Mark.{Mark}
@@ -12,10 +13,7 @@ use Rattle.m0_core.specs.declared.doing.Doing.{Doing}
 use Rattle.m0_core.specs.declared.doing.Act.TheVariants as act
 use Rattle.m0_core.specs.Fetch as core_asks
 use Rattle.m0_core.specs.Cycle as core
-use Rattle.dma_engine.specs.Asks.{idle_begun}
 use Rattle.dma_engine.specs.Cycle as dma
-use Rattle.pio_block.specs.State.{Block as Pio}
-use Rattle.pio_block.specs.declared.inputs.Inputs.{Inputs}
 use Rattle.pio_block.specs.Cycle as pio
 use Rattle.bus_fabric.specs.State.{has_hold}
 use Rattle.bus_fabric.proofs.Alone.{nobody-after}
@@ -29,32 +27,26 @@ use Rattle.rp_machine.specs.Cycle.{begun, wanted, wanted_by, first_cause, cause_
 use Rattle.rp_machine.specs.BusRest.{is_nothing, core1_at_rest, rest_next}
 use Rattle.rp_machine.proofs.BusRest.{both, nothing, rest_four}
 use Rattle.rp_machine.specs.declared.wanted.Wanted.{Wanted}
-use Rattle.rp_machine.specs.Alone.{IsAlone, beside, stepped_alone, alone_next, first_next, is_first_alone}
+use Rattle.rp_machine.specs.Alone.{Blocks, IsAlone, beside, stepped_alone, alone_next, first_next, is_first_alone}
 
--- ---- what the parts at rest begin
+-- ---- what the others begin
 
 asleep_doing : ℕ → Doing
 asleep_doing cycle = record { act = act.Asleep; lines = 0; cycle = cycle }
 
-begun_core1 : (s : State) → IsAlone s → (begun s).core1.act ≡ act.Asleep
+begun_core1 : (s : State) (p : Blocks) → IsAlone s p → (begun s).core1.act ≡ act.Asleep
 unfolding begun core_asks.asks
-begun_core1 s h = rw h.asleep refl
+begun_core1 s p h = rw h.asleep refl
 
-begun_dma : (s : State) → IsAlone s → (begun s).dma ≡ idle_begun
-unfolding begun
-begun_dma s h = rw h.dma.asks_nothing refl
+pub first_want : (a b : Want) → a ∷ b ∷ [] ≡ want.Nothing ∷ want.Nothing ∷ [] → a ≡ want.Nothing
+first_want a b e = ap (λ (xs : List Want). slice_index_or xs 0 want.Nothing) e
 
-begun_pio0 : (s : State) → IsAlone s → (begun s).pio0 ≡ None
-unfolding begun
-begun_pio0 s h = rw h.pio0.asks_nothing refl
+pub second_want : (a b : Want) → a ∷ b ∷ [] ≡ want.Nothing ∷ want.Nothing ∷ [] → b ≡ want.Nothing
+second_want a b e = ap (λ (xs : List Want). slice_index_or xs 1 want.Nothing) e
 
-begun_pio1 : (s : State) → IsAlone s → (begun s).pio1 ≡ None
-unfolding begun
-begun_pio1 s h = rw h.pio1.asks_nothing refl
-
-pub wanted_alone : (s : State) → IsAlone s → wanted (begun s) ≡ beside (core.want_of (begun s).core0)
+pub wanted_alone : (s : State) (p : Blocks) → IsAlone s p → wanted (begun s) ≡ beside (core.want_of (begun s).core0)
 unfolding wanted
-wanted_alone s h = rw (begun_core1 s h, begun_dma s h) refl
+wanted_alone s p h = rw (begun_core1 s p h, first_want _ _ h.wants, second_want _ _ h.wants) refl
 
 -- ---- the first cause
 
@@ -66,10 +58,10 @@ cause_beside : (w : Setting) (b : Begun) (x : Want) (s : State) → cause_in w b
 unfolding cause_in cause_of
 cause_beside w b x s = alone_first _
 
-pub cause_alone : (w : Setting) (s : State) → IsAlone s
+pub cause_alone : (w : Setting) (s : State) (p : Blocks) → IsAlone s p
     → cause_in w (begun s) (wanted (begun s)) s ≡ cause_of w (begun s).outer s (wanted_by master.Core0 (core.want_of (begun s).core0))
-cause_alone w s h =
-    ap (λ xs. cause_in w (begun s) xs s) (wanted_alone s h) ∙ cause_beside w (begun s) (core.want_of (begun s).core0) s
+cause_alone w s p h =
+    ap (λ xs. cause_in w (begun s) xs s) (wanted_alone s p h) ∙ cause_beside w (begun s) (core.want_of (begun s).core0) s
 
 -- ---- the steps
 
@@ -77,26 +69,23 @@ asleep_stays : (c : Core) (b : Doing) (turns : List Turn) → b.act ≡ act.Asle
 unfolding core.next
 asleep_stays c b turns h = rw h refl
 
-idle_stays : (p : Pio) (b : Option Inputs) → b ≡ None → pio.next None p ≡ p → pio.next b p ≡ p
-idle_stays p b h stays = rw h stays
-
-turns_by : (w : Setting) (b : Begun) (ts : List Turn) (t : State)
+turns_by : (w : Setting) (p : Blocks) (b : Begun) (ts : List Turn) (t : State)
     → core.next t.core1 b.core1 (turn_for ts master.Core1 ∷ turn.Nothing ∷ []) ≡ t.core1
-    → dma.next t.dma b.dma (turn_for ts master.DmaRead ∷ turn_for ts master.DmaWrite ∷ []) ≡ t.dma
-    → pio.next b.pio0 t.pio0 ≡ t.pio0
-    → pio.next b.pio1 t.pio1 ≡ t.pio1
-    → with_turns w b ts t ≡ stepped_alone w b.core0 b.outer (turn_for ts master.Core0) t
+    → dma.next t.dma b.dma (turn_for ts master.DmaRead ∷ turn_for ts master.DmaWrite ∷ []) ≡ p.dma
+    → pio.next b.pio0 t.pio0 ≡ p.pio0
+    → pio.next b.pio1 t.pio1 ≡ p.pio1
+    → with_turns w b ts t ≡ stepped_alone w p b.core0 b.outer (turn_for ts master.Core0) t
 unfolding with_turns
-turns_by w b ts t e1 e2 e3 e4 = rw (e1, e2, e3, e4) refl
+turns_by w p b ts t e1 e2 e3 e4 = rw (e1, e2, e3, e4) refl
 
-steps_alone : (w : Setting) (ts : List Turn) (s t : State) → IsAlone s → t.core1 ≡ s.core1 → t.dma ≡ s.dma → t.pio0 ≡ s.pio0 → t.pio1 ≡ s.pio1
-    → with_turns w (begun s) ts t ≡ stepped_alone w (begun s).core0 (begun s).outer (turn_for ts master.Core0) t
-steps_alone w ts s t h core1 same_dma same_pio0 same_pio1 =
-    turns_by w (begun s) ts t
-    (asleep_stays t.core1 (begun s).core1 _ (begun_core1 s h))
-    (rw same_dma (h.dma.stays (begun s).dma _))
-    (rw same_pio0 (idle_stays s.pio0 (begun s).pio0 (begun_pio0 s h) h.pio0.stays))
-    (rw same_pio1 (idle_stays s.pio1 (begun s).pio1 (begun_pio1 s h) h.pio1.stays))
+steps_alone : (w : Setting) (ts : List Turn) (s t : State) (p : Blocks) → IsAlone s p → t.core1 ≡ s.core1 → t.dma ≡ s.dma → t.pio0 ≡ s.pio0 → t.pio1 ≡ s.pio1
+    → with_turns w (begun s) ts t ≡ stepped_alone w p (begun s).core0 (begun s).outer (turn_for ts master.Core0) t
+steps_alone w ts s t p h core1 same_dma same_pio0 same_pio1 =
+    turns_by w p (begun s) ts t
+    (asleep_stays t.core1 (begun s).core1 _ (begun_core1 s p h))
+    (rw same_dma (h.dma _))
+    (rw same_pio0 h.pio0)
+    (rw same_pio1 h.pio1)
 
 -- ---- the cycle
 
@@ -106,22 +95,22 @@ ending w b x s t = record (after_deeds w (deeds w b (beside x) s (granted (besid
 abbrev told : Setting → Begun → Want → State → Turn
 told w b x s = turn_for (turns w b (beside x) s (granted (beside x) s)) master.Core0
 
-ends_alone : (w : Setting) (b : Begun) (x : Want) (s : State)
-    → ending w b x s (stepped_alone w b.core0 b.outer (told w b x s) (with_grants (beside x) s)) ≡ alone_next w b.core0 b.outer x s
+ends_alone : (w : Setting) (p : Blocks) (b : Begun) (x : Want) (s : State)
+    → ending w b x s (stepped_alone w p b.core0 b.outer (told w b x s) (with_grants (beside x) s)) ≡ alone_next w p b.core0 b.outer x s
 unfolding granted asked asked_of turns turn_of deeds deed_of after_deeds after_deed core1_at_rest alone_next
-ends_alone w b x s = refl
+ends_alone w p b x s = refl
 
-next_beside : (w : Setting) (x : Want) (s : State) → IsAlone s → next_by w (begun s) (beside x) s ≡ alone_next w (begun s).core0 (begun s).outer x s
+next_beside : (w : Setting) (x : Want) (s : State) (p : Blocks) → IsAlone s p → next_by w (begun s) (beside x) s ≡ alone_next w p (begun s).core0 (begun s).outer x s
 unfolding next_by stepped
-next_beside w x s h =
+next_beside w x s p h =
     ap (ending w (begun s) x s)
-    (steps_alone w (turns w (begun s) (beside x) s (granted (beside x) s)) s (with_grants (beside x) s) h refl refl refl refl)
-    ∙ ends_alone w (begun s) x s
+    (steps_alone w (turns w (begun s) (beside x) s (granted (beside x) s)) s (with_grants (beside x) s) p h refl refl refl refl)
+    ∙ ends_alone w p (begun s) x s
 
-pub next_alone : (w : Setting) (s : State) → IsAlone s → next w s ≡ alone_next w (begun s).core0 (begun s).outer (core.want_of (begun s).core0) s
+pub next_alone : (w : Setting) (s : State) (p : Blocks) → IsAlone s p → next w s ≡ alone_next w p (begun s).core0 (begun s).outer (core.want_of (begun s).core0) s
 unfolding next
-next_alone w s h =
-    ap (λ xs. next_by w (begun s) xs s) (wanted_alone s h) ∙ next_beside w (core.want_of (begun s).core0) s h
+next_alone w s p h =
+    ap (λ xs. next_by w (begun s) xs s) (wanted_alone s p h) ∙ next_beside w (core.want_of (begun s).core0) s p h
 
 -- ---- a cycle in which the first master alone wants something
 

@@ -73,13 +73,13 @@ answered_later f g false true c d e0 e1 = ap (λ (x : ℕ). seen_of d no_pins (p
 answered_later f g false false c d e0 e1 = refl
 
 -- what is begun in a state is what was begun in another, but for the number of the cycle
-pub seen_later : (s t : State) → t.outer.pads ≡ s.outer.pads → t.pio0 ≡ s.pio0 → t.pio1 ≡ s.pio1 → (begun t).outer ≡ seen_in (begun s).outer t.cycle
-unfolding begun outs_of
-seen_later s t pads pio0 pio1 =
+pub seen_later : (s t : State) → t.outer.pads ≡ s.outer.pads → ((block : ℕ) → outs_of block t ≡ outs_of block s) → (begun t).outer ≡ seen_in (begun s).outer t.cycle
+unfolding begun
+seen_later s t pads outs =
     ap (λ tree. answered (answer_of 5 t) tree) (asks_are t.outer t.cycle)
     ∙ ap (λ p. answered (answer_of 5 t) (asks_by (is_used 6 p) (is_used 7 p) t.cycle)) pads
     ∙ answered_later (answer_of 5 s) (answer_of 5 t) (is_used 6 s.outer.pads) (is_used 7 s.outer.pads) s.cycle t.cycle
-    (ap (λ p. outs_of 0 (record s { pio0 = p })) pio0) (ap (λ p. outs_of 1 (record s { pio1 = p })) pio1)
+    (outs 0) (outs 1)
     ∙ ap (λ tree. seen_in (answered (answer_of 5 s) tree) t.cycle) (sym (asks_are s.outer s.cycle))
 
 seen_first : (f : Ask → ℕ) (first second : Bool) (c : ℕ) (tree : Asking SeenOutputs) → tree ≡ asks_by first second c → (answered f tree).cycle ≡ c

@@ -1,6 +1,6 @@
--- A cycle in which core 0 alone is at work: core 1 sleeps, and the DMA engine and both PIO blocks are at rest. Nothing is asked of
--- the parts at rest, and they stay as they are.
-use Rattle.std.specs.Prelude.{◌≡◌, ◌+◌, ◌&&◌, Bool, true, List, [], ◌∷◌}
+-- A cycle in which core 0 alone is at work: core 1 sleeps, and the DMA engine and both PIO blocks are quiet: they want nothing, and
+-- only pacing timers and dividers go on in them.
+use Rattle.std.specs.Prelude.{◌≡◌, ℕ, ◌+◌, Bool, true, List, [], ◌∷◌}
 use Rattle.std.specs.List.{list_all}
 use Rattle.rp_base.specs.declared.Master.TheVariants as master
 use Rattle.lane_look.specs.declared.lane.Want.{Want}
@@ -9,9 +9,12 @@ use Rattle.lane_look.specs.declared.lane.Turn.{Turn}
 use Rattle.lane_look.specs.declared.lane.Turn.TheVariants as turn
 use Rattle.m0_core.specs.declared.doing.Doing.{Doing}
 use Rattle.m0_core.specs.Cycle as core
-use Rattle.dma_engine.specs.Rest.{is_still, StaysAtRest}
-use Rattle.pio_block.specs.Cycle.{Rests}
-use Rattle.pio_block.specs.Words.{is_at_rest}
+use Rattle.dma_engine.specs.State.{Engine}
+use Rattle.dma_engine.specs.Cycle as dma
+use Rattle.dma_engine.specs.Quiet as dma_quiet
+use Rattle.pio_block.specs.State.{Block as Pio}
+use Rattle.pio_block.specs.Cycle as pio
+use Rattle.pio_block.specs.Quiet as pio_quiet
 use Rattle.bus_fabric.specs.Alone.{at_most_core0}
 use Rattle.bus_fabric.specs.Grant.{is_done, after_grant}
 use Rattle.sio_block.specs.Launcher.{offers_of}
@@ -22,20 +25,41 @@ use Rattle.rp_machine.specs.declared.begun.Begun.{Begun}
 use Rattle.rp_machine.specs.declared.deed.Deed.{Deed}
 use Rattle.rp_machine.specs.declared.wanted.Wanted.{Wanted}
 use Rattle.rp_machine.specs.State.{State}
+use Rattle.rp_machine.specs.Answers.{pacing_of}
 use Rattle.rp_machine.specs.Deeds.{asked_of, turn_of, deed_of}
 use Rattle.rp_machine.specs.Cycle.{begun, next, wanted_by, with_turns, found_by, after_deed, stored, ended}
 use Rattle.rp_machine.specs.BusRest.{wants_nothing, core1_at_rest}
 
--- core 1 sleeps, and the DMA engine and both PIO blocks are at rest
-abbrev pub is_core0_alone : State → Bool
-is_core0_alone s = s.core1.asleep && (is_still s.dma && (is_at_rest s.pio0 && is_at_rest s.pio1))
+-- the DMA engine and both PIO blocks
+pub record Blocks : Type 0 where
+  pub dma : Engine
+  pub pio0 : Pio
+  pub pio1 : Pio
 
--- what follows in a machine: nothing is asked of them, and they stay as they are
-pub record IsAlone (s : State) : Type 0 where
+-- they are quiet for so many cycles, as long as the counts of the UARTs stay
+pub record AreBlocksQuiet (s : State) (n : ℕ) : Type 0 where
+  pub dma : dma_quiet.IsQuiet (pacing_of s) s.dma n
+  pub pio0 : pio_quiet.IsQuiet s.pio0 n
+  pub pio1 : pio_quiet.IsQuiet s.pio1 n
+
+-- and what they are after these
+abbrev pub blocks_after : ℕ → State → Blocks
+blocks_after n s = record {
+  dma = dma_quiet.engine_after n s.dma;
+  pio0 = pio_quiet.block_after n s.pio0;
+  pio1 = pio_quiet.block_after n s.pio1;
+}
+
+abbrev pub with_blocks : Blocks → State → State
+with_blocks p s = record s { dma = p.dma; pio0 = p.pio0; pio1 = p.pio1 }
+
+-- core 1 sleeps, the DMA engine wants nothing, and it and both PIO blocks come to these, whatever the bus gives
+pub record IsAlone (s : State) (p : Blocks) : Type 0 where
   pub asleep : s.core1.asleep ≡ true
-  pub dma : StaysAtRest s.dma
-  pub pio0 : Rests s.pio0
-  pub pio1 : Rests s.pio1
+  pub wants : dma.wanted (begun s).dma ≡ want.Nothing ∷ want.Nothing ∷ []
+  pub dma : (turns : List Turn) → dma.next s.dma (begun s).dma turns ≡ p.dma
+  pub pio0 : pio.next (begun s).pio0 s.pio0 ≡ p.pio0
+  pub pio1 : pio.next (begun s).pio1 s.pio1 ≡ p.pio1
 
 -- what core 0 wants, beside three masters that want nothing
 abbrev pub beside : Want → List Wanted
@@ -54,10 +78,13 @@ turn_alone w seen x s = turn_of w seen x (granted_alone x s) master.Core0 x s
 abbrev pub deed_alone : Setting → SeenOutputs → Want → State → Deed
 deed_alone w seen x s = deed_of w seen (granted_alone x s) x s
 
--- core 0 and the peripherals step
-abbrev pub stepped_alone : Setting → Doing → SeenOutputs → Turn → State → State
-stepped_alone w b seen told s = record s {
+-- core 0 and the peripherals step, and the blocks come to these
+abbrev pub stepped_alone : Setting → Blocks → Doing → SeenOutputs → Turn → State → State
+stepped_alone w p b seen told s = record s {
   core0 = core.next s.core0 b (told ∷ turn.Nothing ∷ []);
+  dma = p.dma;
+  pio0 = p.pio0;
+  pio1 = p.pio1;
   outer = outer.next w s.outer seen;
 }
 
@@ -67,12 +94,12 @@ with_grant x s = record s { fabric = after_grant (at_most_core0 (asked_of x)) s.
 abbrev pub with_store : Deed → State → State
 with_store d s = record s { sram = stored d s.sram }
 
--- the state after a cycle in which core 0 has begun this and wants that
-unfoldable pub alone_next : Setting → Doing → SeenOutputs → Want → State → State
-alone_next w b seen x s =
+-- the state after a cycle in which core 0 has begun this and wants that, and the blocks come to these
+unfoldable pub alone_next : Setting → Blocks → Doing → SeenOutputs → Want → State → State
+alone_next w p b seen x s =
     record (ended (with_store (deed_alone w seen x s)
     (core1_at_rest (offers_of s.sio) (after_deed w (found_by master.Core0 (deed_alone w seen x s) s.sio) master.Core0 (deed_alone w seen x s)
-    (stepped_alone w b seen (turn_alone w seen x s) (with_grant x s)))))) { cycle = s.cycle + 1 }
+    (stepped_alone w p b seen (turn_alone w seen x s) (with_grant x s)))))) { cycle = s.cycle + 1 }
 
 -- the state after a cycle in which the lanes have begun this, the first master wants that, and the others want nothing
 unfoldable pub first_next : Setting → Begun → Wanted → State → State
@@ -89,4 +116,6 @@ is_first_alone (x ∷ xs) = list_all wants_nothing xs
 
 -- a cycle of a machine in which core 0 alone is at work
 abbrev pub OneCoreGoesAlone : Type 0
-OneCoreGoesAlone = (w : Setting) (s : State) → IsAlone s → next w s ≡ alone_next w (begun s).core0 (begun s).outer (core.want_of (begun s).core0) s
+OneCoreGoesAlone =
+    (w : Setting) (s : State) (p : Blocks) → IsAlone s p
+    → next w s ≡ alone_next w p (begun s).core0 (begun s).outer (core.want_of (begun s).core0) s

@@ -1,4 +1,4 @@
--- Core 0 goes on alone beside peripherals that lie behind. The project's own.
+-- Core 0 goes on alone beside lanes that lie behind: the DMA engine, both PIO blocks and the peripherals. The project's own.
 use Rattle.std.specs.Prelude.{◌≡◌, ℕ, zero, suc, ◌+◌, ◌<◌, ◌≤◌, Bool, true, false, if◌then◌else◌, [], ◌∷◌, None}
 use Rattle.lane_look.specs.declared.lane.Want.{Want}
 use Rattle.lane_look.specs.declared.lane.Want.TheVariants as want
@@ -11,7 +11,7 @@ use Rattle.bus_fabric.specs.Alone.{at_most_core0}
 use Rattle.sio_block.specs.Launcher.{offers_of}
 use Rattle.outer_lane.specs.Setting.{Setting}
 use Rattle.outer_lane.specs.State.{OuterState}
-use Rattle.outer_lane.specs.Lines.{outer_lines, outer_inputs, outer_pacing}
+use Rattle.outer_lane.specs.Lines.{outer_inputs}
 use Rattle.outer_lane.specs.Step as outer
 use Rattle.outer_lane.specs.Quiet.{IsQuiet, outer_after}
 use Rattle.rp_base.specs.Map.{place_of}
@@ -22,11 +22,12 @@ use Rattle.rp_machine.specs.Deeds.{asked_of, turn_at, stored_at}
 use Rattle.rp_machine.specs.Cycle.{begun, wanted, cause_in, pins_of, ended, next}
 use Rattle.rp_machine.specs.Run.{states}
 use Rattle.rp_machine.specs.Quiet.{IsQuiet as RunsQuietly}
-use Rattle.rp_machine.specs.Alone.{IsAlone, granted_alone, with_grant, with_store}
+use Rattle.rp_machine.specs.Answers.{lines_of, pacing_of, outs_of}
+use Rattle.rp_machine.specs.Alone.{Blocks, AreBlocksQuiet, blocks_after, granted_alone, with_grant, with_store}
 
--- a state with these peripherals
-abbrev pub with_outer : OuterState → State → State
-with_outer o s = record s { outer = o }
+-- a state with these blocks and peripherals
+abbrev pub with_beside : Blocks → OuterState → State → State
+with_beside p o s = record s { dma = p.dma; pio0 = p.pio0; pio1 = p.pio1; outer = o }
 
 -- nothing is wanted, or an access to SRAM
 abbrev pub is_inward : Want → Bool
@@ -50,36 +51,37 @@ inward_deed granted _ = deed.Nothing
 abbrev pub core0_stepped : Doing → Turn → State → State
 core0_stepped b told s = record s { core0 = core.next s.core0 b (told ∷ turn.Nothing ∷ []) }
 
--- the state after a cycle in which core 0 has begun this and wants that of SRAM, but for the peripherals, which stay
+-- the state after a cycle in which core 0 has begun this and wants that of SRAM, but for the blocks and the peripherals, which stay
 unfoldable pub inward_next : Doing → Want → State → State
 inward_next b x s =
     record (ended (with_store (inward_deed (granted_alone x s) x)
     (core0_stepped b (inward_turn (granted_alone x s) x) (with_grant x s)))) { cycle = s.cycle + 1 }
 
--- these peripherals answer core 0 as those of a state do, and keep the same of SIO
-pub record TellsSame (o : OuterState) (s : State) : Type 0 where
-  pub lines : outer_lines 0 o ≡ outer_lines 0 s.outer
-  pub pacing : outer_pacing o ≡ outer_pacing s.outer
+-- these blocks and peripherals answer core 0 as those of a state do, and the peripherals keep the same of SIO
+pub record TellsSame (p : Blocks) (o : OuterState) (s : State) : Type 0 where
+  pub lines : lines_of 0 (with_beside p o s) ≡ lines_of 0 s
+  pub pacing : pacing_of (with_beside p o s) ≡ pacing_of s
   pub inputs : outer_inputs o ≡ outer_inputs s.outer
+  pub outs : (block : ℕ) → outs_of block (with_beside p o s) ≡ outs_of block s
   pub sio : o.sio ≡ pins_of s.sio
 
 -- the same where nothing is wanted, and no access lasts
 unfoldable pub inward_rest : Doing → State → State
 inward_rest b s = record (ended (core0_stepped b turn.Nothing s)) { cycle = s.cycle + 1 }
 
--- core 0 alone is at work, and its launcher has no word for core 1
+-- core 1 sleeps, and its launcher has no word for it
 pub record GoesAlone (s : State) : Type 0 where
-  pub alone : IsAlone s
+  pub asleep : s.core1.asleep ≡ true
   pub offers : offers_of s.sio ≡ false
 
--- Beside peripherals that answer core 0 as those do with which it goes on alone, a cycle in which it reaches for nothing but SRAM has no
--- stop, and its state is what the two leave each by itself
 abbrev pub inward_cycle : State → State
 inward_cycle s = inward_next (begun s).core0 (core0_want s) s
 
-pub record GoesOn (w : Setting) (o : OuterState) (s : State) : Type 0 where
-  pub cause : cause_in w (begun (with_outer o s)) (wanted (begun (with_outer o s))) (with_outer o s) ≡ None
-  pub state : next w (with_outer o s) ≡ with_outer (outer.next w o (begun (with_outer o s)).outer) (inward_cycle s)
+-- beside blocks p, which come to q, and peripherals that answer core 0 as those do with which it goes on alone, a cycle in which it reaches
+-- for nothing but SRAM has no stop, and its state is what each leaves by itself
+pub record GoesOn (w : Setting) (p q : Blocks) (o : OuterState) (s : State) : Type 0 where
+  pub cause : cause_in w (begun (with_beside p o s)) (wanted (begun (with_beside p o s))) (with_beside p o s) ≡ None
+  pub state : next w (with_beside p o s) ≡ with_beside q (outer.next w o (begun (with_beside p o s)).outer) (inward_cycle s)
 
 -- so many such cycles
 unfoldable pub inward_after : ℕ → State → State
@@ -90,9 +92,9 @@ inward_after (suc n) s = inward_cycle (inward_after n s)
 abbrev pub StaysInward : State → ℕ → Type 0
 StaysInward s n = (k : ℕ) → k < n → is_inward (core0_want (inward_after k s)) ≡ true
 
--- the state after so many cycles, in which the peripherals are quiet
+-- the state after so many cycles, in which the blocks and the peripherals are quiet
 abbrev pub onward_after : Setting → State → ℕ → State
-onward_after w s n = with_outer (outer_after w (begun s).outer n s.outer) (inward_after n s)
+onward_after w s n = with_beside (blocks_after n s) (outer_after w (begun s).outer n s.outer) (inward_after n s)
 
 -- then it is the state of the run
 pub record GoesOnward (w : Setting) (s : State) (n : ℕ) : Type 0 where
@@ -101,5 +103,5 @@ pub record GoesOnward (w : Setting) (s : State) (n : ℕ) : Type 0 where
 
 abbrev pub Core0GoesOnAlone : Type 0
 Core0GoesOnAlone =
-    (w : Setting) (s : State) (n : ℕ) → GoesAlone s → s.outer.sio ≡ pins_of s.sio → IsQuiet w (begun s).outer s.outer n → StaysInward s n
-    → s.cycle + n ≤ w.limit → GoesOnward w s n
+    (w : Setting) (s : State) (n : ℕ) → GoesAlone s → s.outer.sio ≡ pins_of s.sio → AreBlocksQuiet s n → IsQuiet w (begun s).outer s.outer n
+    → StaysInward s n → s.cycle + n ≤ w.limit → GoesOnward w s n

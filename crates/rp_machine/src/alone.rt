@@ -1,30 +1,47 @@
-//! A machine in which core 0 alone is at work, and what core 0 and the peripherals begin.
+//! A machine in which core 0 alone is at work: the blocks beside it are quiet; and what core 0 and the peripherals begin.
 
-use crate::begun::{begin_core, begin_lane};
+use crate::begun::{begin_core, begin_dma, begin_lane};
 use crate::machine::Machine;
+use dma_engine::BegunTransfer;
 use lane_look::Device;
 use m0_core::Doing;
 use outer_lane::{SeenOutputs, World};
 
 impl Machine {
-    ghost use Rattle.std.specs.Prelude.{◌≡◌, true, false, Decides};
+    ghost use Rattle.std.specs.Prelude.{◌≡◌, false, Decides};
     ghost use Rattle.rp_machine.specs.Answers.{lines_of};
     ghost use Rattle.rp_machine.specs.Cycle.{begun};
-    ghost use Rattle.rp_machine.specs.Alone.{is_core0_alone, IsAlone};
+    ghost use Rattle.dma_engine.specs.Quiet.{GivesNone};
+    ghost use Rattle.pio_block.specs.Quiet.{IsQuiet};
+    ghost use Rattle.rp_machine.specs.Alone.{AreBlocksQuiet, blocks_after, with_blocks};
     ghost use Rattle.bus_fabric.specs.State.{has_hold};
     ghost use Rattle.lane_look.specs.declared.lane.Want.TheVariants.{Nothing};
     ghost use Rattle.m0_core.specs.Cycle.{want_of};
 
-    /// Core 1 sleeps, and the DMA engine and both PIO blocks are at rest.
-    #[inline(always)]
-    pub fn is_core0_alone(&self) -> bool
-        ensures value { result ≡ is_core0_alone self.now }
-        ensures alone { result ≡ true → IsAlone self.now }
+    /// For so many cycles from now on the DMA engine and both PIO blocks are quiet, as long as the counts of the UARTs stay. Any smaller
+    /// number is right too.
+    pub fn quiet_blocks(&self) -> u64
+        ensures { AreBlocksQuiet self.now result }
     {
-        self.core1.is_asleep()
-            && self.dma.is_at_rest()
-            && self.pio0.is_at_rest()
-            && self.pio1.is_at_rest()
+        let pio = self.pio0.quiet().min(self.pio1.quiet());
+        if pio == 0 {
+            return 0;
+        }
+        let mut begun = BegunTransfer::nothing();
+        begin_dma(self, &mut begun);
+        pio.min(self.dma.quiet(&begun))
+    }
+
+    /// So many cycles of the DMA engine and both PIO blocks at once, in which they are quiet.
+    pub fn pass_blocks(&mut self, n: u64)
+        requires dma { GivesNone self.old.dma n }
+        requires pio0 { IsQuiet self.old.pio0 n }
+        requires pio1 { IsQuiet self.old.pio1 n }
+        ensures { self.new ≡ with_blocks (blocks_after n self.old) self.old }
+    {
+        self.dma.pass(n);
+        self.pio0.pass(n);
+        self.pio1.pass(n);
     }
 
     /// What core 0 begins, whose interrupt lines are these, in the place of what it began before.

@@ -65,7 +65,7 @@ pub(crate) fn begin_core(machine: &Machine, number: u8, lines: u32, core: &Core,
 
 /// What the DMA engine begins, in the place of what it began before.
 #[inline(always)]
-fn begin_dma(machine: &Machine, begun: &mut BegunTransfer)
+pub(crate) fn begin_dma(machine: &Machine, begun: &mut BegunTransfer)
     ensures { begun.new ≡ answered (answer_of 2 machine.now) (dma.asks machine.now.dma) }
 {
     let mut look = MachineLook { lane: 2, machine };

@@ -32,8 +32,8 @@ pub fn cycles_at_rest_change_the_lanes_alone()
     ensures { CyclesAtRestChangeTheLanesAlone }
 {}
 
-/// Where core 0 alone is at work a cycle is its own and the peripherals': nothing is asked of core 1, the DMA engine and PIO, and
-/// they stay as they are.
+/// Where core 0 alone is at work a cycle is its own and the peripherals': core 1 stays as it is, and the DMA engine and PIO come to what
+/// they come to by themselves.
 pub fn one_core_goes_alone()
     ensures { OneCoreGoesAlone }
 {}
@@ -55,8 +55,8 @@ pub fn one_core_gets_a_lock()
     ensures { OneCoreGetsALock }
 {}
 
-/// Beside peripherals that answer core 0 as others do, a core 0 that goes on alone and reaches for nothing but SRAM does what it would do
-/// beside the others.
+/// Beside a DMA engine, PIO blocks and peripherals that are quiet, a core 0 that goes on alone and reaches for nothing but SRAM does what it
+/// does where they lie behind, and they come to what they are so many cycles on.
 pub fn core0_goes_on_alone()
     ensures { Core0GoesOnAlone }
 {}

@@ -1,4 +1,4 @@
-//! A cycle in which core 0 alone is at work and reaches for nothing but SRAM, beside peripherals that lie behind.
+//! A cycle in which core 0 alone is at work and reaches for nothing but SRAM, beside lanes that lie behind.
 
 ghost use Rattle.std.specs.Prelude.{◌≡◌, IfSome, true};
 ghost use Rattle.m0_core.specs.Cycle.{want_of};
@@ -82,7 +82,7 @@ impl Machine {
         true
     }
 
-    /// One cycle of a machine in which core 0 is alone, whose interrupt lines are these, but for the peripherals, which stay as they
+    /// One cycle of a machine in which core 0 is alone, whose interrupt lines are these, but for the other lanes, which stay as they
     /// are. False where core 0 reaches for more than SRAM, and then nothing changes.
     #[inline(always)]
     pub(crate) fn cycle_onward(&mut self, lines: u32, core0: &mut Doing, marks: &mut Marks) -> bool
@@ -101,7 +101,7 @@ impl Machine {
         self.reach_onward(core0, marks)
     }
 
-    /// Core 0 goes on alone for at most so many cycles, up to the first in which it reaches for more than SRAM, and the peripherals stay
+    /// Core 0 goes on alone for at most so many cycles, up to the first in which it reaches for more than SRAM, and the other lanes stay
     /// as they are. How many cycles that were.
     pub fn go_onward<L: Ledger>(
         &mut self,

@@ -1,0 +1,66 @@
+//! For how long a block is quiet, and many cycles at once.
+
+use crate::block::PioBlock;
+use crate::state::State;
+
+impl State {
+    ghost use Rattle.std.specs.Prelude.{◌≡◌};
+    ghost use Rattle.pio_block.specs.Quiet.{HasWords, IsQuiet, block_after};
+    ghost use Rattle.pio_block.specs.Words.{is_silent, is_at_rest};
+
+    /// The flags are a byte, and the levels and enables words. It costs nothing.
+    #[inline(always)]
+    fn has_words(&self)
+        ensures { HasWords self.now }
+    {
+        let (_flags, _levels, _enables) = (self.seen.flags, self.levels, self.enables);
+    }
+
+    /// For so many cycles from now on no machine ticks or tries a word.
+    fn quiet(&self) -> u64
+        ensures { IsQuiet self.now result }
+    {
+        self.has_words();
+        self.machines.quiet()
+    }
+
+    /// So many cycles at once, in which no machine ticks.
+    fn pass(&mut self, n: u64)
+        requires { IsQuiet self.old n }
+        ensures after { self.new ≡ block_after n self.old }
+        ensures rest { is_at_rest self.new ≡ is_at_rest self.old }
+        ensures silent { is_silent self.new ≡ is_silent self.old }
+    {
+        self.machines.pass(n);
+    }
+}
+
+impl PioBlock {
+    ghost use Rattle.std.specs.Prelude.{◌≡◌};
+    ghost use Rattle.pio_block.specs.Quiet.{IsQuiet, block_after};
+
+    /// For so many cycles from now on no machine of the block ticks or tries a word: whatever its inputs are, only the dividers go on,
+    /// and it shows the same. Any smaller number is right too.
+    #[inline(always)]
+    pub fn quiet(&self) -> u64
+        ensures { IsQuiet self.now result }
+    {
+        if self.at_rest {
+            self.state.has_words();
+            u64::MAX
+        } else {
+            self.state.quiet()
+        }
+    }
+
+    /// So many cycles at once, in which the block is quiet.
+    #[inline(always)]
+    pub fn pass(&mut self, n: u64)
+        requires { IsQuiet self.old n }
+        ensures { self.new ≡ block_after n self.old }
+    {
+        if !self.at_rest {
+            self.state.pass(n);
+        }
+    }
+}

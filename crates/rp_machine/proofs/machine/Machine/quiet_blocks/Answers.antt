@@ -1,0 +1,20 @@
+use Rattle.std.proofs.Common.{sym, ap, ◌∙◌, arith}
+use Rattle.lane_look.specs.Asking.{answered}
+use Rattle.dma_engine.specs.Asks as dma
+use Rattle.rp_machine.specs.State.{State}
+use Rattle.rp_machine.specs.Answers.{answer_of}
+use Rattle.rp_machine.specs.contracts.machine.Machine.{the_view}
+use Rattle.rp_machine.proofs.Going.{quiet_by, none_by}
+use Rattle.rp_machine.proofs.machine.Machine.quiet_blocks.Goals as goal
+
+pub returns-then-pio-eq0 : goal.returns-then-pio-eq0
+returns-then-pio-eq0 c = none_by (the_view c.self.inside) c.args.self.now c.quiet.result c.quiet-2.result c.self.view_is c.quiet.ensures c.quiet-2.ensures
+
+pub returns : goal.returns
+returns c =
+    let s = c.args.self.now in
+    let low = c.min-pio.ensures in
+    let least = c.min.ensures in
+    quiet_by (the_view c.self.inside) s c.quiet-3.result c.quiet.result c.quiet-2.result c.min.result c.self.view_is
+    (c.quiet-3.ensures (answer_of 2 s) (c.begin_dma.ensures ∙ ap (λ (x : State). answered (answer_of 2 s) (dma.asks x.dma)) (sym c.self.view_is)))
+    c.quiet.ensures c.quiet-2.ensures (omega arith) (omega arith) (omega arith)
