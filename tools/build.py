@@ -77,12 +77,6 @@ def at_a_time(words):
     return min(os.cpu_count() or 1, memory())
 
 
-def shares(room, ready):
-    """How many processors each of the proofs that are begun at once has: all that there is room for, shared out as evenly as it goes."""
-    begun = min(room, ready)
-    return [room // begun + (place < room % begun) for place in range(begun)]
-
-
 def copied(place, crates):
     """Makes a copy of the sources, in which an `rt` is alone."""
     shutil.rmtree(place, ignore_errors=True)
@@ -134,24 +128,23 @@ class Build:
         return int((time.monotonic() - self.begun) / 60)
 
     def start(self):
-        """Begins what can be begun; a proof that runs alone has all processors."""
+        """Begins what can be begun, each proof on one processor: on several, one of many functions takes twice the work and no less time."""
         ready = [crate for crate in self.waiting if all(library in self.done for library in self.uses[crate])]
         ready.sort(key=lambda crate: -self.tall[crate])
-        room = self.jobs - sum(jobs for _, jobs, _, _ in self.running.values())
-        for crate, jobs in zip(ready, shares(room, len(ready))):
+        for crate in ready[: self.jobs - len(self.running)]:
             place = self.copies.pop()
             for library in below(crate, self.uses, {}):
                 hand(library, TOP, place)
             move_work(crate, TOP, place)
             out = open(f"{self.log.name}.{crate}", "w+")
-            words = ["rt", "lib", "--jobs", str(jobs)]
+            words = ["rt", "lib", "--jobs", "1"]
             process = subprocess.Popen(words, cwd=f"{place}/crates/{crate}", stdin=subprocess.DEVNULL, stdout=out, stderr=subprocess.STDOUT)
-            self.running[crate] = (process, jobs, out, place)
+            self.running[crate] = (process, out, place)
             self.waiting.remove(crate)
 
     def leave(self, crate):
         """Takes a proof that ended away, with what it printed and kept; whether it is proved."""
-        process, _, out, place = self.running.pop(crate)
+        process, out, place = self.running.pop(crate)
         out.seek(0)
         self.log.write(f"== {crate}\n{out.read()}")
         self.log.flush()
@@ -173,7 +166,7 @@ class Build:
         return True
 
     def stop(self):
-        for crate, (process, _, _, _) in list(self.running.items()):
+        for crate, (process, _, _) in list(self.running.items()):
             process.terminate()
             process.wait()
             self.leave(crate)
@@ -186,7 +179,7 @@ class Build:
             while self.waiting or self.running:
                 self.start()
                 time.sleep(0.2)
-                for crate in [crate for crate, (process, _, _, _) in self.running.items() if process.poll() is not None]:
+                for crate in [crate for crate, (process, _, _) in self.running.items() if process.poll() is not None]:
                     if not self.end(crate):
                         return False
             return True
