@@ -77,12 +77,6 @@ def at_a_time(words):
     return min(os.cpu_count() or 1, memory())
 
 
-def shares(room, ready):
-    """How many processors each of the proofs that are begun at once has: all that there is room for, shared out as evenly as it goes."""
-    begun = min(room, ready)
-    return [room // begun + (place < room % begun) for place in range(begun)]
-
-
 def copied(place, crates):
     """Makes a copy of the sources, in which an `rt` is alone."""
     shutil.rmtree(place, ignore_errors=True)
@@ -134,11 +128,15 @@ class Build:
         return int((time.monotonic() - self.begun) / 60)
 
     def start(self):
-        """Begins what can be begun; a proof that runs alone has all processors."""
+        """Begins what can be begun, each proof on one processor: each further one reads the libraries below anew. Where none is below, on two."""
         ready = [crate for crate in self.waiting if all(library in self.done for library in self.uses[crate])]
         ready.sort(key=lambda crate: -self.tall[crate])
         room = self.jobs - sum(jobs for _, jobs, _, _ in self.running.values())
-        for crate, jobs in zip(ready, shares(room, len(ready))):
+        for crate in ready:
+            jobs = min(room, 1 if self.uses[crate] else 2)
+            if jobs == 0:
+                break
+            room -= jobs
             place = self.copies.pop()
             for library in below(crate, self.uses, {}):
                 hand(library, TOP, place)

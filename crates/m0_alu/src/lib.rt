@@ -11,7 +11,7 @@ ghost use Rattle.m0_alu.specs.Product.{product_of};
 use rp_base::bits::{byte, join};
 
 /// The four shifts of the manual (ARMv6-M Architecture Reference Manual, A6.4.2).
-#[derive(Clone, Copy, Debug, PartialEq, Eq)]
+#[derive(Clone, Copy, PartialEq, Eq)]
 pub enum ShiftKind {
     /// Logical shift left.
     Lsl,
@@ -24,7 +24,7 @@ pub enum ShiftKind {
 }
 
 /// The operations that extend a part of a word or reverse its bytes (ARMv6-M Architecture Reference Manual, A4.4.5).
-#[derive(Clone, Copy, Debug, PartialEq, Eq)]
+#[derive(Clone, Copy, PartialEq, Eq)]
 pub enum ExtendKind {
     /// The low halfword as a signed number.
     Sxth,

@@ -271,6 +271,18 @@ fn put_side_set(out: &mut Vec<u8>, side: &SideConfig) -> Result<(), AllocError>
     put(out, b"\n")
 }
 
+/// `.program code`, the `.side_set` line where there is a side-set, and one instruction a line.
+fn put_source(out: &mut Vec<u8>, words: &[u16], side: &SideConfig) -> Result<(), AllocError>
+    ensures { OnOk result (out.new.items ≡ out.old.items ++ source_text side.now words.now) }
+{
+    put(out, b".program code\n")?;
+    put_side_set(out, side)?;
+    for word in words {
+        put_line(out, *word, side)?;
+    }
+    Ok(())
+}
+
 /// The source of a program of these words under a side-set configuration: `.program code`, the
 /// `.side_set` line where there is a side-set, and one instruction a line. A word that no instruction
 /// stands with is written as `.word`.
@@ -278,10 +290,6 @@ pub fn write_source(alloc: Global, words: &[u16], side: &SideConfig) -> Result<V
     ensures { IfOk result (λ text. text.items ≡ source_text side.now words.now) }
 {
     let mut out = Vec::new(alloc);
-    put(&mut out, b".program code\n")?;
-    put_side_set(&mut out, side)?;
-    for word in words {
-        put_line(&mut out, *word, side)?;
-    }
+    put_source(&mut out, words, side)?;
     Ok(out)
 }

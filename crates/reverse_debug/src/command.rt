@@ -8,7 +8,7 @@ use crate::watch::Watched;
 use crate::words::{address_of, are_words, first_word, is, number_of};
 
 /// What a line asks for.
-#[derive(Clone, Copy, Debug, PartialEq, Eq)]
+#[derive(Clone, Copy)]
 pub(crate) enum Command {
     /// Move so many cycles forward.
     Step(u64),

@@ -8,7 +8,7 @@ use rp_base::bits::has_bit;
 use rp_machine::Machine;
 
 /// What is watched on a run.
-#[derive(Clone, Copy, Debug, PartialEq, Eq)]
+#[derive(Clone, Copy)]
 pub enum Watched {
     /// The word of SRAM at an address.
     Word(u32),

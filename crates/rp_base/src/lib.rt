@@ -15,7 +15,7 @@ pub use registers::Registers;
 pub use resettable::{Reset, Resettable, unless_held};
 
 /// The size of a bus access.
-#[derive(Clone, Copy, Debug, PartialEq, Eq)]
+#[derive(Clone, Copy, PartialEq, Eq)]
 pub enum Size {
     /// One byte.
     Byte,
@@ -26,7 +26,7 @@ pub enum Size {
 }
 
 /// A master of the bus fabric (RP2040 Datasheet, 2.1.1).
-#[derive(Clone, Copy, Debug, PartialEq, Eq)]
+#[derive(Clone, Copy, PartialEq, Eq)]
 pub enum Master {
     /// Processor core 0.
     Core0,
@@ -39,7 +39,7 @@ pub enum Master {
 }
 
 /// One access that a master names in a cycle.
-#[derive(Clone, Copy, Debug, PartialEq, Eq)]
+#[derive(Clone, Copy, PartialEq, Eq)]
 pub struct Request {
     /// The byte address, with its low bits.
     pub address: u32,
@@ -50,7 +50,7 @@ pub struct Request {
 }
 
 /// Why a run stopped.
-#[derive(Clone, Copy, Debug, PartialEq, Eq)]
+#[derive(Clone, Copy, PartialEq, Eq)]
 pub enum Why {
     /// The cycle number is the limit.
     Limit,

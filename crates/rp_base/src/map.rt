@@ -5,7 +5,7 @@ ghost use Rattle.std.specs.Prelude.{◌≡◌, ◌/◌, ◌%◌, ◌<◌, ◌≤
 ghost use Rattle.rp_base.specs.Map.{IsWithin, place_of, port_of, registers};
 
 /// A block of registers on the APB or the AHB-Lite bus.
-#[derive(Clone, Copy, Debug, PartialEq, Eq)]
+#[derive(Clone, Copy, PartialEq, Eq)]
 pub enum Block {
     /// The subsystem resets, at 4000C000.
     Resets,
@@ -30,7 +30,7 @@ pub enum Block {
 }
 
 /// The spot of the word that holds an address.
-#[derive(Clone, Copy, Debug, PartialEq, Eq)]
+#[derive(Clone, Copy, PartialEq, Eq)]
 pub enum Spot {
     /// A word of SRAM.
     Ram {

@@ -35,13 +35,16 @@ use Rattle.thumb_parse.proofs.ReadTokens.{line_tokens, tokens_only}
 
 -- ---- answers
 
+no_answer : {A X : Type 0} {a : A} → None ≡ Some a → X
+no_answer h = absurd cc
+
 some_map : {A C : Type 0} (f : A → C) (o : Option A) (c : C) → option_map f o ≡ Some c → (a : A) × (o ≡ Some a) × (f a ≡ c)
 some_map f (Some a) c h = let same : f a ≡ c = cc in (a, refl, same)
-some_map f None c h = absurd cc
+some_map f None c h = no_answer h
 
 some_chain : {A C D : Type 0} (g : C → Option D) (f : A → C) (o : Option A) (d : D) → option_and_then g (option_map f o) ≡ Some d → (a : A) × (o ≡ Some a) × (g (f a) ≡ Some d)
 some_chain g f (Some a) d h = (a, refl, h)
-some_chain g f None d h = absurd cc
+some_chain g f None d h = no_answer h
 
 left_true : (a b : Bool) → (a && b) ≡ true → a ≡ true
 left_true true b h = refl
@@ -63,13 +66,13 @@ IsListOf list tokens all = (rs : List ℕ) × IsList tokens rs × (with_register
 
 is_list : (list : RegisterList) (tokens : List Token) (all : RegisterList) → list_from (Open list) tokens ≡ Some all → IsListOf list tokens all
 unfolding list_step with_registers
-is_list list [] all h = absurd cc
-is_list list (Register a ∷ []) all h = absurd cc
+is_list list [] all h = no_answer h
+is_list list (Register a ∷ []) all h = no_answer h
 is_list list (Register a ∷ CloseBrace ∷ []) all h = (a ∷ [], last, cc)
 is_list list (Register a ∷ CloseBrace ∷ t ∷ tokens) all h = no_list tokens all h
 is_list list (Register a ∷ Comma ∷ tokens) all h = let rest = is_list (with_one list a) tokens all h in (a ∷ rest.0, more rest.1, rest.2)
-is_list list (Register a ∷ Minus ∷ []) all h = absurd cc
-is_list list (Register a ∷ Minus ∷ Register b ∷ []) all h = absurd cc
+is_list list (Register a ∷ Minus ∷ []) all h = no_answer h
+is_list list (Register a ∷ Minus ∷ Register b ∷ []) all h = no_answer h
 is_list list (Register a ∷ Minus ∷ Register b ∷ CloseBrace ∷ []) all h = (range_of a b, last_range, cc)
 is_list list (Register a ∷ Minus ∷ Register b ∷ CloseBrace ∷ t ∷ tokens) all h = no_list tokens all h
 is_list list (Register a ∷ Minus ∷ Register b ∷ Comma ∷ tokens) all h =
@@ -105,7 +108,7 @@ module _ {code : List ℕ} {tokens : List Token} {item : Item} where
 
   mapped : {A : Type 0} (o : Option A) (f : A → Item) → option_map f o ≡ Some item → ((a : A) → o ≡ Some a → IsItem code tokens (f a)) → IsItem code tokens item
   mapped (Some a) f h forms = is_same (forms a refl) h
-  mapped None f h forms = absurd cc
+  mapped None f h forms = no_answer h
 
 module _ {code : List ℕ} {item : Item} where
   is_alone : (w : Mnemonic) → alone w ≡ Some item → IsItem code (Word' w ∷ []) item
@@ -116,15 +119,15 @@ module _ {code : List ℕ} {item : Item} where
   is_number WordDirective k h = is_same word_number h
   is_number HalfDirective k h = is_same half_number h
   is_number SpaceDirective k h = is_same space_number h
-  is_number w k h = absurd cc
+  is_number w k h = no_answer h
 
   is_cpsie : (name : Span) (b : Bool) → bytes_eq (name_text code name) (105 ∷ []) ≡ b → cond b (Some (Instruction CpsieOp)) None ≡ Some item → IsItem code (Word' Cpsie ∷ Name name ∷ []) item
   is_cpsie name true e h = is_same (cpsie_i ((bytes_eq-Decides (name_text code name) (105 ∷ [])).0 e)) h
-  is_cpsie name false e h = absurd cc
+  is_cpsie name false e h = no_answer h
 
   is_cpsid : (name : Span) (b : Bool) → bytes_eq (name_text code name) (105 ∷ []) ≡ b → cond b (Some (Instruction CpsidOp)) None ≡ Some item → IsItem code (Word' Cpsid ∷ Name name ∷ []) item
   is_cpsid name true e h = is_same (cpsid_i ((bytes_eq-Decides (name_text code name) (105 ∷ [])).0 e)) h
-  is_cpsid name false e h = absurd cc
+  is_cpsid name false e h = no_answer h
 
   is_name : (w : Mnemonic) (name : Span) → with_name code w name ≡ Some item → IsItem code (Word' w ∷ Name name ∷ []) item
   is_name B name h = is_same b_name h
@@ -136,14 +139,14 @@ module _ {code : List ℕ} {item : Item} where
 
   is_sum : (w : Mnemonic) (name : Span) (k : Number) → with_sum w name k ≡ Some item → IsItem code (Word' w ∷ Name name ∷ Plus ∷ Number' k ∷ []) item
   is_sum WordDirective name k h = is_same word_sum h
-  is_sum w name k h = absurd cc
+  is_sum w name k h = no_answer h
 
   is_immediate : (w : Mnemonic) (k : Number) → with_immediate w k ≡ Some item → IsItem code (Word' w ∷ Hash ∷ Number' k ∷ []) item
   is_immediate w k h = mapped (number_op w (field (units 1 0 255 k))) (judged 2 (is_some (units 1 0 255 k)) true) h (λ op e. number e)
 
   is_msr : (w : Mnemonic) (k : Number) (m : ℕ) → immediate_register w k m ≡ Some item → IsItem code (Word' w ∷ Hash ∷ Number' k ∷ Comma ∷ Register m ∷ []) item
   is_msr Msr k m h = is_same msr_number h
-  is_msr w k m h = absurd cc
+  is_msr w k m h = no_answer h
 
   is_register : (w : Mnemonic) (m : ℕ) → with_register w m ≡ Some item → IsItem code (Word' w ∷ Register m ∷ []) item
   is_register w m h = mapped (branch_op w m) Instruction h (λ op e. register e)
@@ -167,7 +170,7 @@ module _ {code : List ℕ} {item : Item} where
   is_adjust w d k true e h =
       subst (λ d. IsItem code (Word' w ∷ Register d ∷ Comma ∷ Hash ∷ Number' k ∷ []) item) (sym (eqb-true d 13 e))
       (mapped (adjust_op w (field (units 4 0 127 k))) (judged 2 (is_some (units 4 0 127 k)) true) h (λ op f. adjust f))
-  is_adjust w d k false e h = absurd cc
+  is_adjust w d k false e h = no_answer h
 
   is_byte : (w : Mnemonic) (d : ℕ) (k : Number) → register_immediate w d k ≡ Some item → IsItem code (Word' w ∷ Register d ∷ Comma ∷ Hash ∷ Number' k ∷ []) item
   is_byte Mrs d k h = is_same mrs_number h
@@ -180,7 +183,7 @@ module _ {code : List ℕ} {item : Item} where
       → IsItem code (Word' Add ∷ Register d ∷ Comma ∷ Register n ∷ Comma ∷ Hash ∷ Number' k ∷ []) item
   is_add_stack d n k true e h =
       subst (λ n. IsItem code (Word' Add ∷ Register d ∷ Comma ∷ Register n ∷ Comma ∷ Hash ∷ Number' k ∷ []) item) (sym (eqb-true n 13 e)) (is_same add_stack h)
-  is_add_stack d n k false e h = absurd cc
+  is_add_stack d n k false e h = no_answer h
 
   is_shift : (w : Mnemonic) (d m : ℕ) (k : Number)
       → short (is_some (units 1 1 32 k)) (is_low d && is_low m) (shift_op w (field (units 1 1 32 k) % 32) m d) ≡ Some item
@@ -197,7 +200,7 @@ module _ {code : List ℕ} {item : Item} where
   is_register_name : (w : Mnemonic) (r : ℕ) (name : Span) → register_name w r name ≡ Some item → IsItem code (Word' w ∷ Register r ∷ Comma ∷ Name name ∷ []) item
   is_register_name Ldr r name h = is_same ldr_name h
   is_register_name Adr r name h = is_same adr_name h
-  is_register_name w r name h = absurd cc
+  is_register_name w r name h = no_answer h
 
   is_indexed : (w : Mnemonic) (t n m : ℕ) → index_register w t n m ≡ Some item
       → IsItem code (Word' w ∷ Register t ∷ Comma ∷ OpenBracket ∷ Register n ∷ Comma ∷ Register m ∷ CloseBracket ∷ []) item
@@ -216,18 +219,18 @@ module _ {code : List ℕ} {item : Item} where
   is_push : (w : Mnemonic) (tokens : List Token) (list : RegisterList) → IsListOf no_registers tokens list → with_list w list ≡ Some item → IsItem code (Word' w ∷ OpenBrace ∷ tokens) item
   is_push Push tokens list l h = is_same (push_list l.1) (of_list push_item l h)
   is_push Pop tokens list l h = is_same (pop_list l.1) (of_list pop_item l h)
-  is_push w tokens list l h = absurd cc
+  is_push w tokens list l h = no_answer h
 
   is_back : (w : Mnemonic) (n : ℕ) (tokens : List Token) (list : RegisterList) → IsListOf no_registers tokens list → write_back w n list ≡ Some item
       → IsItem code (Word' w ∷ Register n ∷ Bang ∷ Comma ∷ OpenBrace ∷ tokens) item
   is_back Stm n tokens list l h = is_same (stm_back l.1) (of_list (stm_item n) l h)
   is_back Ldm n tokens list l h = is_same (ldm_back l.1) (of_list (ldm_item n) l h)
-  is_back w n tokens list l h = absurd cc
+  is_back w n tokens list l h = no_answer h
 
   is_listed_form : (w : Mnemonic) (n : ℕ) (tokens : List Token) (list : RegisterList) → IsListOf no_registers tokens list → register_and_list w n list ≡ Some item
       → IsItem code (Word' w ∷ Register n ∷ Comma ∷ OpenBrace ∷ tokens) item
   is_listed_form Ldm n tokens list l h = is_same (ldm_listed l.1) (of_list (ldm_listed_item n) l h)
-  is_listed_form w n tokens list l h = absurd cc
+  is_listed_form w n tokens list l h = no_answer h
 
   -- ---- by the tokens
 
@@ -236,7 +239,7 @@ module _ {code : List ℕ} {item : Item} where
   unfolding form_of
   after_index w t n (Register m ∷ CloseBracket ∷ []) h = is_indexed w t n m h
   after_index w t n (Hash ∷ Number' k ∷ CloseBracket ∷ []) h = is_offset w t n k (n == 13 && unit_of w == 4) refl h
-  after_index w t n tokens h = absurd cc
+  after_index w t n tokens h = no_answer h
 
   after_two : (w : Mnemonic) (d m : ℕ) (tokens : List Token) → option_and_then (form_of code w) (after_second d m tokens) ≡ Some item
       → IsItem code (Word' w ∷ Register d ∷ Comma ∷ Register m ∷ tokens) item
@@ -244,7 +247,7 @@ module _ {code : List ℕ} {item : Item} where
   after_two w d m [] h = is_pair w d m h
   after_two w d m (Comma ∷ Register r ∷ []) h = is_three w d m r h
   after_two w d m (Comma ∷ Hash ∷ Number' k ∷ []) h = is_small w d m k h
-  after_two w d m tokens h = absurd cc
+  after_two w d m tokens h = no_answer h
 
   of_listed : (w : Mnemonic) (d : ℕ) (tokens : List Token) → option_and_then (form_of code w) (option_map (RegisterAndList d) (list_of tokens)) ≡ Some item
       → IsItem code (Word' w ∷ Register d ∷ Comma ∷ OpenBrace ∷ tokens) item
@@ -274,14 +277,14 @@ module _ {code : List ℕ} {item : Item} where
   after_one_comma w d (Name name ∷ []) h = is_register_name w d name h
   after_one_comma w d (OpenBracket ∷ Register n ∷ Comma ∷ tokens) h = after_index w d n tokens h
   after_one_comma w d (OpenBrace ∷ tokens) h = of_listed w d tokens h
-  after_one_comma w d tokens h = absurd cc
+  after_one_comma w d tokens h = no_answer h
 
   after_one : (w : Mnemonic) (d : ℕ) (tokens : List Token) → option_and_then (form_of code w) (after_register d tokens) ≡ Some item → IsItem code (Word' w ∷ Register d ∷ tokens) item
   unfolding form_of
   after_one w d [] h = is_register w d h
   after_one w d (Comma ∷ tokens) h = after_one_comma w d tokens h
   after_one w d (Bang ∷ Comma ∷ OpenBrace ∷ tokens) h = of_back w d tokens h
-  after_one w d tokens h = absurd cc
+  after_one w d tokens h = no_answer h
 
   after_word : (w : Mnemonic) (tokens : List Token) → option_and_then (form_of code w) (operands_of tokens) ≡ Some item → IsItem code (Word' w ∷ tokens) item
   unfolding form_of operands_of
@@ -293,12 +296,12 @@ module _ {code : List ℕ} {item : Item} where
   after_word w (Hash ∷ Number' k ∷ []) h = is_immediate w k h
   after_word w (Hash ∷ Number' k ∷ Comma ∷ Register m ∷ []) h = is_msr w k m h
   after_word w (OpenBrace ∷ tokens) h = of_push w tokens h
-  after_word w tokens h = absurd cc
+  after_word w tokens h = no_answer h
 
   is_item : (tokens : List Token) → item_of code tokens ≡ Some item → IsItem code tokens item
   is_item [] h = is_same nothing h
   is_item (Word' w ∷ tokens) h = after_word w tokens h
-  is_item tokens h = absurd cc
+  is_item tokens h = no_answer h
 
 is_line : (code : List ℕ) (tokens : List Token) (statement : Statement) → statement_in code tokens ≡ Some statement → IsLine code tokens statement
 is_line code (Name name ∷ Colon ∷ tokens) statement h =
@@ -311,59 +314,59 @@ is_line code tokens statement h =
 -- ---- what is of a form is read
 
 not_align : (w : Mnemonic) (op : Op) → alone_op w ≡ Some op → alone w ≡ Some (Instruction op)
-not_align AlignDirective op h = absurd cc
+not_align AlignDirective op h = no_answer h
 not_align w op h = ap (option_map Instruction) h
 
 no_pair : (w : Mnemonic) (d m : ℕ) (op : Op) → low_op w m d ≡ Some op → two_registers w d m ≡ Some (judged 2 true (is_low d && is_low m) op)
-no_pair Cmp d m op h = absurd cc
-no_pair Add d m op h = absurd cc
-no_pair Mov d m op h = absurd cc
+no_pair Cmp d m op h = no_answer h
+no_pair Add d m op h = no_answer h
+no_pair Mov d m op h = no_answer h
 no_pair w d m op h = ap (option_map (judged 2 true (is_low d && is_low m))) h
 
 no_other_byte : (w : Mnemonic) (d : ℕ) (k : Number) (op : Op) → byte_op w d (field (units 1 0 255 k)) ≡ Some op → register_immediate w d k ≡ Some (judged 2 (is_some (units 1 0 255 k)) (is_low d) op)
-no_other_byte Mrs d k op h = absurd cc
-no_other_byte Add d k op h = absurd cc
-no_other_byte Sub d k op h = absurd cc
+no_other_byte Mrs d k op h = no_answer h
+no_other_byte Add d k op h = no_answer h
+no_other_byte Sub d k op h = no_answer h
 no_other_byte w d k op h = ap (option_map (judged 2 (is_some (units 1 0 255 k)) (is_low d))) h
 
 no_other_adjust : (w : Mnemonic) (k : Number) (op : Op) → adjust_op w (field (units 4 0 127 k)) ≡ Some op → register_immediate w 13 k ≡ Some (judged 2 (is_some (units 4 0 127 k)) true op)
 no_other_adjust Add k op h = ap (option_map (judged 2 (is_some (units 4 0 127 k)) true)) h
 no_other_adjust Sub k op h = ap (option_map (judged 2 (is_some (units 4 0 127 k)) true)) h
-no_other_adjust w k op h = absurd cc
+no_other_adjust w k op h = no_answer h
 
 no_other_small : (w : Mnemonic) (d n : ℕ) (k : Number) (op : Op) → small_op w (field (units 1 0 7 k)) n d ≡ Some op
     → registers_immediate w d n k ≡ Some (judged 2 (is_some (units 1 0 7 k)) (is_low d && is_low n) op)
-no_other_small Lsls d n k op h = absurd cc
-no_other_small Lsrs d n k op h = absurd cc
-no_other_small Asrs d n k op h = absurd cc
-no_other_small Add d n k op h = absurd cc
+no_other_small Lsls d n k op h = no_answer h
+no_other_small Lsrs d n k op h = no_answer h
+no_other_small Asrs d n k op h = no_answer h
+no_other_small Add d n k op h = no_answer h
 no_other_small w d n k op h = ap (option_map (judged 2 (is_some (units 1 0 7 k)) (is_low d && is_low n))) h
 
 no_other_shift : (w : Mnemonic) (d m : ℕ) (k : Number) (op : Op) → shift_op w (field (units 1 1 32 k) % 32) m d ≡ Some op
     → registers_immediate w d m k ≡ Some (judged 2 (is_some (units 1 1 32 k)) (is_low d && is_low m) op)
 no_other_shift Lsrs d m k op h = ap (option_map (judged 2 (is_some (units 1 1 32 k)) (is_low d && is_low m))) h
 no_other_shift Asrs d m k op h = ap (option_map (judged 2 (is_some (units 1 1 32 k)) (is_low d && is_low m))) h
-no_other_shift w d m k op h = absurd cc
+no_other_shift w d m k op h = no_answer h
 
 no_other_stack : (w : Mnemonic) (t : ℕ) (k : Number) (op : Op) → stack_op w t (field (units 4 0 255 k)) ≡ Some op
     → index_immediate w t 13 k ≡ Some (judged 2 (is_some (units 4 0 255 k)) (is_low t) op)
 no_other_stack Str t k op h = ap (option_map (judged 2 (is_some (units 4 0 255 k)) (is_low t))) h
 no_other_stack Ldr t k op h = ap (option_map (judged 2 (is_some (units 4 0 255 k)) (is_low t))) h
-no_other_stack w t k op h = absurd cc
+no_other_stack w t k op h = no_answer h
 
 no_other_name : (code : List ℕ) (w : Mnemonic) (name : Span) (condition : ℕ) → condition_of w ≡ Some condition → with_name code w name ≡ Some (BranchIf condition name)
-no_other_name code B name condition h = absurd cc
-no_other_name code Bl name condition h = absurd cc
-no_other_name code WordDirective name condition h = absurd cc
-no_other_name code Cpsie name condition h = absurd cc
-no_other_name code Cpsid name condition h = absurd cc
+no_other_name code B name condition h = no_answer h
+no_other_name code Bl name condition h = no_answer h
+no_other_name code WordDirective name condition h = no_answer h
+no_other_name code Cpsie name condition h = no_answer h
+no_other_name code Cpsid name condition h = no_answer h
 no_other_name code w name condition h = ap (option_map (λ condition. BranchIf condition name)) h
 
 -- an item does not begin with a name
 without_label : (code : List ℕ) (tokens : List Token) (item : Item) → item_of code tokens ≡ Some item → statement_in code tokens ≡ Some (statement_with None item)
 without_label code [] item h = ap (option_map (statement_with None)) h
 without_label code (Word' w ∷ tokens) item h = ap (option_map (statement_with None)) h
-without_label code tokens item h = absurd cc
+without_label code tokens item h = no_answer h
 
 module _ {code : List ℕ} where
   item_is : {tokens : List Token} {item : Item} → IsItem code tokens item → item_of code tokens ≡ Some item

@@ -4,7 +4,7 @@ use crate::token::{Number, Span};
 use rp_base::op::Op;
 
 /// An item, as far as its line alone tells.
-#[derive(Clone, Copy, PartialEq, Eq)]
+#[derive(Clone, Copy)]
 pub enum Item {
     /// Nothing.
     Empty,

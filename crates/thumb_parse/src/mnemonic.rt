@@ -5,7 +5,7 @@ ghost use Rattle.thumb_parse.specs.Words.{mnemonic_name, mnemonic_of};
 
 /// What an item of a source is, as its first word says: an instruction of ARMv6-M (ARMv6-M Architecture Reference Manual, A6.7), or
 /// one of the directives `.word`, `.half`, `.space` and `.align`.
-#[derive(Clone, Copy, PartialEq, Eq)]
+#[derive(Clone, Copy)]
 pub enum Mnemonic {
     Movs,
     Cmp,

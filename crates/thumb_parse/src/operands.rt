@@ -7,7 +7,7 @@ ghost use Rattle.thumb_parse.specs.Lists.{range_of, register_bit};
 use crate::token::{Number, Span, Token};
 
 /// The registers of a list.
-#[derive(Clone, Copy, PartialEq, Eq)]
+#[derive(Clone, Copy)]
 pub(crate) struct RegisterList {
     /// Bit k for register k.
     pub(crate) mask: u16,
@@ -18,7 +18,7 @@ pub(crate) struct RegisterList {
 }
 
 /// The operands of an item, by their shape.
-#[derive(Clone, Copy, PartialEq, Eq)]
+#[derive(Clone, Copy)]
 pub(crate) enum Operands {
     /// Nothing.
     Empty,
@@ -57,7 +57,7 @@ pub(crate) enum Operands {
 }
 
 /// What stands in a list up to a token of it.
-#[derive(Clone, Copy, PartialEq, Eq)]
+#[derive(Clone, Copy)]
 enum ListPart {
     /// A register has to follow.
     Open(RegisterList),

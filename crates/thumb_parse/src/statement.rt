@@ -11,7 +11,7 @@ use crate::token::{Span, Token};
 use std::alloc::AllocError;
 
 /// What a line says: `[name:] [item]`.
-#[derive(Clone, Copy, PartialEq, Eq)]
+#[derive(Clone, Copy)]
 pub struct Statement {
     /// Where the name before a colon stands.
     pub label: Option<Span>,

@@ -3,7 +3,7 @@
 use crate::mnemonic::Mnemonic;
 
 /// Where a name stands in its line.
-#[derive(Clone, Copy, PartialEq, Eq)]
+#[derive(Clone, Copy)]
 pub struct Span {
     /// The place of its first byte.
     pub start: usize,
@@ -12,14 +12,14 @@ pub struct Span {
 }
 
 /// A number of a source: `up - down`, of which one is 0.
-#[derive(Clone, Copy, PartialEq, Eq)]
+#[derive(Clone, Copy)]
 pub struct Number {
     pub up: u64,
     pub down: u64,
 }
 
 /// A token of a line.
-#[derive(Clone, Copy, PartialEq, Eq)]
+#[derive(Clone, Copy)]
 pub enum Token {
     /// A word that is no register and no mnemonic.
     Name(Span),
