@@ -333,9 +333,10 @@ where
 ///
 /// The answer is the status: 0 where the text was written, 2 where the words are refused, 3 where a file could not be
 /// loaded or is too large, 4 where the image has a fault, 5 where a PIO source has one or its program finds no room, 6 where
-/// the script has one, 7 where the sink failed, 8 where the source failed, 9 where memory ran out, 10 where the input is
-/// longer than its limit, 11 where a Thumb source has a fault, 12 where the image loads an address of the table that it is to be linked
-/// with. A refusal has its one line, `error ..`, for its text; at 8 and 10 such a line comes behind the answers.
+/// the script has one, 7 where the sink failed, 8 where the source failed, 9 where memory ran out, 10 where as many bytes as the
+/// limit were taken and no last line is complete among them, 11 where a Thumb source has a fault, 12 where the image loads an
+/// address of the table that it is to be linked with. A refusal has its one line, `error ..`, for its text; at 8 and 10 such a
+/// line comes behind the answers.
 ///
 /// Those of the `probes` that the words name are aimed at their pins, hear the run, and have their lines at its end; those of the `parts`
 /// that they name are attached to their pins and act in their order; the others are dropped before the run. The parts and the `device`

@@ -3,6 +3,7 @@ pub mod Accepting
 pub mod Along
 pub mod CycleEvents
 pub mod Cycling
+pub mod Failing
 pub mod Finishing
 pub mod Marks
 pub mod Merges

@@ -1,14 +1,17 @@
 -- A run that goes by windows: what it answers, and where its machine stands. The project's own.
-use Rattle.std.specs.Prelude.{◌≡◌, ◌-◌, ◌≤◌, Option, Some, None, Result, Ok, Err}
+use Rattle.std.specs.Prelude.{◌≡◌, ℕ, ◌-◌, ◌≤◌, List, Option, Some, None, Result, Ok, Err}
 use Rattle.rp_base.specs.declared.Why.{Why}
 use Rattle.outer_lane.specs.Setting.{Setting}
+use Rattle.trace_text.specs.declared.event.Event.{Event as Shown}
 use Rattle.trace_text.specs.declared.writer.SinkFault.{SinkFault}
+use Rattle.trace_text.specs.Tape.{FailsAmong}
 use Rattle.rp_machine.specs.State.{State}
 use Rattle.rp_machine.specs.Cycle.{stop}
-use Rattle.rp_machine.specs.Run.{states, last_state}
+use Rattle.rp_machine.specs.Run.{states, events_in, last_state}
 use Rattle.window_merge.specs.Window.{Position, last_position}
 use Rattle.window_runner.specs.declared.alone.Ran.{Ran}
 use Rattle.window_runner.specs.declared.alone.Counts.{Counts}
+use Rattle.window_runner.specs.Told.{all_shown}
 
 -- a run answers the cause of the stop at its end, how many windows it tried, and how many cycles they had
 pub record IsRan (w : Setting) (s : State) (ran : Ran) : Type 0 where
@@ -21,6 +24,17 @@ pub record IsOnRun (w : Setting) (s t : State) : Type 0 where
   pub forward : s.cycle ≤ t.cycle
   pub within : t.cycle ≤ (last_state w s).cycle
   pub state : t ≡ states w s (t.cycle - s.cycle)
+
+-- Of a run from a state a tape took the events of some cycles, and failed at one of those that follow them, at most so many; the machine
+-- stands right behind these.
+pub record FailsWithin {T : Type 0} (took : T → List Shown → T → Type 0) (missed : T → Shown → T → Type 0) (old new : T) (w : Setting) (most : ℕ) (s t : State) : Type 0 where
+  pub before : ℕ
+  pub last : ℕ
+  pub few : last ≤ most
+  pub between : T
+  pub taken : took old (all_shown (events_in w s before)) between
+  pub failed : FailsAmong took missed between new (all_shown (events_in w (states w s before) last))
+  pub stands : t ≡ states w (states w s before) last
 
 -- ---- one step of it
 

@@ -1,6 +1,6 @@
 //! A run by windows on one thread.
 
-ghost use Rattle.std.specs.Prelude.{◌≡◌, ◌+◌, ◌<◌, ◌≤◌, ◌^◌, ◌==◌, [], None, length, if◌then◌else◌, false, true, IfOk};
+ghost use Rattle.std.specs.Prelude.{◌≡◌, ◌+◌, ◌<◌, ◌≤◌, ◌^◌, ◌==◌, [], None, length, if◌then◌else◌, false, true, IfOk, OnErr};
 ghost use Rattle.outer_lane.specs.Setting.{setting};
 ghost use Rattle.trace_text.specs.Tape.{Tells};
 ghost use Rattle.rp_machine.specs.Cycle.{begun, stop};
@@ -8,7 +8,7 @@ ghost use Rattle.rp_machine.specs.Run.{last_state, unless_stopped};
 ghost use Rattle.window_merge.specs.Window.{next_position};
 ghost use Rattle.window_merge.specs.Jobs.{IsWhole};
 ghost use Rattle.window_runner.specs.Told.{all_shown, events_by, step_events, run_shown};
-ghost use Rattle.window_runner.specs.Alone.{IsRan, IsOnRun, position_at, stop_in};
+ghost use Rattle.window_runner.specs.Alone.{IsRan, IsOnRun, FailsWithin, position_at, stop_in};
 
 use crate::events::tell_marks;
 use lane_look::{Device, Marks};
@@ -128,8 +128,8 @@ fn step<X: Device, T: Tape, L: Ledger>(
 ///
 /// # Errors
 ///
-/// The tape failed at an event, and its count of faults rose. It has the events before that one, and the machine stands behind a
-/// cycle of the run.
+/// The tape failed at an event, and its count of faults rose. It has the events before that one, and the machine stands behind the
+/// step of that event, at most 256 cycles behind it.
 pub fn run_alone<X: Device, T: Tape, L: Ledger>(
     machine: &mut Machine,
     world: &World<'_, X>,
@@ -144,6 +144,8 @@ pub fn run_alone<X: Device, T: Tape, L: Ledger>(
     ensures ran { IfOk result (IsRan (setting X.meaning world.now) machine.old) }
     ensures state { IfOk result (λ ran. machine.new ≡ last_state (setting X.meaning world.now)
         machine.old) }
+    ensures failed { OnErr result (FailsWithin T.took T.missed tape.old tape.new (setting X.meaning
+        world.now) 256 machine.old machine.new) }
     ensures on_run { IsOnRun (setting X.meaning world.now) machine.old machine.new }
     ensures steps { steps.new + machine.old.cycle ≡ steps.old + machine.new.cycle }
     ensures crew { IsWhole crew.new }

@@ -1,14 +1,14 @@
 //! A run cycle by cycle, which goes over cycles in which nobody has anything to do at once: no window is made of it, and nothing is
 //! counted but its cycles.
 
-ghost use Rattle.std.specs.Prelude.{◌≡◌, ◌+◌, ◌≤◌, [], Some, IfOk};
+ghost use Rattle.std.specs.Prelude.{◌≡◌, ◌+◌, ◌≤◌, [], Some, IfOk, OnErr};
 ghost use Rattle.outer_lane.specs.Setting.{setting};
 ghost use Rattle.trace_text.specs.Tape.{Tells};
 ghost use Rattle.rp_machine.specs.Cycle.{next, stop};
 ghost use Rattle.rp_machine.specs.Events.{events};
 ghost use Rattle.rp_machine.specs.Run.{last_state, unless_stopped};
 ghost use Rattle.window_runner.specs.Told.{all_shown, run_shown};
-ghost use Rattle.window_runner.specs.Alone.{IsOnRun, stop_in};
+ghost use Rattle.window_runner.specs.Alone.{IsOnRun, FailsWithin, stop_in};
 
 use crate::alone::tell_step;
 use lane_look::{Device, Marks};
@@ -54,8 +54,8 @@ fn cycle_told<X: Device, T: Tape, L: Ledger>(
 ///
 /// # Errors
 ///
-/// The tape failed at an event, and its count of faults rose. It has the events before that one, and the machine stands behind a
-/// cycle of the run.
+/// The tape failed at an event, and its count of faults rose. It has the events before that one, and the machine stands right behind
+/// the cycle of that event.
 pub fn run_cycles<X: Device, T: Tape, L: Ledger>(
     machine: &mut Machine,
     world: &World<'_, X>,
@@ -69,6 +69,8 @@ pub fn run_cycles<X: Device, T: Tape, L: Ledger>(
         X.meaning world.now) machine.old) ≡ Some why) }
     ensures state { IfOk result (λ why. machine.new ≡ last_state (setting X.meaning world.now)
         machine.old) }
+    ensures failed { OnErr result (FailsWithin T.took T.missed tape.old tape.new (setting X.meaning
+        world.now) 1 machine.old machine.new) }
     ensures on_run { IsOnRun (setting X.meaning world.now) machine.old machine.new }
     ensures steps { steps.new + machine.old.cycle ≡ steps.old + machine.new.cycle }
 {

@@ -1,6 +1,7 @@
 use Rattle.std.proofs.Common.{◌∙◌}
 use Rattle.outer_lane.specs.Setting.{setting_of}
 use Rattle.window_runner.proofs.Cycling.{way_first, way_on, taken_cycle, failed_cycle, way_last, way_why, way_on_run, same_steps}
+use Rattle.window_runner.proofs.Failing.{fails_in_cycle}
 use Rattle.window_runner.proofs.Over.{taken_over, way_over, nearer_over}
 use Rattle.window_runner.proofs.Reaching.{taken_to_stop}
 use Rattle.window_runner.proofs.Telling.{taken_nothing}
@@ -114,3 +115,14 @@ returns-in-Err-clause-steps g c =
     c.pass_quiet.ensures.state c.pass_quiet.ensures.quiet c.pass_quiet.ensures.steps in
     let h = c.in-Err.ensures in
     (way_on w c.args.machine.now c.pass_quiet.new.machine c.cycle_told.new.machine _ _ _ on h.cause h.state h.steps).steps
+
+pub returns-in-Err-clause-failed : goal.returns-in-Err-clause-failed
+returns-in-Err-clause-failed g c =
+    let w = setting_of c.args.world.now.script.now (g.X.Device.meaning c.args.world.now.device.now) c.args.world.now.limit in
+    let on = way_over w c.args.machine.now c.cycles.machine c.pass_quiet.new.machine _ _ _ _ c.cycles.invariant.0
+    c.pass_quiet.ensures.state c.pass_quiet.ensures.quiet c.pass_quiet.ensures.steps in
+    let taken = taken_over _ _ _ _ _ w c.args.machine.now c.cycles.machine c.pass_quiet.new.machine _ c.cycles.invariant.0.within c.cycles.invariant.1
+    c.pass_quiet.ensures.state c.pass_quiet.ensures.quiet in
+    let h = c.in-Err.ensures in
+    fails_in_cycle _ _ _ _ _ _ _ w c.args.machine.now c.pass_quiet.new.machine c.cycle_told.new.machine
+    c.requires.number on.way taken h.cause h.state h.told.err
