@@ -1,6 +1,6 @@
 //! The files of the system as a shelf. It tells nothing of what they hold.
 
-ghost use Rattle.std.specs.Prelude.{◌≡◌, ◌<◌, ◌≤◌, None, map, vec_len, IfOk};
+ghost use Rattle.std.specs.Prelude.{◌≡◌, ◌<◌, ◌≤◌, [], None, map, vec_len, IfOk};
 ghost use Rattle.pico_main.specs.Content.{IsWithin};
 ghost use Rattle.std.specs.String.{string_bytes};
 
@@ -19,7 +19,9 @@ pub struct FileShelf<'a, R: Files> {
 
 impl<'a, R: Files> FileShelf<'a, R> {
     /// A shelf with no failed name.
-    pub fn new(rt: &'a R, alloc: Global) -> FileShelf<'a, R> {
+    pub fn new(rt: &'a R, alloc: Global) -> FileShelf<'a, R>
+        ensures { result.failed.items ≡ [] }
+    {
         FileShelf {
             rt,
             failed: Vec::new(alloc),

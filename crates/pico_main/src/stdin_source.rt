@@ -1,6 +1,6 @@
 //! Standard input as a source. It tells nothing of what is left.
 
-ghost use Rattle.std.specs.Prelude.{None};
+ghost use Rattle.std.specs.Prelude.{◌≡◌, None};
 
 use rp_ports::source::{Source, Taken};
 use std::io::Read;
@@ -14,7 +14,9 @@ pub struct StdinSource<'a, R: Input> {
 
 impl<'a, R: Input> StdinSource<'a, R> {
     /// Standard input with no fault so far.
-    pub fn new(rt: &'a R) -> StdinSource<'a, R> {
+    pub fn new(rt: &'a R) -> StdinSource<'a, R>
+        ensures { result.faults ≡ 0 }
+    {
         StdinSource { rt, faults: 0 }
     }
 }

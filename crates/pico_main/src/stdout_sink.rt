@@ -1,6 +1,6 @@
 //! Standard output as a sink. It tells nothing of what was written.
 
-ghost use Rattle.std.specs.Prelude.{None};
+ghost use Rattle.std.specs.Prelude.{◌≡◌, None};
 
 use rp_ports::sink::{Put, Sink};
 use std::io::{self, Write};
@@ -14,7 +14,9 @@ pub struct StdoutSink<'a, R: Print> {
 
 impl<'a, R: Print> StdoutSink<'a, R> {
     /// Standard output with no fault so far.
-    pub fn new(rt: &'a R) -> StdoutSink<'a, R> {
+    pub fn new(rt: &'a R) -> StdoutSink<'a, R>
+        ensures { result.faults ≡ 0 }
+    {
         StdoutSink { rt, faults: 0 }
     }
 }
