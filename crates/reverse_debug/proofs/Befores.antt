@@ -1,10 +1,10 @@
 -- The n-th cycle below the present one, by a session that stands where it stood; and moves back to it.
-use Rattle.std.proofs.Common.{◌≡◌, ℕ, ◌+◌, ◌-◌, ◌*◌, ◌%◌, ◌<◌, ◌≤◌, List, [], ◌++◌, Option, Some, None, refl, sym, ap, subst, arith, ◌∙◌}
+use Rattle.std.proofs.Common.{◌≡◌, ℕ, ◌+◌, ◌-◌, ◌%◌, ◌≤◌, List, [], ◌++◌, Option, Some, None, refl, sym, ap, subst, arith, ◌∙◌}
 use Rattle.outer_lane.specs.Setting.{Setting}
 use Rattle.rp_machine.specs.State.{State}
 use Rattle.rp_base.specs.Alias.{or_zero}
 use Rattle.reverse_debug.specs.declared.watch.Watched.{Watched}
-use Rattle.reverse_debug.specs.Reply.{last_cycle, passes, before_nth, search_cost, move_cost, Said, at_or_start, moved_to}
+use Rattle.reverse_debug.specs.Reply.{last_cycle, before_nth, search_cost, move_cost, Said, at_or_start, moved_to}
 use Rattle.reverse_debug.specs.Session.{Standing, first_in, first_of, IsIn, AreOf, StandsFor, Lands, Does, Moves, FindsNear}
 use Rattle.std.specs.Prelude.{codes}
 use Rattle.reverse_debug.proofs.Moves.{moved_within, started, text_written}
@@ -41,25 +41,18 @@ same_before w v old s watched count now found e k en h =
     h ∙ ap (λ (x : State). before_nth w x watched count now) (same_first w v old s e k) ∙ ap (before_nth w (first_of old) watched count) en
 
 -- v is what the parts of the session stand for
-pub search_near : (v old : Standing) (count now before after : ℕ) (found : Option ℕ) → v ≡ old → now ≡ old.now.cycle → after + or_zero found < before + now + passes count * v.ring.spacing → after + or_zero found < before + old.now.cycle + passes count * old.ring.spacing
+pub search_near : (v old : Standing) (count now before after : ℕ) (found : Option ℕ) → v ≡ old → now ≡ old.now.cycle → after ≤ before + search_cost v.ring.spacing count now found → after ≤ before + search_cost old.ring.spacing count old.now.cycle found
 search_near v old count now before after found e en h =
-    subst (λ n. after + or_zero found < before + n + passes count * old.ring.spacing) en
-    (subst (λ (x : Standing). after + or_zero found < before + now + passes count * x.ring.spacing) e h)
+    subst (λ n. after ≤ before + search_cost old.ring.spacing count n found) en
+    (subst (λ (x : Standing). after ≤ before + search_cost x.ring.spacing count now found) e h)
 
 -- within the near stretch
 pub search_close : (v old : Standing) (count now before after : ℕ) (found : Option ℕ) → v ≡ old → now ≡ old.now.cycle
-    → (FindsNear v.near count now (or_zero found) → after + or_zero found < before + now + passes count * v.near.spacing)
-    → FindsNear old.near count old.now.cycle (or_zero found) → after + or_zero found < before + old.now.cycle + passes count * old.near.spacing
+    → (FindsNear v.near count now (or_zero found) → after ≤ before + search_cost v.near.spacing count now found)
+    → FindsNear old.near count old.now.cycle (or_zero found) → after ≤ before + search_cost old.near.spacing count old.now.cycle found
 search_close v old count now before after found e en h =
-    subst (λ n. FindsNear old.near count n (or_zero found) → after + or_zero found < before + n + passes count * old.near.spacing) en
-    (subst (λ (x : Standing). FindsNear x.near count now (or_zero found) → after + or_zero found < before + now + passes count * x.near.spacing) e h)
-
-within_search : (p cycle before after f : ℕ) → after + f < before + cycle + p → after ≤ before + (cycle - f + p - 1)
-within_search p cycle before after f h = omega arith
-
-pub search_within : (d count cycle before after : ℕ) (found last : Option ℕ) → found ≡ last → after + or_zero found < before + cycle + passes count * d → after ≤ before + search_cost d count cycle last
-search_within d count cycle before after found last e h =
-    subst (λ (l : Option ℕ). after ≤ before + search_cost d count cycle l) e (within_search (passes count * d) cycle before after (or_zero found) h)
+    subst (λ n. FindsNear old.near count n (or_zero found) → after ≤ before + search_cost old.near.spacing count n found) en
+    (subst (λ (x : Standing). FindsNear x.near count now (or_zero found) → after ≤ before + search_cost x.near.spacing count now found) e h)
 
 -- ---- moves back
 
@@ -94,8 +87,8 @@ went w old new count before mid after found reply forward most close within k =
     }
 
 pub went_back : (w : Setting) (old same new : Standing) (watched : Watched) (count before mid after cycle : ℕ) (reply : List ℕ) → StandsFor w old → same ≡ old → Some cycle ≡ before_nth w (first_of old) watched count old.now.cycle → before ≤ mid →
-    mid + cycle < before + old.now.cycle + passes count * old.ring.spacing →
-    (FindsNear old.near count old.now.cycle cycle → mid + cycle < before + old.now.cycle + passes count * old.near.spacing) →
+    mid ≤ before + search_cost old.ring.spacing count old.now.cycle (Some cycle) →
+    (FindsNear old.near count old.now.cycle cycle → mid ≤ before + search_cost old.near.spacing count old.now.cycle (Some cycle)) →
     Moves w same (moved_to w (first_of same) cycle) new reply mid after →
     Searches w old count (before_nth w (first_of old) watched count old.now.cycle) new reply before after
 went_back w old same new watched count before mid after cycle reply k e is forward far close does =
@@ -107,19 +100,17 @@ went_back w old same new watched count before mid after cycle reply k e is forwa
     (subst (λ (x : Standing). Moves w x (moved_to w (first_of x) cycle) new reply mid after) e does)
     in
     subst (λ (l : Option ℕ). Searches w old count l new reply before after) is
-    (went w old new count before mid after (Some cycle) reply forward (search_within old.ring.spacing count old.now.cycle before mid (Some cycle) (Some cycle) refl far)
-    (λ h. search_within old.near.spacing count old.now.cycle before mid (Some cycle) (Some cycle) refl (close h)) (λ h. h.ends) there)
+    (went w old new count before mid after (Some cycle) reply forward far close (λ h. h.ends) there)
 
 pub stands_same : (w : Setting) (same old : Standing) → same ≡ old → StandsFor w old → StandsFor w same
 stands_same w same old e k = subst (λ (x : Standing). StandsFor w x) (sym e) k
 
 pub went_to_start : (w : Setting) (old same new : Standing) (watched : Watched) (count before mid : ℕ) (empty reply : List ℕ) → StandsFor w old → same ≡ old → None ≡ before_nth w (first_of old) watched count old.now.cycle → before ≤ mid →
-    mid + 0 < before + old.now.cycle + passes count * old.ring.spacing →
-    (FindsNear old.near count old.now.cycle 0 → mid + 0 < before + old.now.cycle + passes count * old.near.spacing) → Lands w same 0 new → empty ≡ [] → reply ≡ empty ++ codes "at start\n" →
+    mid ≤ before + search_cost old.ring.spacing count old.now.cycle None →
+    (FindsNear old.near count old.now.cycle 0 → mid ≤ before + search_cost old.near.spacing count old.now.cycle None) → Lands w same 0 new → empty ≡ [] → reply ≡ empty ++ codes "at start\n" →
     Searches w old count (before_nth w (first_of old) watched count old.now.cycle) new reply before mid
 went_to_start w old same new watched count before mid empty reply k e is forward far close lands none written =
     let land : Lands w old 0 new = subst (λ (x : Standing). Lands w x 0 new) e lands in
     let there = started w old new reply mid land (text_written empty reply (codes "at start\n") none written) in
     subst (λ (l : Option ℕ). Searches w old count l new reply before mid) is
-    (went w old new count before mid mid None reply forward (search_within old.ring.spacing count old.now.cycle before mid None None refl far)
-    (λ h. search_within old.near.spacing count old.now.cycle before mid None None refl (close h)) (λ h. h.ends) there)
+    (went w old new count before mid mid None reply forward far close (λ h. h.ends) there)

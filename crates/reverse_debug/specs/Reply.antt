@@ -1,6 +1,6 @@
 -- What the debugger answers (the project's own). A session stands at one cycle of a run. Each line moves it to a cycle and has a
 -- reply, which shows a part of the run's state at the cycle reached.
-use Rattle.std.specs.Prelude.{ℕ, zero, suc, ◌+◌, ◌-◌, ◌*◌, Bool, true, false, not, ◌==◌, nat_le, nat_lt, if◌then◌else◌, List, [], ◌∷◌, ◌++◌, drop, flat_map, Option, Some, None, codes, decimal}
+use Rattle.std.specs.Prelude.{ℕ, zero, suc, ◌+◌, ◌-◌, ◌*◌, Bool, true, false, not, ◌==◌, ◌||◌, nat_le, nat_lt, if◌then◌else◌, List, [], ◌∷◌, ◌++◌, drop, flat_map, Option, Some, None, codes, decimal}
 use Rattle.std.specs.List.{range_with_len}
 use Rattle.rp_base.specs.Alias.{or_zero}
 use Rattle.rp_base.specs.Word.{has_bit}
@@ -191,9 +191,11 @@ move_cost spacing cycle target = if nat_lt target cycle then spacing - 1 else ta
 abbrev pub passes : ℕ → ℕ
 passes count = if nat_le count 1 then 1 else 2
 
--- for a search: back to the cycle that is found, or to the start, and less than a spacing more for each pass
+-- for a search: back to the cycle that is found, or to the start, and less than a spacing more for each pass; none at cycle 0, or where
+-- no time is asked for
 abbrev pub search_cost : ℕ → ℕ → ℕ → Option ℕ → ℕ
-search_cost spacing count cycle found = cycle - or_zero found + passes count * spacing - 1
+search_cost spacing count cycle found =
+    if count == 0 || cycle == 0 then 0 else cycle - or_zero found + passes count * spacing - 1
 
 abbrev pub command_cost : Setting → State → ℕ → ℕ → Command → ℕ
 command_cost w s spacing cycle (Last watched) = search_cost spacing 1 cycle (before_nth w s watched 1 cycle)

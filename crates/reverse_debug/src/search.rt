@@ -1,11 +1,11 @@
 //! The times of what is watched, below a cycle.
 
-ghost use Rattle.std.specs.Prelude.{◌≡◌, ◌≤◌, ◌<◌, ◌+◌, ◌-◌, ◌*◌, ◌^◌};
+ghost use Rattle.std.specs.Prelude.{◌≡◌, ◌≤◌, ◌<◌, ◌+◌, ◌-◌, ◌^◌};
 ghost use Rattle.outer_lane.specs.Setting.{setting};
 ghost use Rattle.rp_base.specs.Alias.{or_zero};
 ghost use Rattle.snap_ring.specs.Ring.{state_at, restored, IsNearest};
 ghost use Rattle.reverse_debug.specs.Search.{greater_of, noted, tally};
-ghost use Rattle.reverse_debug.specs.Reply.{last_cycle, passes, before_nth};
+ghost use Rattle.reverse_debug.specs.Reply.{last_cycle, search_cost, before_nth};
 ghost use Rattle.reverse_debug.specs.Reading.{IsThere};
 ghost use Rattle.reverse_debug.specs.Session.{AreOf, FindsNear, all_kept, first_in};
 
@@ -126,9 +126,9 @@ pub(crate) fn nth_before<X: Device, L: Ledger>(
     ensures found { result
         ≡ before_nth (setting X.meaning world.now) (first_in ring.now machine.old) watched count to }
     ensures forward { steps.old ≤ steps.new }
-    ensures steps { steps.new + or_zero result < steps.old + to + passes count * ring.now.spacing }
+    ensures steps { steps.new ≤ steps.old + search_cost ring.now.spacing count to result }
     ensures near { FindsNear near.now count to (or_zero result)
-        → steps.new + or_zero result < steps.old + to + passes count * near.now.spacing }
+        → steps.new ≤ steps.old + search_cost near.now.spacing count to result }
 {
     if count == 0 {
         return Some(to);

@@ -91,12 +91,12 @@ impl Model for Session {
 }
 
 impl Session {
-    ghost use Rattle.std.specs.Prelude.{◌≡◌, ◌≤◌, ◌<◌, ◌+◌, ◌*◌, ◌&&◌, nat_lt, true, false, IfOk, IfNone, not, []};
+    ghost use Rattle.std.specs.Prelude.{◌≡◌, ◌≤◌, ◌<◌, ◌+◌, ◌&&◌, nat_lt, true, false, IfOk, IfNone, not, []};
     ghost use Rattle.outer_lane.specs.Setting.{Setting, setting};
     ghost use Rattle.rp_base.specs.Alias.{or_zero};
     ghost use Rattle.reverse_debug.specs.Command.{are_words};
     ghost use Rattle.reverse_debug.specs.Reading.{meant, Fits, IsThere};
-    ghost use Rattle.reverse_debug.specs.Reply.{heard, answer, cost, command_cost, moved_to, moved_back, move_cost, passes, search_cost, before_nth, behind_next, at_or_last, at_or_start};
+    ghost use Rattle.reverse_debug.specs.Reply.{heard, answer, cost, command_cost, moved_to, moved_back, move_cost, search_cost, before_nth, behind_next, at_or_last, at_or_start};
     ghost use Rattle.reverse_debug.specs.Command.{command_of};
     ghost use Rattle.snap_ring.specs.Ring.{is_within};
     ghost use Rattle.reverse_debug.specs.Advance.{EndsAtLast, CountsMove};
@@ -380,11 +380,11 @@ impl Session {
         ensures found { result ≡ before_nth (setting X.meaning world.now) (first_of self.old) watched count self.old.now.cycle }
         ensures same { self.new ≡ self.old }
         ensures forward { steps.old ≤ steps.new }
-        ensures steps { steps.new + or_zero result
-            < steps.old + self.old.now.cycle + passes count * self.old.ring.spacing }
+        ensures steps { steps.new ≤ steps.old
+            + search_cost self.old.ring.spacing count self.old.now.cycle result }
         ensures near { FindsNear self.old.near count self.old.now.cycle (or_zero result)
-            → steps.new + or_zero result
-            < steps.old + self.old.now.cycle + passes count * self.old.near.spacing }
+            → steps.new ≤ steps.old
+            + search_cost self.old.near.spacing count self.old.now.cycle result }
     {
         let now = self.cycle();
         nth_before(

@@ -1,12 +1,12 @@
 use Rattle.std.proofs.Common.{◌<◌, refl, arith}
-use Rattle.reverse_debug.proofs.Stretches.{stretch_of, searching_on, found_there, found_again, near_once, near_again, close_once, close_again, remembers_all, searched, searched_steps, zero_th, zero_steps}
+use Rattle.reverse_debug.proofs.Stretches.{stretch_of, searching_on, found_there, found_again, near_once, near_again, close_once, close_again, remembers_all, searched, searched_steps, zero_th}
 use Rattle.reverse_debug.proofs.search.nth_before.Goals as goal
 
 pub returns-then-count-eq0-clause-found : goal.returns-then-count-eq0-clause-found
 returns-then-count-eq0-clause-found g c = zero_th _ _ _ _ _ c.if-count-eq0.true
 
 pub returns-then-count-eq0-clause-near : goal.returns-then-count-eq0-clause-near
-returns-then-count-eq0-clause-near g c = λ h. (zero_steps _ _ _ _ c.requires.kept.closer).steps
+returns-then-count-eq0-clause-near g c = λ h. omega arith
 
 pub scan-all-requires-clause-low : goal.scan-all-requires-clause-low
 scan-all-requires-clause-low g c κs within = (stretch_of _ _ _ _ _ _ _ _ _ _ _ _ _ _ _ c.requires.kept c.requires.to c.stretches.invariant c.stretches-test.true refl c.in-Some.ensures c.restore_of.ensures).low
@@ -85,6 +85,9 @@ stretches-preserved g c =
 
 pub returns-clause-found : goal.returns-clause-found
 returns-clause-found g c = searched _ _ _ _ _ _ _ _ _ c.stretches.invariant (omega arith)
+
+pub returns-clause-steps : goal.returns-clause-steps
+returns-clause-steps g c = (searched_steps _ _ _ _ _ _ _ _ _ _ c.requires.kept.some c.stretches.invariant).steps
 
 pub returns-clause-near : goal.returns-clause-near
 returns-clause-near g c = λ h. (searched_steps _ _ _ _ _ _ _ _ _ _ c.requires.kept.closer c.stretches.invariant).steps
