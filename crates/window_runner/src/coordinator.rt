@@ -1,6 +1,6 @@
 //! What the coordinator does: it opens the windows' numbers, helps with their pieces, and merges what was found.
 
-ghost use Rattle.std.specs.Prelude.{◌≡◌, ◌+◌, ◌≤◌, ◌^◌, false, length, IfSome, None, [], if◌then◌else◌, IfOk};
+ghost use Rattle.std.specs.Prelude.{◌≡◌, ◌+◌, ◌≤◌, ◌^◌, false, length, IfSome, None, [], if◌then◌else◌, IfOk, OnErr};
 ghost use Rattle.outer_lane.specs.Setting.{setting};
 ghost use Rattle.bus_fabric.specs.State.{has_hold};
 ghost use Rattle.trace_text.specs.Tape.{Tells};
@@ -11,7 +11,7 @@ ghost use Rattle.window_merge.specs.Window.{next_position, window_length};
 ghost use Rattle.window_merge.specs.Merging.{marks_in, IsStep};
 ghost use Rattle.window_merge.specs.Jobs.{HasNumber, IsJobFor, IsTrueIn};
 ghost use Rattle.window_runner.specs.Told.{all_shown, step_events, run_shown};
-ghost use Rattle.window_runner.specs.Alone.{IsRan, IsOnRun, position_at, stop_in};
+ghost use Rattle.window_runner.specs.Alone.{IsRan, IsOnRun, FailsWithin, position_at, stop_in};
 ghost use Rattle.window_runner.specs.Seated.{IsSeatAt, IsReady};
 
 use crate::alone::{Counts, Ran, count_window, tell_step};
@@ -310,6 +310,8 @@ pub(crate) fn run<'w, X: Device, G: Gate, H: Wait, T: Tape, L: Ledger>(
     ensures ran { IfOk result (IsRan (setting X.meaning desk.now.world.now) machine.old) }
     ensures state { IfOk result (λ ran. machine.new ≡ last_state (setting X.meaning
         desk.now.world.now) machine.old) }
+    ensures failed { OnErr result (FailsWithin T.took T.missed tape.old tape.new (setting X.meaning
+        desk.now.world.now) 256 machine.old machine.new) }
     ensures on_run { IsOnRun (setting X.meaning desk.now.world.now) machine.old machine.new }
     ensures steps { steps.new + machine.old.cycle ≡ steps.old + machine.new.cycle }
     ensures ready { IsReady desk.now.board.now (λ w. w.now ≡ desk.now.world.now) lead.new.opened

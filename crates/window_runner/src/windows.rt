@@ -6,9 +6,9 @@ ghost use Rattle.trace_text.specs.Tape.{Tells};
 ghost use Rattle.rp_machine.specs.Run.{last_state};
 ghost use Rattle.turn_board.specs.Tickets.{IsFree};
 ghost use Rattle.window_runner.specs.Told.{run_shown};
-ghost use Rattle.window_runner.specs.Alone.{IsRan, IsOnRun};
+ghost use Rattle.window_runner.specs.Alone.{IsRan, IsOnRun, FailsWithin};
 ghost use Rattle.window_runner.specs.Seated.{IsReady};
-ghost use Rattle.window_runner.specs.Windows.{answered, OnMemory, Leaves};
+ghost use Rattle.window_runner.specs.Windows.{answered, OnMemory, OnSink, Leaves};
 
 use crate::alone::Ran;
 use crate::coordinator::{Desk, Lead, run};
@@ -61,8 +61,8 @@ impl<'b, 'w, X: Device, G: Gate> Bench<'b, 'w, X, G> {
             self.lead.kept self.lead.master self.lead.seat self.lead.sets.value.spare }
         ensures told { Tells T.took T.missed tape.old tape.new (T.faults tape.old) (T.faults
             tape.new) (run_shown (setting X.meaning self.entry.world.now) machine.old) result }
-        ensures left { Leaves (setting X.meaning self.entry.world.now) machine.old machine.new
-            steps.old steps.new result }
+        ensures left { Leaves T.took T.missed tape.old tape.new (setting X.meaning
+            self.entry.world.now) machine.old machine.new steps.old steps.new result }
     {
         let Bench {
             board,
@@ -99,8 +99,8 @@ fn both<'b, 'w, X: Device, G: Gate, T: Tape, L: Ledger, R: Threads + Wait + Sync
         bench.lead.kept bench.lead.master bench.lead.seat bench.lead.sets.value.spare }
     ensures told { Tells T.took T.missed tape.old tape.new (T.faults tape.old) (T.faults tape.new)
         (run_shown (setting X.meaning bench.entry.world.now) machine.old) result }
-    ensures left { Leaves (setting X.meaning bench.entry.world.now) machine.old machine.new
-        steps.old steps.new result }
+    ensures left { Leaves T.took T.missed tape.old tape.new (setting X.meaning
+        bench.entry.world.now) machine.old machine.new steps.old steps.new result }
 {
     let mut hall = Some(hall);
     let mut bench = Some(bench);
@@ -123,8 +123,9 @@ fn both<'b, 'w, X: Device, G: Gate, T: Tape, L: Ledger, R: Threads + Wait + Sync
             ensures told { IfSome bench.entry (λ b. Tells T.took T.missed tape.entry.now
                 tape.exit.now (T.faults tape.entry.now) (T.faults tape.exit.now) (run_shown (setting
                 X.meaning b.world.now) machine.entry.now) result) }
-            ensures left { IfSome bench.entry (λ b. Leaves (setting X.meaning b.world.now)
-                machine.entry.now machine.exit.now steps.entry.now steps.exit.now result) }
+            ensures left { IfSome bench.entry (λ b. Leaves T.took T.missed tape.entry.now
+                tape.exit.now (setting X.meaning b.world.now) machine.entry.now machine.exit.now
+                steps.entry.now steps.exit.now result) }
         {
             match bench.take() {
                 Some(bench) => bench.work(rt, machine, tape, steps),
@@ -150,8 +151,8 @@ fn run_at<'w, X: Device, G: Gate, T: Tape, L: Ledger, R: Threads + Wait + Sync>(
     requires workers { workers ≤ 8 }
     ensures told { IfSome result (Tells T.took T.missed tape.old tape.new (T.faults tape.old)
         (T.faults tape.new) (run_shown (setting X.meaning world.now) machine.old)) }
-    ensures left { IfSome result (Leaves (setting X.meaning world.now) machine.old machine.new
-        steps.old steps.new) }
+    ensures left { IfSome result (Leaves T.took T.missed tape.old tape.new (setting X.meaning
+        world.now) machine.old machine.new steps.old steps.new) }
     ensures memory { is_none result ≡ true → (machine.new ≡ machine.old) × (tape.new ≡ tape.old)
         × (steps.new ≡ steps.old) }
 {
@@ -208,7 +209,7 @@ fn run_at<'w, X: Device, G: Gate, T: Tape, L: Ledger, R: Threads + Wait + Sync>(
 /// # Errors
 ///
 /// `Sink`: the tape failed at an event, and its count of faults rose. It has the events before that one, and the machine stands
-/// behind a cycle of the run. `Memory`: there was none, before the first event; nothing has changed.
+/// behind the step of that event, at most 256 cycles behind it. `Memory`: there was none, before the first event; nothing has changed.
 pub fn run_windows<X: Device, G: Gate, T: Tape, L: Ledger, R: Threads + Wait + Sync>(
     rt: &R,
     alloc: Global,
@@ -226,6 +227,8 @@ pub fn run_windows<X: Device, G: Gate, T: Tape, L: Ledger, R: Threads + Wait + S
     ensures ran { IfOk result (IsRan (setting X.meaning world.now) machine.old) }
     ensures state { IfOk result (λ ran. machine.new ≡ last_state (setting X.meaning world.now)
         machine.old) }
+    ensures failed { OnSink result (FailsWithin T.took T.missed tape.old tape.new (setting X.meaning
+        world.now) 256 machine.old machine.new) }
     ensures on_run { IsOnRun (setting X.meaning world.now) machine.old machine.new }
     ensures steps { steps.new + machine.old.cycle ≡ steps.old + machine.new.cycle }
     ensures memory { OnMemory result ((machine.new ≡ machine.old) × (tape.new ≡ tape.old)) }

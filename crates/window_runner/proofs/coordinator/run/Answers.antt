@@ -1,6 +1,7 @@
 use Rattle.std.proofs.Common.{refl, ◌∙◌}
 use Rattle.outer_lane.specs.Setting.{setting_of}
 use Rattle.window_runner.specs.Alone.{position_at}
+use Rattle.window_runner.proofs.Failing.{fails_in_step}
 use Rattle.window_runner.proofs.Reaching.{running_first, running_on, reached_nearer, reached_on, reached_same, reached_ran, reached_state, is_on_run, taken_step, failed_step, taken_to_stop}
 use Rattle.window_runner.proofs.Telling.{taken_nothing}
 use Rattle.window_runner.proofs.coordinator.run.Goals as goal
@@ -77,3 +78,10 @@ returns-in-Err-clause-on_run g c =
     is_on_run w c.args.machine.now (position_at c.step.new.machine c.step.new.counts)
     (reached_on w c.args.machine.now (position_at c.steps.machine c.steps.counts) (position_at c.step.new.machine c.step.new.counts)
     c.steps.invariant.0.reached h.cause h.position)
+
+pub returns-in-Err-clause-failed : goal.returns-in-Err-clause-failed
+returns-in-Err-clause-failed g c =
+    let w = setting_of c.args.desk.now.world.now.script.now (g.X.Device.meaning c.args.desk.now.world.now.device.now) c.args.desk.now.world.now.limit in
+    let h = c.in-Err.ensures in
+    fails_in_step _ _ _ _ _ _ _ w c.args.machine.now (position_at c.steps.machine c.steps.counts) (position_at c.step.new.machine c.step.new.counts)
+    c.requires.number c.steps.invariant.0.reached c.steps.invariant.1 h.cause h.position h.told.err
