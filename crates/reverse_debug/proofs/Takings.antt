@@ -64,7 +64,7 @@ end_said t cycle seen whole old new later before now last steps steps' more at a
     let cost : more ≤ steps' + t.cost (cycle_after t cycle (complete_lines seen)) whole = subst (λ p. more ≤ steps' + t.cost p whole) (sym here) (subst (λ n. more ≤ steps' + n) (other_cost t at whole differs) h.within) in
     answered_same t cycle _ _ old later before last steps more (sym cut) (record {
       sent = subst (λ x. Appends old later x) (sym (text_snoc t cycle (complete_lines seen) whole)) (appends_both old new later _ _ a.answered.sent sent);
-      steady = h.steady ∙ a.answered.steady;
+      steady = h.sends.steady ∙ a.answered.steady;
       forward = omega (arith, a.answered.forward, h.forward);
       most = omega (arith, a.answered.most, cost, cost_snoc t cycle (complete_lines seen) whole);
     })
@@ -75,7 +75,7 @@ end_said t cycle seen whole old new later before now last steps steps' more at a
     let sent : Appends new later [] = subst (λ x. Appends new later x) (last_text t at whole ends) h.sends.ok in
     answered_same t cycle _ _ old later before last steps more (sym cut) (record {
       sent = subst (λ x. Appends old later x) (append-nil (text_from t cycle (complete_lines seen))) (appends_both old new later _ [] a.answered.sent sent);
-      steady = h.steady ∙ a.answered.steady;
+      steady = h.sends.steady ∙ a.answered.steady;
       forward = omega (arith, a.answered.forward, h.forward);
       most = omega (arith, a.answered.most, h.within, last_cost t at whole ends);
     })
@@ -115,6 +115,7 @@ cut_sends t cycle lines old new before now steps steps' fault c =
         ok = tt;
         err = subst (λ x. AppendsPart old new x) text (part_of_longer old new _ (text_from t (t.next at c.line) rest) c.sent);
         cause = c.cause;
+        steady = tt;
         count = c.count;
       },
       omega (arith, c.most, cost),
@@ -129,8 +130,7 @@ hears_closed t cycle limit bytes left left' lost lost' old new before now steps 
   may = c.closed;
   taken = record { taken = consumed; forward = omega (arith, same); borne = same };
   is = refl;
-  sends = record { ok = c.answered.sent; err = tt; cause = tt; count = omega (arith, c.answered.steady) };
-  steady = c.answered.steady;
+  sends = record { ok = c.answered.sent; err = tt; cause = tt; steady = c.answered.steady; count = omega (arith, c.answered.steady) };
   forward = c.answered.forward;
   most = c.answered.most;
 }
@@ -144,8 +144,7 @@ hears_ended t cycle limit bytes left left' lost lost' old new before now steps s
   may = (none, lt);
   taken = record { taken = consumed; forward = omega (arith, same); borne = (same, inr end) };
   is = refl;
-  sends = record { ok = a.sent; err = tt; cause = tt; count = omega (arith, a.steady) };
-  steady = a.steady;
+  sends = record { ok = a.sent; err = tt; cause = tt; steady = a.steady; count = omega (arith, a.steady) };
   forward = a.forward;
   most = a.most;
 }
@@ -168,8 +167,7 @@ hears_broken t cycle limit bytes left left' lost lost' old new before now steps 
   may = (none, lt);
   taken = record { taken = consumed; forward = later; borne = rose };
   is = refl;
-  sends = record { ok = a.sent; err = tt; cause = tt; count = omega (arith, a.steady) };
-  steady = a.steady;
+  sends = record { ok = a.sent; err = tt; cause = tt; steady = a.steady; count = omega (arith, a.steady) };
   forward = a.forward;
   most = a.most;
 }
@@ -183,8 +181,7 @@ hears_full t cycle limit bytes left left' lost lost' old new before now steps st
   may = (none, full);
   taken = record { taken = consumed; forward = omega (arith, same); borne = same };
   is = refl;
-  sends = record { ok = a.sent; err = tt; cause = tt; count = omega (arith, a.steady) };
-  steady = a.steady;
+  sends = record { ok = a.sent; err = tt; cause = tt; steady = a.steady; count = omega (arith, a.steady) };
   forward = a.forward;
   most = a.most;
 }
@@ -201,7 +198,6 @@ cut_by t cycle limit bytes way left left' lost lost' old new before now steps st
       taken = record { taken = consumed; forward = omega (arith, kept); borne = borne };
       is = tt;
       sends = subst (λ (l : List (List ℕ)). Sends {T = Way} old new before now (text_from t cycle l) (Err fault)) (sym same) s.0;
-      steady = tt;
       forward = c.forward;
       most = subst (λ (l : List (List ℕ)). steps' ≤ steps + cost_from t cycle l) (sym same) s.1;
     }

@@ -1,5 +1,5 @@
 -- Talks: lines one after another, and what was sent of their replies.
-use Rattle.std.proofs.Common.{◌≡◌, ℕ, ◌+◌, ◌≤◌, Bool, true, false, not, List, [], ◌∷◌, ◌++◌, Option, Some, None, Result, Ok, Err, IfOk, OnOk, OnErr, refl, sym, ap, ◌∙◌, subst, arith, append_assoc}
+use Rattle.std.proofs.Common.{◌≡◌, ℕ, ◌+◌, ◌≤◌, Bool, true, false, not, List, [], ◌∷◌, ◌++◌, Option, Some, None, Result, Ok, Err, IfOk, OnErr, refl, sym, ap, ◌∙◌, subst, arith, append_assoc}
 use Rattle.std.proofs.lemmas.List.{append-nil}
 use Rattle.rp_ports.specs.Sink.{Appends}
 use Rattle.rp_ports.proofs.Pieces.{appends_both}
@@ -60,7 +60,6 @@ pub record Answers (t : Talk) (at at' : ℕ) (line : List ℕ) (old new : Option
   pub more : IfOk result (λ m. m ≡ not (t.last line))
   pub other : OnErr result (t.last line ≡ false)
   pub sends : Sends old new before now (said_to t at line) result
-  pub steady : OnOk result (now ≡ before)
   pub moved : IfOk result (λ m. m ≡ true → at' ≡ t.next at line)
   pub forward : steps ≤ steps'
   pub within : steps' ≤ steps + spent_on t at line
@@ -73,8 +72,8 @@ pub record Alike (t : Talk) (one other : List ℕ) : Type 0 where
   pub spent : (at : ℕ) → spent_on t at one ≡ spent_on t at other
 
 -- what was answered to the one was answered to the other
-pub answers_alike : (t : Talk) (at at' : ℕ) (line one other : List ℕ) (old new : Option (List ℕ)) (before now steps steps' : ℕ) (result : Result Bool SinkFault) → line ≡ one → Alike t one other → IfOk result (λ m. m ≡ not (t.last line)) → OnErr result (t.last line ≡ false) → Sends old new before now (said_to t at line) result → OnOk result (now ≡ before) → IfOk result (λ m. m ≡ true → at' ≡ t.next at line) → steps ≤ steps' → steps' ≤ steps + spent_on t at line → Answers t at at' other old new before now steps steps' result
-answers_alike t at at' line one other old new before now steps steps' result is same more differs sends steady moved forward within =
+pub answers_alike : (t : Talk) (at at' : ℕ) (line one other : List ℕ) (old new : Option (List ℕ)) (before now steps steps' : ℕ) (result : Result Bool SinkFault) → line ≡ one → Alike t one other → IfOk result (λ m. m ≡ not (t.last line)) → OnErr result (t.last line ≡ false) → Sends old new before now (said_to t at line) result → IfOk result (λ m. m ≡ true → at' ≡ t.next at line) → steps ≤ steps' → steps' ≤ steps + spent_on t at line → Answers t at at' other old new before now steps steps' result
+answers_alike t at at' line one other old new before now steps steps' result is same more differs sends moved forward within =
     let last : t.last line ≡ t.last other = ap t.last is ∙ same.last in
     let said : said_to t at line ≡ said_to t at other = ap (said_to t at) is ∙ same.said at in
     let next : t.next at line ≡ t.next at other = ap (t.next at) is ∙ same.next at in
@@ -83,7 +82,6 @@ answers_alike t at at' line one other old new before now steps steps' result is 
       more = subst (λ (b : Bool). IfOk result (λ m. m ≡ not b)) last more;
       other = subst (λ (b : Bool). OnErr result (b ≡ false)) last differs;
       sends = subst (λ (text : List ℕ). Sends old new before now text result) said sends;
-      steady = steady;
       moved = subst (λ (n : ℕ). IfOk result (λ m. m ≡ true → at' ≡ n)) next moved;
       forward = forward;
       within = subst (λ (n : ℕ). steps' ≤ steps + n) spent within;
@@ -119,7 +117,7 @@ along_line t cycle seen whole old new later before now last steps steps' more at
     record {
       answered = answered_same t cycle _ _ old later before last steps more (sym lines) (record {
         sent = subst (λ x. Appends old later x) (sym (text_snoc t cycle (complete_lines seen) line)) (appends_both old new later _ _ a.answered.sent sent);
-        steady = h.steady ∙ a.answered.steady;
+        steady = h.sends.steady ∙ a.answered.steady;
         forward = omega (arith, a.answered.forward, h.forward);
         most = omega (arith, a.answered.most, cost, cost_snoc t cycle (complete_lines seen) line);
       });
@@ -137,7 +135,7 @@ along_line t cycle seen whole old new later before now last steps steps' more at
       closed = ap (has_last t.last) lines ∙ last_closes t.last (complete_lines seen) [] line a.none ends;
       answered = answered_same t cycle _ _ old later before last steps more (sym cut) (record {
         sent = subst (λ x. Appends old later x) (append-nil (text_from t cycle (complete_lines seen))) (appends_both old new later _ [] a.answered.sent sent);
-        steady = h.steady ∙ a.answered.steady;
+        steady = h.sends.steady ∙ a.answered.steady;
         forward = omega (arith, a.answered.forward, h.forward);
         most = omega (arith, a.answered.most, h.within, last_cost t at line ends);
       });

@@ -1,5 +1,5 @@
 -- A talk: lines, and the answer to each. The project's own.
-use Rattle.std.specs.Prelude.{◌≡◌, ℕ, ◌+◌, ◌≤◌, Bool, if◌then◌else◌, List, [], ◌∷◌, ◌++◌, length, Option, Result, IfOk, OnOk}
+use Rattle.std.specs.Prelude.{◌≡◌, ℕ, ◌+◌, ◌≤◌, Bool, if◌then◌else◌, List, [], ◌∷◌, ◌++◌, length, Option, Result, IfOk}
 use Rattle.trace_text.specs.Sent.{Sends}
 use Rattle.trace_text.specs.declared.writer.SinkFault.{SinkFault}
 use Rattle.reverse_debug.specs.declared.way.Way.{Way}
@@ -47,6 +47,5 @@ pub record Hears (t : Talk) (cycle limit : ℕ) (left left' : Option (List ℕ))
   pub taken : IsTaken left left' lost lost' (status_by result) bytes way
   pub is : IfOk result (λ w. w ≡ way)
   pub sends : Sends old new before now (text_from t cycle (lines_heard t.last way bytes)) result
-  pub steady : OnOk result (now ≡ before)
   pub forward : steps ≤ steps'
   pub most : steps' ≤ steps + cost_from t cycle (lines_heard t.last way bytes)

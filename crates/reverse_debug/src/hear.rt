@@ -1,6 +1,6 @@
 //! Lines from a source for the debugger: each is answered before more is taken.
 
-ghost use Rattle.std.specs.Prelude.{◌≡◌, ◌≤◌, ◌+◌, ◌++◌, ◌∷◌, [], ℕ, List, Option, true, false, not, take, IfOk, OnOk, OnErr};
+ghost use Rattle.std.specs.Prelude.{◌≡◌, ◌≤◌, ◌+◌, ◌++◌, ◌∷◌, [], ℕ, List, Option, true, false, not, take, IfOk, OnErr};
 ghost use Rattle.std.specs.Str.Lines.{strip_carriage_return};
 ghost use Rattle.trace_text.specs.Sent.{Sends};
 ghost use Rattle.outer_lane.specs.Setting.{setting};
@@ -79,7 +79,6 @@ fn answer<X: Device, O: Sink, L: Ledger>(
     ensures sends { let t = talk_with (setting X.meaning world.now) session.old in Sends (O.written
         writer.old.out.now) (O.written writer.new.out.now) (O.faults writer.old.out.now) (O.faults
         writer.new.out.now) (said_to t session.old.now.cycle line.now) result }
-    ensures steady { OnOk result (O.faults writer.new.out.now ≡ O.faults writer.old.out.now) }
     ensures cycle { let t = talk_with (setting X.meaning world.now) session.old in IfOk result (λ
         more. more ≡ true → session.new.now.cycle ≡ t.next session.old.now.cycle line.now) }
     ensures forward { steps.old ≤ steps.new }

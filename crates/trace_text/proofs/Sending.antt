@@ -22,26 +22,32 @@ pub rose_later : (a b c : ℕ) → a ≤ b → Rose b c → Rose a c
 rose_later a b c h k = omega (arith, h, k)
 
 -- the first text was sent, and then the second as it was
-pub sends_then : {T E : Type 0} (a b c : Option (List ℕ)) (f g h : ℕ) (xs ys : List ℕ) (r : Result T E) → Appends a b xs → f ≤ g → Sends b c g h ys r → Sends a c f h (xs ++ ys) r
-sends_then a b c f g h xs ys (Ok x) first le s = record { ok = appends_both a b c xs ys first s.ok; err = tt; cause = tt; count = omega (arith, le, s.count) }
-sends_then a b c f g h xs ys (Err e) first le s = record { ok = tt; err = part_behind a b c xs ys first s.err; cause = rose_later f g h le s.cause; count = omega (arith, le, s.count) }
+pub sends_then : {T E U : Type 0} {a b c : Option (List ℕ)} {f g h : ℕ} {xs ys : List ℕ} {x : U} (r : Result T E) → Sends {E = E} a b f g xs (Ok x) → Sends b c g h ys r → Sends a c f h (xs ++ ys) r
+sends_then (Ok y) first s = record { ok = appends_both _ _ _ _ _ first.ok s.ok; err = tt; cause = tt; steady = s.steady ∙ first.steady; count = omega (arith, first.count, s.count) }
+sends_then {T} {E} {U} {a} {b} {c} {f} {g} {h} (Err e) first s = record {
+  ok = tt;
+  err = part_behind _ _ _ _ _ first.ok s.err;
+  cause = subst (λ n. Rose n h) first.steady s.cause;
+  steady = tt;
+  count = omega (arith, first.count, s.count);
+}
 
 -- the first text was sent in part
-pub sends_part : {T E : Type 0} (a b : Option (List ℕ)) (f g : ℕ) (xs ys : List ℕ) (e : E) → Sends {T = T} a b f g xs (Err e) → Sends {T = T} a b f g (xs ++ ys) (Err e)
-sends_part a b f g xs ys e s = record { ok = tt; err = part_of_longer a b xs ys s.err; cause = s.cause; count = s.count }
+pub sends_part : {T E : Type 0} {a b : Option (List ℕ)} {f g : ℕ} {xs : List ℕ} (ys : List ℕ) {e : E} → Sends {T = T} a b f g xs (Err e) → Sends {T = T} a b f g (xs ++ ys) (Err e)
+sends_part ys s = record { ok = tt; err = part_of_longer _ _ _ ys s.err; cause = s.cause; steady = tt; count = s.count }
 
--- the first bytes of a text were sent, and the count has not fallen
+-- the first bytes of a text were sent, and no put failed
 pub record SentTo (old new : Option (List ℕ)) (before now : ℕ) (text : List ℕ) (done : ℕ) : Type 0 where
   pub within : done ≤ length text
   pub appended : Appends old new (take done text)
-  pub count : before ≤ now
+  pub steady : now ≡ before
 
 -- one more piece, up to an index e
-pub sent_on : (a b c : Option (List ℕ)) (f g h : ℕ) (text : List ℕ) (d e : ℕ) → SentTo a b f g text d → d < e → e ≤ length text → Appends b c (take (e - d) (drop d text)) → g ≤ h → SentTo a c f h text e
-sent_on a b c f g h text d e so_far lt le piece count =
+pub sent_on : (a b c : Option (List ℕ)) (f g h : ℕ) (text : List ℕ) (d e : ℕ) → SentTo a b f g text d → d < e → e ≤ length text → Appends b c (take (e - d) (drop d text)) → h ≡ g → SentTo a c f h text e
+sent_on a b c f g h text d e so_far lt le piece same =
     let there : d + (e - d) ≡ e = omega arith in
     let sent : Appends a c (take (d + (e - d)) text) = appends_on a b c text d (e - d) so_far.appended piece in
-    record { within = le; appended = subst (λ n. Appends a c (take n text)) there sent; count = omega (arith, so_far.count, count) }
+    record { within = le; appended = subst (λ n. Appends a c (take n text)) there sent; steady = same ∙ so_far.steady }
 
 -- one more piece was sent in part
 pub sent_part : {T E : Type 0} (a b c : Option (List ℕ)) (f g h : ℕ) (text : List ℕ) (d e : ℕ) (x : E) → SentTo a b f g text d → d < e → e ≤ length text → Sends {T = T} b c g h (take (e - d) (drop d text)) (Err x) → Sends {T = T} a c f h text (Err x)
@@ -52,6 +58,7 @@ sent_part a b c f g h text d e x so_far lt le piece =
     record {
       ok = tt;
       err = subst (λ t. AppendsPart a c t) (take-append-drop e text) (part_of_longer a c (take e text) (drop e text) part);
-      cause = rose_later f g h so_far.count piece.cause;
-      count = omega (arith, so_far.count, piece.count);
+      cause = subst (λ n. Rose n h) so_far.steady piece.cause;
+      steady = tt;
+      count = omega (arith, so_far.steady, piece.count);
     }

@@ -1,6 +1,6 @@
 //! Whole lines into a sink.
 
-ghost use Rattle.std.specs.Prelude.{◌≡◌, OnOk};
+ghost use Rattle.std.specs.Prelude.{◌≡◌};
 ghost use Rattle.trace_text.specs.Sent.{Sends};
 
 use rp_ports::sink::{Put, Sink};
@@ -21,7 +21,6 @@ impl<'a, O: Sink> Writer<'a, O> {
     pub fn line(&mut self, bytes: &[u8]) -> Result<(), SinkFault>
         ensures sends { Sends (O.written self.old.out.now) (O.written self.new.out.now)
             (O.faults self.old.out.now) (O.faults self.new.out.now) bytes.now result }
-        ensures steady { OnOk result (O.faults self.new.out.now ≡ O.faults self.old.out.now) }
         ensures same_sink { self.new.out.ghost_name ≡ self.old.out.ghost_name }
     {
         let mut done = 0;

@@ -18,7 +18,7 @@ returns-in-Ok-clause-ends g c cycle seen whole old before steps none gives along
     let w = setting_of c.args.world.now.script.now (g.X.Device.meaning c.args.world.now.device.now) c.args.world.now.limit in
     let f = first_of c.args.session.now in
     end_said (talk_of w f) cycle seen whole old _ _ before _ _ steps _ _ _ _ c.in-Ok.field-0 tt (some_is c.args.given.now whole c.is_empty.result c.is_empty.ensures c.if-is_empty.false gives) none along
-    (answers_alike (talk_of w f) _ c.answer.new.session.now.cycle c.args.given.now (take given_bytes whole) whole _ _ _ _ _ _ _ gives (open_alike w f whole) h.more h.other h.sends h.steady h.cycle h.forward h.within)
+    (answers_alike (talk_of w f) _ c.answer.new.session.now.cycle c.args.given.now (take given_bytes whole) whole _ _ _ _ _ _ _ gives (open_alike w f whole) h.more h.other h.sends h.cycle h.forward h.within)
 
 pub returns-in-Err-clause-ends : goal.returns-in-Err-clause-ends
 returns-in-Err-clause-ends g c cycle seen whole old before steps none gives along =
@@ -26,4 +26,4 @@ returns-in-Err-clause-ends g c cycle seen whole old before steps none gives alon
     let w = setting_of c.args.world.now.script.now (g.X.Device.meaning c.args.world.now.device.now) c.args.world.now.limit in
     let f = first_of c.args.session.now in
     end_cut (talk_of w f) cycle seen whole old _ _ before _ _ steps _ _ _ c.answer.new.session.now.cycle c.in-Err.fault (some_is c.args.given.now whole c.is_empty.result c.is_empty.ensures c.if-is_empty.false gives) none along
-    (answers_alike (talk_of w f) _ c.answer.new.session.now.cycle c.args.given.now (take given_bytes whole) whole _ _ _ _ _ _ _ gives (open_alike w f whole) h.more h.other h.sends h.steady h.cycle h.forward h.within)
+    (answers_alike (talk_of w f) _ c.answer.new.session.now.cycle c.args.given.now (take given_bytes whole) whole _ _ _ _ _ _ _ gives (open_alike w f whole) h.more h.other h.sends h.cycle h.forward h.within)

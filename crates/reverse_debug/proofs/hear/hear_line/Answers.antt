@@ -16,4 +16,4 @@ returns-clause-feeds g c cycle seen whole old before steps none gives along =
     let f = first_of c.args.session.now in
     let is = c.without_return.ensures ∙ ap strip_carriage_return gives in
     along_line (talk_of w f) cycle seen whole old _ _ before _ _ steps _ _ _ _ _ none along
-    (answers_alike (talk_of w f) _ _ c.without_return.result.now (line_of (take given_bytes whole)) (line_of whole) _ _ _ _ _ _ _ is (line_alike w f whole) h.more h.other h.sends h.steady h.cycle h.forward h.within)
+    (answers_alike (talk_of w f) _ _ c.without_return.result.now (line_of (take given_bytes whole)) (line_of whole) _ _ _ _ _ _ _ is (line_alike w f whole) h.more h.other h.sends h.cycle h.forward h.within)
