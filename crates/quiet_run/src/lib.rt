@@ -12,4 +12,4 @@ pub mod ways;
 
 pub use onward::Watch;
 pub use pass::pass_waiting;
-pub use ways::{pass_quiet, pass_watched};
+pub use ways::{Pace, pass_paced, pass_quiet, pass_watched};

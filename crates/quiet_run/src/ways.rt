@@ -11,6 +11,15 @@ use lane_look::{Device, Marks};
 use rp_machine::{Machine, Steps, World};
 use std::sync::ledger::Ledger;
 
+/// When a way over many cycles is tried: after one, three, seven and then always fifteen cycles behind tries that went over none, so that a
+/// run in which somebody has something to do in each cycle does not pay for a try in each.
+#[derive(Clone, Copy, Default)]
+pub struct Pace {
+    // before this cycle nothing is tried, which is so many behind the last try
+    next: u64,
+    apart: u64,
+}
+
 /// Goes over cycles in which core 0 alone is at work in SRAM beside quiet peripherals and nothing stops it, at most up to a cycle, and counts
 /// them. Gives how many there are, 0 also where an access lasts or core 1 is awake. Each of them happens, has no events, and leaves the pads
 /// as they are.
@@ -58,4 +67,35 @@ pub fn pass_quiet<X: Device, L: Ledger>(
         return pass_waiting(machine, world, to, steps);
     }
     pass_watched(machine, world, to, &Unwatched, marks, steps)
+}
+
+/// The same, where the pace has it that it is worth while to try.
+#[inline(always)]
+pub fn pass_paced<X: Device, L: Ledger>(
+    machine: &mut Machine,
+    world: &World<'_, X>,
+    to: u64,
+    pace: &mut Pace,
+    marks: &mut Marks,
+    steps: &mut Steps<L>,
+) -> u64
+    requires { to ≤ world.now.limit }
+    ensures state { machine.new ≡ states (setting X.meaning world.now) machine.old result }
+    ensures quiet { IsQuiet (setting X.meaning world.now) machine.old result }
+    ensures within { 0 < result → machine.old.cycle + result ≤ to }
+    ensures marks { marks.new ≡ marks.old }
+    ensures steps { steps.new ≡ steps.old + result }
+{
+    let at = machine.number();
+    if at < pace.next || machine.fabric.holds() {
+        return 0;
+    }
+    let done = pass_quiet(machine, world, to, marks, steps);
+    if done == 0 {
+        pace.apart = (pace.apart << 1 | 1) & 15;
+        pace.next = at.saturating_add(pace.apart);
+    } else {
+        pace.apart = 0;
+    }
+    done
 }

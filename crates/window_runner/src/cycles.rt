@@ -13,7 +13,7 @@ ghost use Rattle.window_runner.specs.Alone.{IsOnRun, FailsWithin, stop_in};
 use crate::alone::tell_step;
 use lane_look::{Device, Marks};
 use outer_lane::World;
-use quiet_run::pass_quiet;
+use quiet_run::{Pace, pass_paced};
 use rp_base::Why;
 use rp_machine::begun::Begun;
 use rp_machine::{Machine, Steps, is_bounded};
@@ -76,8 +76,9 @@ pub fn run_cycles<X: Device, T: Tape, L: Ledger>(
 {
     let mut begun = Begun::nothing();
     let mut marks = Marks::new();
+    let mut pace = Pace::default();
     'cycles: loop {
-        pass_quiet(machine, world, world.limit, &mut marks, steps);
+        pass_paced(machine, world, world.limit, &mut pace, &mut marks, steps);
         match cycle_told(machine, world, &mut begun, &mut marks, tape, steps) {
             Ok(None) => continue 'cycles,
             Ok(Some(why)) => return Ok(why),
