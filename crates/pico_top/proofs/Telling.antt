@@ -117,12 +117,12 @@ pub opened_cycle : (w : Setting) (session : Standing) (limit : ℕ) → w.limit 
 opened_cycle w session limit e h = ap (λ (s : State). s.cycle) h.now ∙ (h.stands w e).begins
 
 -- lines were heard, and this was put
-heard_so : (w : Setting) (f : State) (source source' : Drawn) (a b : Sunk) (old new : Option (List ℕ)) (before now steps steps' status : ℕ) (result : Result Way SinkFault)
-    (h : Hears (talk_of w f) 0 input_limit source.left source'.left source.faults source'.faults old new before now steps steps' result)
+heard_so : (w : Setting) (f : State) (source source' : Drawn) (a b : Sunk) (old new : Option (List ℕ)) (before now steps steps' at status : ℕ) (result : Result Way SinkFault)
+    (h : Hears (talk_of w f) 0 input_limit source.left source'.left source.faults source'.faults old new before now steps steps' at result)
     → IsTaken source.left source'.left source.faults source'.faults status h.bytes h.way
     → Puts a b status (way_status h.way) (text_from (talk_of w f) 0 (lines_heard quits h.way h.bytes) ++ way_line h.way)
     → Concludes (hear input_limit quits (session_reply w f)) source source' a b steps steps' status
-heard_so w f source source' a b old new before now steps steps' status result h taken puts = record {
+heard_so w f source source' a b old new before now steps steps' at status result h taken puts = record {
   ending = Heard h.bytes h.way (heard_as quits (session_reply w f) h.bytes h.way);
   walked = λ files. inl ([], tt, (h.bytes, h.way, h.within, h.may, refl));
   loaded = λ failed. refl;
@@ -132,26 +132,26 @@ heard_so w f source source' a b old new before now steps steps' status result h 
 }
 
 -- the hearing ended, and the line of its way was put
-pub tells_heard : (w : Setting) (f : State) (source source' : Drawn) (a b c : Sunk) (steps steps' status : ℕ) (way : Way) (cycle : ℕ) → cycle ≡ 0
-    → Hears (talk_of w f) cycle input_limit source.left source'.left source.faults source'.faults a.written b.written a.faults b.faults steps steps' (Ok way)
+pub tells_heard : (w : Setting) (f : State) (source source' : Drawn) (a b c : Sunk) (steps steps' at status : ℕ) (way : Way) (cycle : ℕ) → cycle ≡ 0
+    → Hears (talk_of w f) cycle input_limit source.left source'.left source.faults source'.faults a.written b.written a.faults b.faults steps steps' at (Ok way)
     → Puts b c status (way_status way) (way_line way) → Concludes (hear input_limit quits (session_reply w f)) source source' a c steps steps' status
-tells_heard w f source source' a b c steps steps' status way cycle zero h₀ puts =
-    let h : Hears (talk_of w f) 0 input_limit source.left source'.left source.faults source'.faults a.written b.written a.faults b.faults steps steps' (Ok way) =
-    subst (λ p. Hears (talk_of w f) p input_limit source.left source'.left source.faults source'.faults a.written b.written a.faults b.faults steps steps' (Ok way)) zero h₀ in
+tells_heard w f source source' a b c steps steps' at status way cycle zero h₀ puts =
+    let h : Hears (talk_of w f) 0 input_limit source.left source'.left source.faults source'.faults a.written b.written a.faults b.faults steps steps' at (Ok way) =
+    subst (λ p. Hears (talk_of w f) p input_limit source.left source'.left source.faults source'.faults a.written b.written a.faults b.faults steps steps' at (Ok way)) zero h₀ in
     let last : Puts b c status (way_status h.way) (way_line h.way) = subst (λ (x : Way). Puts b c status (way_status x) (way_line x)) h.is puts in
-    heard_so w f source source' a c _ _ _ _ steps steps' status (Ok way) h
+    heard_so w f source source' a c _ _ _ _ steps steps' at status (Ok way) h
     (record { taken = h.taken.taken; forward = h.taken.forward; borne = bears source'.left source.faults source'.faults status h.way h.taken.borne })
-    (last.0, writes_then {U = Way} {F = SinkFault} a b c _ (way_line h.way) way last.0 (record { ok = h.sends.ok; err = tt; cause = tt; steady = h.steady; count = h.sends.count }) last.1, last.2)
+    (last.0, writes_then {U = Way} {F = SinkFault} a b c _ (way_line h.way) way last.0 (record { ok = h.sends.ok; err = tt; cause = tt; steady = h.sends.steady; count = h.sends.count }) last.1, last.2)
 
 -- the sink failed at an answer
-pub tells_cut : (w : Setting) (f : State) (source source' : Drawn) (a b : Sunk) (steps steps' : ℕ) (fault : SinkFault) (cycle : ℕ) → cycle ≡ 0
-    → Hears (talk_of w f) cycle input_limit source.left source'.left source.faults source'.faults a.written b.written a.faults b.faults steps steps' (Err fault)
+pub tells_cut : (w : Setting) (f : State) (source source' : Drawn) (a b : Sunk) (steps steps' at : ℕ) (fault : SinkFault) (cycle : ℕ) → cycle ≡ 0
+    → Hears (talk_of w f) cycle input_limit source.left source'.left source.faults source'.faults a.written b.written a.faults b.faults steps steps' at (Err fault)
     → Concludes (hear input_limit quits (session_reply w f)) source source' a b steps steps' 7
-tells_cut w f source source' a b steps steps' fault cycle zero h₀ =
-    let h : Hears (talk_of w f) 0 input_limit source.left source'.left source.faults source'.faults a.written b.written a.faults b.faults steps steps' (Err fault) =
-    subst (λ p. Hears (talk_of w f) p input_limit source.left source'.left source.faults source'.faults a.written b.written a.faults b.faults steps steps' (Err fault)) zero h₀ in
+tells_cut w f source source' a b steps steps' at fault cycle zero h₀ =
+    let h : Hears (talk_of w f) 0 input_limit source.left source'.left source.faults source'.faults a.written b.written a.faults b.faults steps steps' at (Err fault) =
+    subst (λ p. Hears (talk_of w f) p input_limit source.left source'.left source.faults source'.faults a.written b.written a.faults b.faults steps steps' at (Err fault)) zero h₀ in
     let cut : Writes {T = Unit {0}} a b (text_from (talk_of w f) 0 (lines_heard quits h.way h.bytes)) (Err fault) = record { ok = tt; err = h.sends.err; cause = h.sends.cause; steady = tt; count = h.sends.count } in
-    heard_so w f source source' a b _ _ _ _ steps steps' 7 (Err fault) h h.taken
+    heard_so w f source source' a b _ _ _ _ steps steps' at 7 (Err fault) h h.taken
     (Err fault, writes_part a b _ (way_line h.way) fault cut, refl)
 
 -- ---- what a tape that is such a sink was told

@@ -18,7 +18,7 @@ use Rattle.reverse_debug.specs.Way.{Answered, Along, CutOff, IsClosed, Feeds, Fi
 use Rattle.reverse_debug.proofs.NextLines.{consumes_none, consumes_both}
 use Rattle.reverse_debug.proofs.LineLists.{lines_open, all_open, until_all, until_last, until_other}
 use Rattle.rp_ports.proofs.Pieces.{appends_both}
-use Rattle.reverse_debug.proofs.Talks.{Answers, text_both, cost_both, cost_snoc, text_snoc, other_text, other_cost, last_text, last_cost, not_true, not_false, along_first, answered_same, cut_more, cut_behind, closed_more}
+use Rattle.reverse_debug.proofs.Talks.{Answers, text_both, cost_both, cost_snoc, cycle_snoc, text_snoc, other_text, other_cost, other_moved, last_text, last_cost, last_moved, not_true, not_false, along_first, answered_same, cut_more, cut_behind, closed_more}
 
 -- ---- the open line at the end
 
@@ -42,11 +42,11 @@ some_is given whole b is other gives none =
     let zero : length whole ≡ 0 = ap length none in
     some (omega (arith, same, zero, length-take given_bytes whole))
 
-pub end_empty : (t : Talk) (cycle : ℕ) (seen whole : List ℕ) (old new : Option (List ℕ)) (before now steps steps' at : ℕ) (done : Unit {0}) → whole ≡ [] → HasNoEnd whole → Along t cycle seen old new before now steps steps' at → Finishes t cycle (all_lines (seen ++ whole)) old new before now steps steps' (Ok done)
+pub end_empty : (t : Talk) (cycle : ℕ) (seen whole : List ℕ) (old new : Option (List ℕ)) (before now steps steps' at : ℕ) (done : Unit {0}) → whole ≡ [] → HasNoEnd whole → Along t cycle seen old new before now steps steps' at → Finishes t cycle (all_lines (seen ++ whole)) old new before now steps steps' at (Ok done)
 end_empty t cycle seen whole old new before now steps steps' at done empty none a =
     let lines : all_lines (seen ++ whole) ≡ complete_lines seen = all_open seen whole a.whole none ∙ ap (λ k. complete_lines seen ++ unless_empty k) empty ∙ append-nil (complete_lines seen) in
     let cut : until t.last (all_lines (seen ++ whole)) ≡ complete_lines seen = ap (until t.last) lines ∙ until_all t.last (complete_lines seen) a.none in
-    answered_same t cycle _ _ old new before now steps steps' (sym cut) a.answered
+    answered_same t cycle _ _ old new before now steps steps' at (sym cut) a.answered
 
 -- an open line that is not empty is a line
 one_line : (kept : List ℕ) → (kept ≡ [] → ⊥) → unless_empty kept ≡ kept ∷ []
@@ -54,17 +54,18 @@ one_line [] some = absurd (some refl)
 one_line (b ∷ bs) some = refl
 
 -- it was answered
-pub end_said : (t : Talk) (cycle : ℕ) (seen whole : List ℕ) (old new later : Option (List ℕ)) (before now last steps steps' more at at' : ℕ) (b : Bool) (done : Unit {0}) → (whole ≡ [] → ⊥) → HasNoEnd whole → Along t cycle seen old new before now steps steps' at → Answers t at at' whole new later now last steps' more (Ok b) → Finishes t cycle (all_lines (seen ++ whole)) old later before last steps more (Ok done)
+pub end_said : (t : Talk) (cycle : ℕ) (seen whole : List ℕ) (old new later : Option (List ℕ)) (before now last steps steps' more at at' : ℕ) (b : Bool) (done : Unit {0}) → (whole ≡ [] → ⊥) → HasNoEnd whole → Along t cycle seen old new before now steps steps' at → Answers t at at' whole new later now last steps' more (Ok b) → Finishes t cycle (all_lines (seen ++ whole)) old later before last steps more at' (Ok done)
 end_said t cycle seen whole old new later before now last steps steps' more at at' true done some none a h =
     let differs : t.last whole ≡ false = not_true (t.last whole) h.more in
     let lines : all_lines (seen ++ whole) ≡ complete_lines seen ++ whole ∷ [] = all_open seen whole a.whole none ∙ ap (λ l. complete_lines seen ++ l) (one_line whole some) in
     let cut : until t.last (all_lines (seen ++ whole)) ≡ complete_lines seen ++ whole ∷ [] = ap (until t.last) lines ∙ until_other t.last (complete_lines seen) [] whole a.none differs in
-    let here : cycle_after t cycle (complete_lines seen) ≡ at = sym a.stands in
+    let here : cycle_after t cycle (complete_lines seen) ≡ at = sym a.answered.stands in
     let sent : Appends new later (t.reply (cycle_after t cycle (complete_lines seen)) whole) = subst (λ p. Appends new later (t.reply p whole)) (sym here) (subst (λ x. Appends new later x) (other_text t at whole differs) h.sends.ok) in
     let cost : more ≤ steps' + t.cost (cycle_after t cycle (complete_lines seen)) whole = subst (λ p. more ≤ steps' + t.cost p whole) (sym here) (subst (λ n. more ≤ steps' + n) (other_cost t at whole differs) h.within) in
-    answered_same t cycle _ _ old later before last steps more (sym cut) (record {
+    answered_same t cycle _ _ old later before last steps more at' (sym cut) (record {
       sent = subst (λ x. Appends old later x) (sym (text_snoc t cycle (complete_lines seen) whole)) (appends_both old new later _ _ a.answered.sent sent);
       steady = h.sends.steady ∙ a.answered.steady;
+      stands = h.moved ∙ other_moved t at whole differs ∙ cycle_snoc t cycle (complete_lines seen) whole at a.answered.stands;
       forward = omega (arith, a.answered.forward, h.forward);
       most = omega (arith, a.answered.most, cost, cost_snoc t cycle (complete_lines seen) whole);
     })
@@ -73,17 +74,18 @@ end_said t cycle seen whole old new later before now last steps steps' more at a
     let lines : all_lines (seen ++ whole) ≡ complete_lines seen ++ whole ∷ [] = all_open seen whole a.whole none ∙ ap (λ l. complete_lines seen ++ l) (one_line whole some) in
     let cut : until t.last (all_lines (seen ++ whole)) ≡ complete_lines seen = ap (until t.last) lines ∙ until_last t.last (complete_lines seen) [] whole a.none ends in
     let sent : Appends new later [] = subst (λ x. Appends new later x) (last_text t at whole ends) h.sends.ok in
-    answered_same t cycle _ _ old later before last steps more (sym cut) (record {
+    answered_same t cycle _ _ old later before last steps more at' (sym cut) (record {
       sent = subst (λ x. Appends old later x) (append-nil (text_from t cycle (complete_lines seen))) (appends_both old new later _ [] a.answered.sent sent);
       steady = h.sends.steady ∙ a.answered.steady;
+      stands = h.moved ∙ last_moved t at whole ends ∙ a.answered.stands;
       forward = omega (arith, a.answered.forward, h.forward);
       most = omega (arith, a.answered.most, h.within, last_cost t at whole ends);
     })
 
 -- the sink failed at its reply
-pub end_cut : (t : Talk) (cycle : ℕ) (seen whole : List ℕ) (old new later : Option (List ℕ)) (before now last steps steps' more at at' : ℕ) (fault : SinkFault) → (whole ≡ [] → ⊥) → HasNoEnd whole → Along t cycle seen old new before now steps steps' at → Answers t at at' whole new later now last steps' more (Err fault) → Finishes t cycle (all_lines (seen ++ whole)) old later before last steps more (Err fault)
+pub end_cut : (t : Talk) (cycle : ℕ) (seen whole : List ℕ) (old new later : Option (List ℕ)) (before now last steps steps' more at at' : ℕ) (fault : SinkFault) → (whole ≡ [] → ⊥) → HasNoEnd whole → Along t cycle seen old new before now steps steps' at → Answers t at at' whole new later now last steps' more (Err fault) → Finishes t cycle (all_lines (seen ++ whole)) old later before last steps more at' (Err fault)
 end_cut t cycle seen whole old new later before now last steps steps' more at at' fault some none a h =
-    let here : cycle_after t cycle (complete_lines seen) ≡ at = sym a.stands in
+    let here : cycle_after t cycle (complete_lines seen) ≡ at = sym a.answered.stands in
     let part : AppendsPart new later (t.reply (cycle_after t cycle (complete_lines seen)) whole) = subst (λ p. AppendsPart new later (t.reply p whole)) (sym here) (subst (λ x. AppendsPart new later x) (other_text t at whole h.other) h.sends.err) in
     let cost : more ≤ steps' + t.cost (cycle_after t cycle (complete_lines seen)) whole = subst (λ p. more ≤ steps' + t.cost p whole) (sym here) (subst (λ n. more ≤ steps' + n) (other_cost t at whole h.other) h.within) in
     record {
@@ -122,8 +124,8 @@ cut_sends t cycle lines old new before now steps steps' fault c =
     )
 
 -- the hearing ends at a last line
-pub hears_closed : (t : Talk) (cycle limit : ℕ) (bytes : List ℕ) (left left' : Option (List ℕ)) (lost lost' : ℕ) (old new : Option (List ℕ)) (before now steps steps' : ℕ) → length bytes ≤ limit → Consumes left left' bytes → lost' ≡ lost → IsClosed t cycle bytes old new before now steps steps' → Hears t cycle limit left left' lost lost' old new before now steps steps' (Ok Closed)
-hears_closed t cycle limit bytes left left' lost lost' old new before now steps steps' le consumed same c = record {
+pub hears_closed : (t : Talk) (cycle limit : ℕ) (bytes : List ℕ) (left left' : Option (List ℕ)) (lost lost' : ℕ) (old new : Option (List ℕ)) (before now steps steps' at : ℕ) → length bytes ≤ limit → Consumes left left' bytes → lost' ≡ lost → IsClosed t cycle bytes old new before now steps steps' at → Hears t cycle limit left left' lost lost' old new before now steps steps' at (Ok Closed)
+hears_closed t cycle limit bytes left left' lost lost' old new before now steps steps' at le consumed same c = record {
   bytes = bytes;
   way = Closed;
   within = le;
@@ -131,13 +133,14 @@ hears_closed t cycle limit bytes left left' lost lost' old new before now steps 
   taken = record { taken = consumed; forward = omega (arith, same); borne = same };
   is = refl;
   sends = record { ok = c.answered.sent; err = tt; cause = tt; steady = c.answered.steady; count = omega (arith, c.answered.steady) };
+  stands = c.answered.stands;
   forward = c.answered.forward;
   most = c.answered.most;
 }
 
 -- at the end of the input
-pub hears_ended : (t : Talk) (cycle limit : ℕ) (bytes : List ℕ) (left left' : Option (List ℕ)) (lost lost' : ℕ) (old new : Option (List ℕ)) (before now steps steps' : ℕ) → length bytes < limit → closes t.last bytes ≡ false → Consumes left left' bytes → IsAtEnd left' → lost' ≡ lost → Answered t cycle (until t.last (all_lines bytes)) old new before now steps steps' → Hears t cycle limit left left' lost lost' old new before now steps steps' (Ok Ended)
-hears_ended t cycle limit bytes left left' lost lost' old new before now steps steps' lt none consumed end same a = record {
+pub hears_ended : (t : Talk) (cycle limit : ℕ) (bytes : List ℕ) (left left' : Option (List ℕ)) (lost lost' : ℕ) (old new : Option (List ℕ)) (before now steps steps' at : ℕ) → length bytes < limit → closes t.last bytes ≡ false → Consumes left left' bytes → IsAtEnd left' → lost' ≡ lost → Answered t cycle (until t.last (all_lines bytes)) old new before now steps steps' at → Hears t cycle limit left left' lost lost' old new before now steps steps' at (Ok Ended)
+hears_ended t cycle limit bytes left left' lost lost' old new before now steps steps' at lt none consumed end same a = record {
   bytes = bytes;
   way = Ended;
   within = omega (arith, lt);
@@ -145,22 +148,23 @@ hears_ended t cycle limit bytes left left' lost lost' old new before now steps s
   taken = record { taken = consumed; forward = omega (arith, same); borne = (same, inr end) };
   is = refl;
   sends = record { ok = a.sent; err = tt; cause = tt; steady = a.steady; count = omega (arith, a.steady) };
+  stands = a.stands;
   forward = a.forward;
   most = a.most;
 }
 
 -- the complete lines were answered, and nothing more is heard
-whole_lines : (t : Talk) (cycle : ℕ) (seen whole : List ℕ) (old new : Option (List ℕ)) (before now steps steps' at : ℕ) → HasNoEnd whole → Along t cycle seen old new before now steps steps' at → Answered t cycle (until t.last (complete_lines (seen ++ whole))) old new before now steps steps'
+whole_lines : (t : Talk) (cycle : ℕ) (seen whole : List ℕ) (old new : Option (List ℕ)) (before now steps steps' at : ℕ) → HasNoEnd whole → Along t cycle seen old new before now steps steps' at → Answered t cycle (until t.last (complete_lines (seen ++ whole))) old new before now steps steps' at
 whole_lines t cycle seen whole old new before now steps steps' at none a =
-    answered_same t cycle _ _ old new before now steps steps' (sym (ap (until t.last) (lines_open seen whole none) ∙ until_all t.last (complete_lines seen) a.none)) a.answered
+    answered_same t cycle _ _ old new before now steps steps' at (sym (ap (until t.last) (lines_open seen whole none) ∙ until_all t.last (complete_lines seen) a.none)) a.answered
 
 -- none of them is a last one
 still_open : (t : Talk) (cycle : ℕ) (seen whole : List ℕ) (old new : Option (List ℕ)) (before now steps steps' at : ℕ) → HasNoEnd whole → Along t cycle seen old new before now steps steps' at → closes t.last (seen ++ whole) ≡ false
 still_open t cycle seen whole old new before now steps steps' at none a = ap (has_last t.last) (lines_open seen whole none) ∙ a.none
 
 -- at a take that failed
-hears_broken : (t : Talk) (cycle limit : ℕ) (bytes : List ℕ) (left left' : Option (List ℕ)) (lost lost' : ℕ) (old new : Option (List ℕ)) (before now steps steps' : ℕ) → length bytes < limit → closes t.last bytes ≡ false → Consumes left left' bytes → lost ≤ lost' → Rose lost lost' → Answered t cycle (until t.last (complete_lines bytes)) old new before now steps steps' → Hears t cycle limit left left' lost lost' old new before now steps steps' (Ok Broken)
-hears_broken t cycle limit bytes left left' lost lost' old new before now steps steps' lt none consumed later rose a = record {
+hears_broken : (t : Talk) (cycle limit : ℕ) (bytes : List ℕ) (left left' : Option (List ℕ)) (lost lost' : ℕ) (old new : Option (List ℕ)) (before now steps steps' at : ℕ) → length bytes < limit → closes t.last bytes ≡ false → Consumes left left' bytes → lost ≤ lost' → Rose lost lost' → Answered t cycle (until t.last (complete_lines bytes)) old new before now steps steps' at → Hears t cycle limit left left' lost lost' old new before now steps steps' at (Ok Broken)
+hears_broken t cycle limit bytes left left' lost lost' old new before now steps steps' at lt none consumed later rose a = record {
   bytes = bytes;
   way = Broken;
   within = omega (arith, lt);
@@ -168,13 +172,14 @@ hears_broken t cycle limit bytes left left' lost lost' old new before now steps 
   taken = record { taken = consumed; forward = later; borne = rose };
   is = refl;
   sends = record { ok = a.sent; err = tt; cause = tt; steady = a.steady; count = omega (arith, a.steady) };
+  stands = a.stands;
   forward = a.forward;
   most = a.most;
 }
 
 -- at the limit
-hears_full : (t : Talk) (cycle limit : ℕ) (bytes : List ℕ) (left left' : Option (List ℕ)) (lost lost' : ℕ) (old new : Option (List ℕ)) (before now steps steps' : ℕ) → length bytes ≡ limit → closes t.last bytes ≡ false → Consumes left left' bytes → lost' ≡ lost → Answered t cycle (until t.last (complete_lines bytes)) old new before now steps steps' → Hears t cycle limit left left' lost lost' old new before now steps steps' (Ok Full)
-hears_full t cycle limit bytes left left' lost lost' old new before now steps steps' full none consumed same a = record {
+hears_full : (t : Talk) (cycle limit : ℕ) (bytes : List ℕ) (left left' : Option (List ℕ)) (lost lost' : ℕ) (old new : Option (List ℕ)) (before now steps steps' at : ℕ) → length bytes ≡ limit → closes t.last bytes ≡ false → Consumes left left' bytes → lost' ≡ lost → Answered t cycle (until t.last (complete_lines bytes)) old new before now steps steps' at → Hears t cycle limit left left' lost lost' old new before now steps steps' at (Ok Full)
+hears_full t cycle limit bytes left left' lost lost' old new before now steps steps' at full none consumed same a = record {
   bytes = bytes;
   way = Full;
   within = omega (arith, full);
@@ -182,13 +187,14 @@ hears_full t cycle limit bytes left left' lost lost' old new before now steps st
   taken = record { taken = consumed; forward = omega (arith, same); borne = same };
   is = refl;
   sends = record { ok = a.sent; err = tt; cause = tt; steady = a.steady; count = omega (arith, a.steady) };
+  stands = a.stands;
   forward = a.forward;
   most = a.most;
 }
 
 -- the sink failed at a reply to one of the lines that count in this way
-cut_by : (t : Talk) (cycle limit : ℕ) (bytes : List ℕ) (way : Way) (left left' : Option (List ℕ)) (lost lost' : ℕ) (old new : Option (List ℕ)) (before now steps steps' : ℕ) (lines : List (List ℕ)) (fault : SinkFault) → length bytes ≤ limit → MayEnd limit (closes t.last bytes) (length bytes) way → BearsOut left' lost lost' 7 way → lines_heard t.last way bytes ≡ until t.last lines → Consumes left left' bytes → lost' ≡ lost → CutOff t cycle lines old new before now steps steps' → Hears t cycle limit left left' lost lost' old new before now steps steps' (Err fault)
-cut_by t cycle limit bytes way left left' lost lost' old new before now steps steps' lines fault le may borne same consumed kept c =
+cut_by : (t : Talk) (cycle limit : ℕ) (bytes : List ℕ) (way : Way) (left left' : Option (List ℕ)) (lost lost' : ℕ) (old new : Option (List ℕ)) (before now steps steps' at : ℕ) (lines : List (List ℕ)) (fault : SinkFault) → length bytes ≤ limit → MayEnd limit (closes t.last bytes) (length bytes) way → BearsOut left' lost lost' 7 way → lines_heard t.last way bytes ≡ until t.last lines → Consumes left left' bytes → lost' ≡ lost → CutOff t cycle lines old new before now steps steps' → Hears t cycle limit left left' lost lost' old new before now steps steps' at (Err fault)
+cut_by t cycle limit bytes way left left' lost lost' old new before now steps steps' at lines fault le may borne same consumed kept c =
     let s = cut_sends {T = Way} t cycle lines old new before now steps steps' fault c in
     record {
       bytes = bytes;
@@ -198,27 +204,28 @@ cut_by t cycle limit bytes way left left' lost lost' old new before now steps st
       taken = record { taken = consumed; forward = omega (arith, kept); borne = borne };
       is = tt;
       sends = subst (λ (l : List (List ℕ)). Sends {T = Way} old new before now (text_from t cycle l) (Err fault)) (sym same) s.0;
+      stands = tt;
       forward = c.forward;
       most = subst (λ (l : List (List ℕ)). steps' ≤ steps + cost_from t cycle l) (sym same) s.1;
     }
 
 -- the taking counts as ended after the bytes taken
-cut_way : (t : Talk) (cycle limit : ℕ) (bytes : List ℕ) (left left' : Option (List ℕ)) (lost lost' : ℕ) (old new : Option (List ℕ)) (before now steps steps' : ℕ) (fault : SinkFault) (closed short : Bool) → closes t.last bytes ≡ closed → nat_lt (length bytes) limit ≡ short → length bytes ≤ limit → Consumes left left' bytes → lost' ≡ lost → CutOff t cycle (complete_lines bytes) old new before now steps steps' → Hears t cycle limit left left' lost lost' old new before now steps steps' (Err fault)
-cut_way t cycle limit bytes left left' lost lost' old new before now steps steps' fault true short is lt le consumed same c =
-    cut_by t cycle limit bytes Closed left left' lost lost' old new before now steps steps' (complete_lines bytes) fault le is same refl consumed same c
-cut_way t cycle limit bytes left left' lost lost' old new before now steps steps' fault false true is lt le consumed same c =
-    cut_by t cycle limit bytes Ended left left' lost lost' old new before now steps steps' (all_lines bytes) fault le (is, grind (arith, lt)) (same, inl refl) refl consumed same (cut_more t cycle (complete_lines bytes) (unless_empty (open_line bytes)) old new before now steps steps' c)
-cut_way t cycle limit bytes left left' lost lost' old new before now steps steps' fault false false is lt le consumed same c =
+cut_way : (t : Talk) (cycle limit : ℕ) (bytes : List ℕ) (left left' : Option (List ℕ)) (lost lost' : ℕ) (old new : Option (List ℕ)) (before now steps steps' at : ℕ) (fault : SinkFault) (closed short : Bool) → closes t.last bytes ≡ closed → nat_lt (length bytes) limit ≡ short → length bytes ≤ limit → Consumes left left' bytes → lost' ≡ lost → CutOff t cycle (complete_lines bytes) old new before now steps steps' → Hears t cycle limit left left' lost lost' old new before now steps steps' at (Err fault)
+cut_way t cycle limit bytes left left' lost lost' old new before now steps steps' at fault true short is lt le consumed same c =
+    cut_by t cycle limit bytes Closed left left' lost lost' old new before now steps steps' at (complete_lines bytes) fault le is same refl consumed same c
+cut_way t cycle limit bytes left left' lost lost' old new before now steps steps' at fault false true is lt le consumed same c =
+    cut_by t cycle limit bytes Ended left left' lost lost' old new before now steps steps' at (all_lines bytes) fault le (is, grind (arith, lt)) (same, inl refl) refl consumed same (cut_more t cycle (complete_lines bytes) (unless_empty (open_line bytes)) old new before now steps steps' c)
+cut_way t cycle limit bytes left left' lost lost' old new before now steps steps' at fault false false is lt le consumed same c =
     let full : length bytes ≡ limit = grind (arith, lt, le) in
-    cut_by t cycle limit bytes Full left left' lost lost' old new before now steps steps' (complete_lines bytes) fault le (is, full) same refl consumed same c
+    cut_by t cycle limit bytes Full left left' lost lost' old new before now steps steps' at (complete_lines bytes) fault le (is, full) same refl consumed same c
 
-pub hears_cut : (t : Talk) (cycle limit : ℕ) (bytes : List ℕ) (left left' : Option (List ℕ)) (lost lost' : ℕ) (old new : Option (List ℕ)) (before now steps steps' : ℕ) (fault : SinkFault) → length bytes ≤ limit → Consumes left left' bytes → lost' ≡ lost → CutOff t cycle (complete_lines bytes) old new before now steps steps' → Hears t cycle limit left left' lost lost' old new before now steps steps' (Err fault)
-hears_cut t cycle limit bytes left left' lost lost' old new before now steps steps' fault le consumed same c =
-    cut_way t cycle limit bytes left left' lost lost' old new before now steps steps' fault (closes t.last bytes) (nat_lt (length bytes) limit) refl refl le consumed same c
+pub hears_cut : (t : Talk) (cycle limit : ℕ) (bytes : List ℕ) (left left' : Option (List ℕ)) (lost lost' : ℕ) (old new : Option (List ℕ)) (before now steps steps' at : ℕ) (fault : SinkFault) → length bytes ≤ limit → Consumes left left' bytes → lost' ≡ lost → CutOff t cycle (complete_lines bytes) old new before now steps steps' → Hears t cycle limit left left' lost lost' old new before now steps steps' at (Err fault)
+hears_cut t cycle limit bytes left left' lost lost' old new before now steps steps' at fault le consumed same c =
+    cut_way t cycle limit bytes left left' lost lost' old new before now steps steps' at fault (closes t.last bytes) (nat_lt (length bytes) limit) refl refl le consumed same c
 
-pub hears_end_cut : (t : Talk) (cycle limit : ℕ) (bytes : List ℕ) (left left' : Option (List ℕ)) (lost lost' : ℕ) (old new : Option (List ℕ)) (before now steps steps' : ℕ) (fault : SinkFault) → length bytes < limit → closes t.last bytes ≡ false → Consumes left left' bytes → lost' ≡ lost → CutOff t cycle (all_lines bytes) old new before now steps steps' → Hears t cycle limit left left' lost lost' old new before now steps steps' (Err fault)
-hears_end_cut t cycle limit bytes left left' lost lost' old new before now steps steps' fault lt none consumed same c =
-    cut_by t cycle limit bytes Ended left left' lost lost' old new before now steps steps' (all_lines bytes) fault (omega (arith, lt)) (none, lt) (same, inl refl) refl consumed same c
+pub hears_end_cut : (t : Talk) (cycle limit : ℕ) (bytes : List ℕ) (left left' : Option (List ℕ)) (lost lost' : ℕ) (old new : Option (List ℕ)) (before now steps steps' at : ℕ) (fault : SinkFault) → length bytes < limit → closes t.last bytes ≡ false → Consumes left left' bytes → lost' ≡ lost → CutOff t cycle (all_lines bytes) old new before now steps steps' → Hears t cycle limit left left' lost lost' old new before now steps steps' at (Err fault)
+hears_end_cut t cycle limit bytes left left' lost lost' old new before now steps steps' at fault lt none consumed same c =
+    cut_by t cycle limit bytes Ended left left' lost lost' old new before now steps steps' at (all_lines bytes) fault (omega (arith, lt)) (none, lt) (same, inl refl) refl consumed same c
 
 -- ---- one line after another
 
@@ -286,57 +293,57 @@ next_more t cycle limit left left' left'' lost lost' lost'' old new later before
     )
 
 -- it was a last one
-pub next_last : (t : Talk) (cycle limit : ℕ) (left left' left'' : Option (List ℕ)) (lost lost' lost'' : ℕ) (old new later : Option (List ℕ)) (before now last steps steps' more at at' : ℕ) (a b : Ahead) (given : List ℕ) (m : Bool) → m ≡ false → Taking t cycle limit left left' lost lost' old new before now steps steps' at a → Reads limit a b left' left'' lost' lost'' given read.Line → ((seen whole : List ℕ) → HasNoEnd whole → given ≡ take given_bytes whole → Along t cycle seen old new before now steps steps' at → Feeds t cycle (seen ++ (whole ++ 10 ∷ [])) old later before last steps more at' (Ok m)) → Hears t cycle limit left left'' lost lost'' old later before last steps more (Ok Closed)
+pub next_last : (t : Talk) (cycle limit : ℕ) (left left' left'' : Option (List ℕ)) (lost lost' lost'' : ℕ) (old new later : Option (List ℕ)) (before now last steps steps' more at at' : ℕ) (a b : Ahead) (given : List ℕ) (m : Bool) → m ≡ false → Taking t cycle limit left left' lost lost' old new before now steps steps' at a → Reads limit a b left' left'' lost' lost'' given read.Line → ((seen whole : List ℕ) → HasNoEnd whole → given ≡ take given_bytes whole → Along t cycle seen old new before now steps steps' at → Feeds t cycle (seen ++ (whole ++ 10 ∷ [])) old later before last steps more at' (Ok m)) → Hears t cycle limit left left'' lost lost'' old later before last steps more at' (Ok Closed)
 next_last t cycle limit left left' left'' lost lost' lost'' old new later before now last steps steps' more at at' a b given true goes k r feeds = absurd (cc goes)
 next_last t cycle limit left left' left'' lost lost' lost'' old new later before now last steps steps' more at at' a b given false goes k r feeds =
     let taken = line_taken t cycle limit left left' left'' lost lost' lost'' old new before now steps steps' at a b given k r in
     let same : lost'' ≡ lost' = r.ends in
-    hears_closed t cycle limit _ left left'' lost lost'' old later before last steps more (omega (arith, taken.1, r.within)) taken.0 (same ∙ k.steady) (closed_more t cycle (k.bytes ++ (r.line ++ 10 ∷ [])) b.rest old later before last steps more (feeds k.bytes r.line r.unended r.gives k.along))
+    hears_closed t cycle limit _ left left'' lost lost'' old later before last steps more at' (omega (arith, taken.1, r.within)) taken.0 (same ∙ k.steady) (closed_more t cycle (k.bytes ++ (r.line ++ 10 ∷ [])) b.rest old later before last steps more at' (feeds k.bytes r.line r.unended r.gives k.along))
 
 -- the sink failed at its reply
-pub next_cut : (t : Talk) (cycle limit : ℕ) (left left' left'' : Option (List ℕ)) (lost lost' lost'' : ℕ) (old new later : Option (List ℕ)) (before now last steps steps' more at at' : ℕ) (a b : Ahead) (given : List ℕ) (fault : SinkFault) → Taking t cycle limit left left' lost lost' old new before now steps steps' at a → Reads limit a b left' left'' lost' lost'' given read.Line → ((seen whole : List ℕ) → HasNoEnd whole → given ≡ take given_bytes whole → Along t cycle seen old new before now steps steps' at → Feeds t cycle (seen ++ (whole ++ 10 ∷ [])) old later before last steps more at' (Err fault)) → Hears t cycle limit left left'' lost lost'' old later before last steps more (Err fault)
+pub next_cut : (t : Talk) (cycle limit : ℕ) (left left' left'' : Option (List ℕ)) (lost lost' lost'' : ℕ) (old new later : Option (List ℕ)) (before now last steps steps' more at at' : ℕ) (a b : Ahead) (given : List ℕ) (fault : SinkFault) → Taking t cycle limit left left' lost lost' old new before now steps steps' at a → Reads limit a b left' left'' lost' lost'' given read.Line → ((seen whole : List ℕ) → HasNoEnd whole → given ≡ take given_bytes whole → Along t cycle seen old new before now steps steps' at → Feeds t cycle (seen ++ (whole ++ 10 ∷ [])) old later before last steps more at' (Err fault)) → Hears t cycle limit left left'' lost lost'' old later before last steps more at' (Err fault)
 next_cut t cycle limit left left' left'' lost lost' lost'' old new later before now last steps steps' more at at' a b given fault k r feeds =
     let taken = line_taken t cycle limit left left' left'' lost lost' lost'' old new before now steps steps' at a b given k r in
     let same : lost'' ≡ lost' = r.ends in
-    hears_cut t cycle limit _ left left'' lost lost'' old later before last steps more fault (omega (arith, taken.1, r.within)) taken.0 (same ∙ k.steady) (cut_behind t cycle (k.bytes ++ (r.line ++ 10 ∷ [])) b.rest old later before last steps more (feeds k.bytes r.line r.unended r.gives k.along))
+    hears_cut t cycle limit _ left left'' lost lost'' old later before last steps more at' fault (omega (arith, taken.1, r.within)) taken.0 (same ∙ k.steady) (cut_behind t cycle (k.bytes ++ (r.line ++ 10 ∷ [])) b.rest old later before last steps more (feeds k.bytes r.line r.unended r.gives k.along))
 
 -- the input has ended, and the open line was answered
-pub next_end : (t : Talk) (cycle limit : ℕ) (left left' left'' : Option (List ℕ)) (lost lost' lost'' : ℕ) (old new later : Option (List ℕ)) (before now last steps steps' more at : ℕ) (a b : Ahead) (given : List ℕ) (done : Unit {0}) → Taking t cycle limit left left' lost lost' old new before now steps steps' at a → Reads limit a b left' left'' lost' lost'' given read.Last → ((seen whole : List ℕ) → HasNoEnd whole → given ≡ take given_bytes whole → Along t cycle seen old new before now steps steps' at → Finishes t cycle (all_lines (seen ++ whole)) old later before last steps more (Ok done)) → Hears t cycle limit left left'' lost lost'' old later before last steps more (Ok Ended)
-next_end t cycle limit left left' left'' lost lost' lost'' old new later before now last steps steps' more at a b given done k r ends =
+pub next_end : (t : Talk) (cycle limit : ℕ) (left left' left'' : Option (List ℕ)) (lost lost' lost'' : ℕ) (old new later : Option (List ℕ)) (before now last steps steps' more at at' : ℕ) (a b : Ahead) (given : List ℕ) (done : Unit {0}) → Taking t cycle limit left left' lost lost' old new before now steps steps' at a → Reads limit a b left' left'' lost' lost'' given read.Last → ((seen whole : List ℕ) → HasNoEnd whole → given ≡ take given_bytes whole → Along t cycle seen old new before now steps steps' at → Finishes t cycle (all_lines (seen ++ whole)) old later before last steps more at' (Ok done)) → Hears t cycle limit left left'' lost lost'' old later before last steps more at' (Ok Ended)
+next_end t cycle limit left left' left'' lost lost' lost'' old new later before now last steps steps' more at at' a b given done k r ends =
     let taken = open_taken left left' left'' k.bytes a.rest r.bytes r.line a.taken b.taken k.consumed r.consumed k.long r.count r.splits.0 in
     let same : lost'' ≡ lost' = r.ends.0 in
-    hears_ended t cycle limit (k.bytes ++ r.line) left left'' lost lost'' old later before last steps more (omega (arith, taken.1, r.ends.1)) (still_open t cycle k.bytes r.line old new before now steps steps' at r.unended k.along) taken.0 r.ends.2 (same ∙ k.steady) (ends k.bytes r.line r.unended r.gives k.along)
+    hears_ended t cycle limit (k.bytes ++ r.line) left left'' lost lost'' old later before last steps more at' (omega (arith, taken.1, r.ends.1)) (still_open t cycle k.bytes r.line old new before now steps steps' at r.unended k.along) taken.0 r.ends.2 (same ∙ k.steady) (ends k.bytes r.line r.unended r.gives k.along)
 
-pub next_end_cut : (t : Talk) (cycle limit : ℕ) (left left' left'' : Option (List ℕ)) (lost lost' lost'' : ℕ) (old new later : Option (List ℕ)) (before now last steps steps' more at : ℕ) (a b : Ahead) (given : List ℕ) (fault : SinkFault) → Taking t cycle limit left left' lost lost' old new before now steps steps' at a → Reads limit a b left' left'' lost' lost'' given read.Last → ((seen whole : List ℕ) → HasNoEnd whole → given ≡ take given_bytes whole → Along t cycle seen old new before now steps steps' at → Finishes t cycle (all_lines (seen ++ whole)) old later before last steps more (Err fault)) → Hears t cycle limit left left'' lost lost'' old later before last steps more (Err fault)
-next_end_cut t cycle limit left left' left'' lost lost' lost'' old new later before now last steps steps' more at a b given fault k r ends =
+pub next_end_cut : (t : Talk) (cycle limit : ℕ) (left left' left'' : Option (List ℕ)) (lost lost' lost'' : ℕ) (old new later : Option (List ℕ)) (before now last steps steps' more at at' : ℕ) (a b : Ahead) (given : List ℕ) (fault : SinkFault) → Taking t cycle limit left left' lost lost' old new before now steps steps' at a → Reads limit a b left' left'' lost' lost'' given read.Last → ((seen whole : List ℕ) → HasNoEnd whole → given ≡ take given_bytes whole → Along t cycle seen old new before now steps steps' at → Finishes t cycle (all_lines (seen ++ whole)) old later before last steps more at' (Err fault)) → Hears t cycle limit left left'' lost lost'' old later before last steps more at' (Err fault)
+next_end_cut t cycle limit left left' left'' lost lost' lost'' old new later before now last steps steps' more at at' a b given fault k r ends =
     let taken = open_taken left left' left'' k.bytes a.rest r.bytes r.line a.taken b.taken k.consumed r.consumed k.long r.count r.splits.0 in
     let same : lost'' ≡ lost' = r.ends.0 in
-    hears_end_cut t cycle limit (k.bytes ++ r.line) left left'' lost lost'' old later before last steps more fault (omega (arith, taken.1, r.ends.1)) (still_open t cycle k.bytes r.line old new before now steps steps' at r.unended k.along) taken.0 (same ∙ k.steady) (ends k.bytes r.line r.unended r.gives k.along)
+    hears_end_cut t cycle limit (k.bytes ++ r.line) left left'' lost lost'' old later before last steps more at' fault (omega (arith, taken.1, r.ends.1)) (still_open t cycle k.bytes r.line old new before now steps steps' at r.unended k.along) taken.0 (same ∙ k.steady) (ends k.bytes r.line r.unended r.gives k.along)
 
 -- a take failed
-pub next_failed : (t : Talk) (cycle limit : ℕ) (left left' left'' : Option (List ℕ)) (lost lost' lost'' : ℕ) (old new : Option (List ℕ)) (before now steps steps' at : ℕ) (a b : Ahead) (given : List ℕ) → Taking t cycle limit left left' lost lost' old new before now steps steps' at a → Reads limit a b left' left'' lost' lost'' given read.Failed → Hears t cycle limit left left'' lost lost'' old new before now steps steps' (Ok Broken)
+pub next_failed : (t : Talk) (cycle limit : ℕ) (left left' left'' : Option (List ℕ)) (lost lost' lost'' : ℕ) (old new : Option (List ℕ)) (before now steps steps' at : ℕ) (a b : Ahead) (given : List ℕ) → Taking t cycle limit left left' lost lost' old new before now steps steps' at a → Reads limit a b left' left'' lost' lost'' given read.Failed → Hears t cycle limit left left'' lost lost'' old new before now steps steps' at (Ok Broken)
 next_failed t cycle limit left left' left'' lost lost' lost'' old new before now steps steps' at a b given k r =
     let taken = open_taken left left' left'' k.bytes a.rest r.bytes r.line a.taken b.taken k.consumed r.consumed k.long r.count r.splits.0 in
-    hears_broken t cycle limit (k.bytes ++ r.line) left left'' lost lost'' old new before now steps steps' (omega (arith, taken.1, r.ends.1)) (still_open t cycle k.bytes r.line old new before now steps steps' at r.unended k.along) taken.0 (omega (arith, k.steady, r.ends.0)) (rose_later lost lost' lost'' (omega (arith, k.steady)) r.ends.2) (whole_lines t cycle k.bytes r.line old new before now steps steps' at r.unended k.along)
+    hears_broken t cycle limit (k.bytes ++ r.line) left left'' lost lost'' old new before now steps steps' at (omega (arith, taken.1, r.ends.1)) (still_open t cycle k.bytes r.line old new before now steps steps' at r.unended k.along) taken.0 (omega (arith, k.steady, r.ends.0)) (rose_later lost lost' lost'' (omega (arith, k.steady)) r.ends.2) (whole_lines t cycle k.bytes r.line old new before now steps steps' at r.unended k.along)
 
 -- the limit is reached
-pub next_full : (t : Talk) (cycle limit : ℕ) (left left' left'' : Option (List ℕ)) (lost lost' lost'' : ℕ) (old new : Option (List ℕ)) (before now steps steps' at : ℕ) (a b : Ahead) (given : List ℕ) → Taking t cycle limit left left' lost lost' old new before now steps steps' at a → Reads limit a b left' left'' lost' lost'' given read.Full → Hears t cycle limit left left'' lost lost'' old new before now steps steps' (Ok Full)
+pub next_full : (t : Talk) (cycle limit : ℕ) (left left' left'' : Option (List ℕ)) (lost lost' lost'' : ℕ) (old new : Option (List ℕ)) (before now steps steps' at : ℕ) (a b : Ahead) (given : List ℕ) → Taking t cycle limit left left' lost lost' old new before now steps steps' at a → Reads limit a b left' left'' lost' lost'' given read.Full → Hears t cycle limit left left'' lost lost'' old new before now steps steps' at (Ok Full)
 next_full t cycle limit left left' left'' lost lost' lost'' old new before now steps steps' at a b given k r =
     let taken = open_taken left left' left'' k.bytes a.rest r.bytes r.line a.taken b.taken k.consumed r.consumed k.long r.count r.splits.0 in
     let same : lost'' ≡ lost' = r.ends.0 in
-    hears_full t cycle limit (k.bytes ++ r.line) left left'' lost lost'' old new before now steps steps' (omega (arith, taken.1, r.within, r.ends.1)) (still_open t cycle k.bytes r.line old new before now steps steps' at r.unended k.along) taken.0 (same ∙ k.steady) (whole_lines t cycle k.bytes r.line old new before now steps steps' at r.unended k.along)
+    hears_full t cycle limit (k.bytes ++ r.line) left left'' lost lost'' old new before now steps steps' at (omega (arith, taken.1, r.within, r.ends.1)) (still_open t cycle k.bytes r.line old new before now steps steps' at r.unended k.along) taken.0 (same ∙ k.steady) (whole_lines t cycle k.bytes r.line old new before now steps steps' at r.unended k.along)
 
 -- ---- a talk that is this one
 
-hears_same : (t u : Talk) (cycle limit : ℕ) (left left' : Option (List ℕ)) (lost lost' : ℕ) (old new : Option (List ℕ)) (before now steps steps' : ℕ) (result : Result Way SinkFault) → u ≡ t → Hears u cycle limit left left' lost lost' old new before now steps steps' result → Hears t cycle limit left left' lost lost' old new before now steps steps' result
-hears_same t u cycle limit left left' lost lost' old new before now steps steps' result same h = subst (λ (x : Talk). Hears x cycle limit left left' lost lost' old new before now steps steps' result) same h
+hears_same : (t u : Talk) (cycle limit : ℕ) (left left' : Option (List ℕ)) (lost lost' : ℕ) (old new : Option (List ℕ)) (before now steps steps' at : ℕ) (result : Result Way SinkFault) → u ≡ t → Hears u cycle limit left left' lost lost' old new before now steps steps' at result → Hears t cycle limit left left' lost lost' old new before now steps steps' at result
+hears_same t u cycle limit left left' lost lost' old new before now steps steps' at result same h = subst (λ (x : Talk). Hears x cycle limit left left' lost lost' old new before now steps steps' at result) same h
 
-pub way_hears : (t u : Talk) (cycle limit : ℕ) (left left' : Option (List ℕ)) (lost lost' : ℕ) (old new : Option (List ℕ)) (before now steps steps' at : ℕ) (ahead : Ahead) (more : ℕ) (x : Option Way) (way : Way) → x ≡ Some way → u ≡ t → IsAfterLine u cycle limit left left' lost lost' old new before now steps steps' at ahead more (Ok x) → Hears t cycle limit left left' lost lost' old new before now steps steps' (Ok way)
+pub way_hears : (t u : Talk) (cycle limit : ℕ) (left left' : Option (List ℕ)) (lost lost' : ℕ) (old new : Option (List ℕ)) (before now steps steps' at : ℕ) (ahead : Ahead) (more : ℕ) (x : Option Way) (way : Way) → x ≡ Some way → u ≡ t → IsAfterLine u cycle limit left left' lost lost' old new before now steps steps' at ahead more (Ok x) → Hears t cycle limit left left' lost lost' old new before now steps steps' at (Ok way)
 way_hears t u cycle limit left left' lost lost' old new before now steps steps' at ahead more x way is same came =
-    hears_same t u cycle limit left left' lost lost' old new before now steps steps' (Ok way) same (subst (λ (y : Option Way). IsAfterLine u cycle limit left left' lost lost' old new before now steps steps' at ahead more (Ok y)) is came)
+    hears_same t u cycle limit left left' lost lost' old new before now steps steps' at (Ok way) same (subst (λ (y : Option Way). IsAfterLine u cycle limit left left' lost lost' old new before now steps steps' at ahead more (Ok y)) is came)
 
-pub cut_hears : (t u : Talk) (cycle limit : ℕ) (left left' : Option (List ℕ)) (lost lost' : ℕ) (old new : Option (List ℕ)) (before now steps steps' at : ℕ) (ahead : Ahead) (more : ℕ) (fault : SinkFault) → u ≡ t → IsAfterLine u cycle limit left left' lost lost' old new before now steps steps' at ahead more (Err fault) → Hears t cycle limit left left' lost lost' old new before now steps steps' (Err fault)
-cut_hears t u cycle limit left left' lost lost' old new before now steps steps' at ahead more fault same came = hears_same t u cycle limit left left' lost lost' old new before now steps steps' (Err fault) same came
+pub cut_hears : (t u : Talk) (cycle limit : ℕ) (left left' : Option (List ℕ)) (lost lost' : ℕ) (old new : Option (List ℕ)) (before now steps steps' at : ℕ) (ahead : Ahead) (more : ℕ) (fault : SinkFault) → u ≡ t → IsAfterLine u cycle limit left left' lost lost' old new before now steps steps' at ahead more (Err fault) → Hears t cycle limit left left' lost lost' old new before now steps steps' at (Err fault)
+cut_hears t u cycle limit left left' lost lost' old new before now steps steps' at ahead more fault same came = hears_same t u cycle limit left left' lost lost' old new before now steps steps' at (Err fault) same came
 
 pub on_takes : (t u : Talk) (cycle limit : ℕ) (left left' : Option (List ℕ)) (lost lost' : ℕ) (old new : Option (List ℕ)) (before now steps steps' at : ℕ) (ahead : Ahead) (more : ℕ) (x : Option Way) → x ≡ None → u ≡ t → IsAfterLine u cycle limit left left' lost lost' old new before now steps steps' at ahead more (Ok x) → (behind limit ahead < more) × Taking t cycle limit left left' lost lost' old new before now steps steps' at ahead
 on_takes t u cycle limit left left' lost lost' old new before now steps steps' at ahead more x is same came =

@@ -12,7 +12,7 @@ use Rattle.reverse_debug.specs.Command.Command.{Step, Back, Goto, End, Regs, Mem
 use Rattle.reverse_debug.specs.Reply.{move_cost, command_cost, answer, heard, cost}
 use Rattle.reverse_debug.specs.Session.{Standing, StandsFor}
 use Rattle.reverse_debug.proofs.Moves.{quits_exactly}
-use Rattle.reverse_debug.specs.Talk.{spent_on}
+use Rattle.reverse_debug.specs.Talk.{spent_on, moved_by}
 use Rattle.reverse_debug.specs.Debugger.{quits, talk_of}
 use Rattle.reverse_debug.specs.Lines.{line_of}
 use Rattle.reverse_debug.specs.NextLine.{given_bytes}
@@ -24,29 +24,34 @@ pub line_quits : (w : Setting) (f : State) (cycle : ℕ) (line : List ℕ) → (
 unfolding heard
 line_quits w f cycle line = quits_exactly w f cycle (command_of line)
 
--- it takes no step
+-- it takes no step and moves nowhere
 no_move : (d c : ℕ) → move_cost d c c ≡ 0
 no_move d c = let isnt : nat_lt c c ≡ false = grind (arith, nat_tests) in rw isnt (omega arith)
 
-order_spent : (w : Setting) (f : State) (d cycle : ℕ) (q : Command) → command_cost w f d cycle q ≡ (if is_quit q then 0 else command_cost w f d cycle q)
-order_spent w f d cycle (Step n) = refl
-order_spent w f d cycle (Back n) = refl
-order_spent w f d cycle (Goto to) = refl
-order_spent w f d cycle End = refl
-order_spent w f d cycle Regs = refl
-order_spent w f d cycle (Mem address count) = refl
-order_spent w f d cycle Pins = refl
-order_spent w f d cycle (Pio block machine) = refl
-order_spent w f d cycle (Peek address) = refl
-order_spent w f d cycle (Until watched count) = refl
-order_spent w f d cycle (Before watched count) = refl
-order_spent w f d cycle (Last watched) = refl
-order_spent w f d cycle Quit = no_move d cycle
-order_spent w f d cycle Bad = refl
+order_stays : (w : Setting) (f : State) (d cycle : ℕ) (q : Command)
+    → (command_cost w f d cycle q ≡ (if is_quit q then 0 else command_cost w f d cycle q)) × ((answer w f cycle q).cycle ≡ (if is_quit q then cycle else (answer w f cycle q).cycle))
+order_stays w f d cycle (Step n) = (refl, refl)
+order_stays w f d cycle (Back n) = (refl, refl)
+order_stays w f d cycle (Goto to) = (refl, refl)
+order_stays w f d cycle End = (refl, refl)
+order_stays w f d cycle Regs = (refl, refl)
+order_stays w f d cycle (Mem address count) = (refl, refl)
+order_stays w f d cycle Pins = (refl, refl)
+order_stays w f d cycle (Pio block machine) = (refl, refl)
+order_stays w f d cycle (Peek address) = (refl, refl)
+order_stays w f d cycle (Until watched count) = (refl, refl)
+order_stays w f d cycle (Before watched count) = (refl, refl)
+order_stays w f d cycle (Last watched) = (refl, refl)
+order_stays w f d cycle Quit = (no_move d cycle, refl)
+order_stays w f d cycle Bad = (refl, refl)
 
 line_spent : (w : Setting) (f : State) (d cycle : ℕ) (line : List ℕ) → cost w f d cycle line ≡ (if quits line then 0 else cost w f d cycle line)
 unfolding cost
-line_spent w f d cycle line = order_spent w f d cycle (command_of line)
+line_spent w f d cycle line = (order_stays w f d cycle (command_of line)).0
+
+pub line_moved : (w : Setting) (f : State) (cycle at : ℕ) (line : List ℕ) → at ≡ (heard w f cycle line).cycle → at ≡ moved_by (talk_of w f) cycle line
+unfolding heard
+line_moved w f cycle at line e = e ∙ (order_stays w f 0 cycle (command_of line)).1
 
 pub within_talk : (w : Setting) (f : State) (d cycle : ℕ) (line : List ℕ) (before after : ℕ) → d ≡ spacing_of w.limit → after ≤ before + cost w f d cycle line → after ≤ before + spent_on (talk_of w f) cycle line
 within_talk w f d cycle line before after e h =
@@ -68,7 +73,7 @@ unfolding heard cost
 alike w f one other e = record {
   last = ap is_quit e;
   said = λ at. ap (λ (q : Command). if is_quit q then [] else (answer w f at q).reply) e;
-  next = λ at. ap (λ (q : Command). (answer w f at q).cycle) e;
+  moved = λ at. ap (λ (q : Command). if is_quit q then at else (answer w f at q).cycle) e;
   spent = λ at. ap (λ (q : Command). if is_quit q then 0 else command_cost w f (spacing_of w.limit) at q) e;
 }
 

@@ -8,7 +8,7 @@ use Rattle.trace_text.proofs.Sending.{part_behind, rose_later}
 use Rattle.trace_text.specs.declared.writer.SinkFault.{SinkFault}
 use Rattle.reverse_debug.specs.Lines.{line_of, complete_from, complete_lines, open_line, has_last, until}
 use Rattle.reverse_debug.specs.NextLine.{HasNoEnd}
-use Rattle.reverse_debug.specs.Talk.{Talk, text_from, cycle_after, cost_from, said_to, spent_on}
+use Rattle.reverse_debug.specs.Talk.{Talk, text_from, cycle_after, cost_from, said_to, spent_on, moved_by}
 use Rattle.reverse_debug.specs.Way.{Answered, Along, CutOff, IsClosed, Feeds}
 use Rattle.reverse_debug.proofs.LineLists.{complete_append, lines_more, open_more, closes_more, has_last_both, until_more, until_last, last_closes}
 
@@ -33,6 +33,9 @@ text_snoc t cycle xs line = text_both t cycle xs (line ∷ []) ∙ ap (λ r. tex
 pub cost_snoc : (t : Talk) (cycle : ℕ) (xs : List (List ℕ)) (line : List ℕ) → cost_from t cycle (xs ++ line ∷ []) ≡ cost_from t cycle xs + t.cost (cycle_after t cycle xs) line
 cost_snoc t cycle xs line = let e = cost_both t cycle xs (line ∷ []) in omega (arith, e)
 
+pub cycle_snoc : (t : Talk) (cycle : ℕ) (xs : List (List ℕ)) (line : List ℕ) (at : ℕ) → at ≡ cycle_after t cycle xs → t.next at line ≡ cycle_after t cycle (xs ++ line ∷ [])
+cycle_snoc t cycle xs line at here = ap (λ p. t.next p line) here ∙ sym (cycle_both t cycle xs (line ∷ []))
+
 -- ---- what is said to one line
 
 pub other_text : (t : Talk) (cycle : ℕ) (line : List ℕ) → t.last line ≡ false → said_to t cycle line ≡ t.reply cycle line
@@ -47,6 +50,12 @@ last_text t cycle line is = rw is refl
 pub last_cost : (t : Talk) (cycle : ℕ) (line : List ℕ) → t.last line ≡ true → spent_on t cycle line ≡ 0
 last_cost t cycle line is = rw is refl
 
+pub other_moved : (t : Talk) (cycle : ℕ) (line : List ℕ) → t.last line ≡ false → moved_by t cycle line ≡ t.next cycle line
+other_moved t cycle line is = rw is refl
+
+pub last_moved : (t : Talk) (cycle : ℕ) (line : List ℕ) → t.last line ≡ true → moved_by t cycle line ≡ cycle
+last_moved t cycle line is = rw is refl
+
 pub not_true : (b : Bool) → true ≡ not b → b ≡ false
 not_true true e = absurd (cc e)
 not_true false e = refl
@@ -60,7 +69,7 @@ pub record Answers (t : Talk) (at at' : ℕ) (line : List ℕ) (old new : Option
   pub more : IfOk result (λ m. m ≡ not (t.last line))
   pub other : OnErr result (t.last line ≡ false)
   pub sends : Sends old new before now (said_to t at line) result
-  pub moved : IfOk result (λ m. m ≡ true → at' ≡ t.next at line)
+  pub moved : at' ≡ moved_by t at line
   pub forward : steps ≤ steps'
   pub within : steps' ≤ steps + spent_on t at line
 
@@ -68,21 +77,20 @@ pub record Answers (t : Talk) (at at' : ℕ) (line : List ℕ) (old new : Option
 pub record Alike (t : Talk) (one other : List ℕ) : Type 0 where
   pub last : t.last one ≡ t.last other
   pub said : (at : ℕ) → said_to t at one ≡ said_to t at other
-  pub next : (at : ℕ) → t.next at one ≡ t.next at other
+  pub moved : (at : ℕ) → moved_by t at one ≡ moved_by t at other
   pub spent : (at : ℕ) → spent_on t at one ≡ spent_on t at other
 
 -- what was answered to the one was answered to the other
-pub answers_alike : (t : Talk) (at at' : ℕ) (line one other : List ℕ) (old new : Option (List ℕ)) (before now steps steps' : ℕ) (result : Result Bool SinkFault) → line ≡ one → Alike t one other → IfOk result (λ m. m ≡ not (t.last line)) → OnErr result (t.last line ≡ false) → Sends old new before now (said_to t at line) result → IfOk result (λ m. m ≡ true → at' ≡ t.next at line) → steps ≤ steps' → steps' ≤ steps + spent_on t at line → Answers t at at' other old new before now steps steps' result
+pub answers_alike : (t : Talk) (at at' : ℕ) (line one other : List ℕ) (old new : Option (List ℕ)) (before now steps steps' : ℕ) (result : Result Bool SinkFault) → line ≡ one → Alike t one other → IfOk result (λ m. m ≡ not (t.last line)) → OnErr result (t.last line ≡ false) → Sends old new before now (said_to t at line) result → at' ≡ moved_by t at line → steps ≤ steps' → steps' ≤ steps + spent_on t at line → Answers t at at' other old new before now steps steps' result
 answers_alike t at at' line one other old new before now steps steps' result is same more differs sends moved forward within =
     let last : t.last line ≡ t.last other = ap t.last is ∙ same.last in
     let said : said_to t at line ≡ said_to t at other = ap (said_to t at) is ∙ same.said at in
-    let next : t.next at line ≡ t.next at other = ap (t.next at) is ∙ same.next at in
     let spent : spent_on t at line ≡ spent_on t at other = ap (spent_on t at) is ∙ same.spent at in
     record {
       more = subst (λ (b : Bool). IfOk result (λ m. m ≡ not b)) last more;
       other = subst (λ (b : Bool). OnErr result (b ≡ false)) last differs;
       sends = subst (λ (text : List ℕ). Sends old new before now text result) said sends;
-      moved = subst (λ (n : ℕ). IfOk result (λ m. m ≡ true → at' ≡ n)) next moved;
+      moved = moved ∙ ap (moved_by t at) is ∙ same.moved at;
       forward = forward;
       within = subst (λ (n : ℕ). steps' ≤ steps + n) spent within;
     }
@@ -95,15 +103,14 @@ appends_none (Some w) = ap Some (sym (append-nil w))
 
 pub along_first : (t : Talk) (cycle : ℕ) (old : Option (List ℕ)) (before steps : ℕ) → Along t cycle [] old old before before steps steps cycle
 along_first t cycle old before steps = record {
-  answered = record { sent = appends_none old; steady = refl; forward = omega arith; most = omega arith };
+  answered = record { sent = appends_none old; steady = refl; stands = refl; forward = omega arith; most = omega arith };
   none = refl;
-  stands = refl;
   whole = refl;
 }
 
 -- the answered lines are others that are the same
-pub answered_same : (t : Talk) (cycle : ℕ) (xs ys : List (List ℕ)) (old new : Option (List ℕ)) (before now steps steps' : ℕ) → xs ≡ ys → Answered t cycle xs old new before now steps steps' → Answered t cycle ys old new before now steps steps'
-answered_same t cycle xs ys old new before now steps steps' e a = subst (λ (l : List (List ℕ)). Answered t cycle l old new before now steps steps') e a
+pub answered_same : (t : Talk) (cycle : ℕ) (xs ys : List (List ℕ)) (old new : Option (List ℕ)) (before now steps steps' at : ℕ) → xs ≡ ys → Answered t cycle xs old new before now steps steps' at → Answered t cycle ys old new before now steps steps' at
+answered_same t cycle xs ys old new before now steps steps' at e a = subst (λ (l : List (List ℕ)). Answered t cycle l old new before now steps steps' at) e a
 
 -- what came of one line more
 pub along_line : (t : Talk) (cycle : ℕ) (seen whole : List ℕ) (old new later : Option (List ℕ)) (before now last steps steps' more : ℕ) (at at' : ℕ) (result : Result Bool SinkFault) → HasNoEnd whole → Along t cycle seen old new before now steps steps' at → Answers t at at' (line_of whole) new later now last steps' more result → Feeds t cycle (seen ++ (whole ++ 10 ∷ [])) old later before last steps more at' result
@@ -111,18 +118,18 @@ along_line t cycle seen whole old new later before now last steps steps' more at
     let line = line_of whole in
     let differs : t.last line ≡ false = not_true (t.last line) h.more in
     let lines : complete_lines (seen ++ (whole ++ 10 ∷ [])) ≡ complete_lines seen ++ line ∷ [] = lines_more seen whole a.whole none in
-    let here : cycle_after t cycle (complete_lines seen) ≡ at = sym a.stands in
+    let here : cycle_after t cycle (complete_lines seen) ≡ at = sym a.answered.stands in
     let sent : Appends new later (t.reply (cycle_after t cycle (complete_lines seen)) line) = subst (λ p. Appends new later (t.reply p line)) (sym here) (subst (λ x. Appends new later x) (other_text t at line differs) h.sends.ok) in
     let cost : more ≤ steps' + t.cost (cycle_after t cycle (complete_lines seen)) line = subst (λ p. more ≤ steps' + t.cost p line) (sym here) (subst (λ n. more ≤ steps' + n) (other_cost t at line differs) h.within) in
     record {
-      answered = answered_same t cycle _ _ old later before last steps more (sym lines) (record {
+      answered = answered_same t cycle _ _ old later before last steps more at' (sym lines) (record {
         sent = subst (λ x. Appends old later x) (sym (text_snoc t cycle (complete_lines seen) line)) (appends_both old new later _ _ a.answered.sent sent);
         steady = h.sends.steady ∙ a.answered.steady;
+        stands = h.moved ∙ other_moved t at line differs ∙ cycle_snoc t cycle (complete_lines seen) line at a.answered.stands;
         forward = omega (arith, a.answered.forward, h.forward);
         most = omega (arith, a.answered.most, cost, cost_snoc t cycle (complete_lines seen) line);
       });
       none = ap (has_last t.last) lines ∙ has_last_both t.last (complete_lines seen) (line ∷ []) a.none ∙ rw differs refl;
-      stands = h.moved refl ∙ ap (λ p. t.next p line) (sym here) ∙ sym (cycle_both t cycle (complete_lines seen) (line ∷ [])) ∙ ap (cycle_after t cycle) (sym lines);
       whole = open_more seen whole none;
     }
 along_line t cycle seen whole old new later before now last steps steps' more at at' (Ok false) none a h =
@@ -133,9 +140,10 @@ along_line t cycle seen whole old new later before now last steps steps' more at
     let sent : Appends new later [] = subst (λ x. Appends new later x) (last_text t at line ends) h.sends.ok in
     record {
       closed = ap (has_last t.last) lines ∙ last_closes t.last (complete_lines seen) [] line a.none ends;
-      answered = answered_same t cycle _ _ old later before last steps more (sym cut) (record {
+      answered = answered_same t cycle _ _ old later before last steps more at' (sym cut) (record {
         sent = subst (λ x. Appends old later x) (append-nil (text_from t cycle (complete_lines seen))) (appends_both old new later _ [] a.answered.sent sent);
         steady = h.sends.steady ∙ a.answered.steady;
+        stands = h.moved ∙ last_moved t at line ends ∙ a.answered.stands;
         forward = omega (arith, a.answered.forward, h.forward);
         most = omega (arith, a.answered.most, h.within, last_cost t at line ends);
       });
@@ -143,7 +151,7 @@ along_line t cycle seen whole old new later before now last steps steps' more at
 along_line t cycle seen whole old new later before now last steps steps' more at at' (Err fault) none a h =
     let line = line_of whole in
     let lines : complete_lines (seen ++ (whole ++ 10 ∷ [])) ≡ complete_lines seen ++ line ∷ [] = lines_more seen whole a.whole none in
-    let here : cycle_after t cycle (complete_lines seen) ≡ at = sym a.stands in
+    let here : cycle_after t cycle (complete_lines seen) ≡ at = sym a.answered.stands in
     let part : AppendsPart new later (t.reply (cycle_after t cycle (complete_lines seen)) line) = subst (λ p. AppendsPart new later (t.reply p line)) (sym here) (subst (λ x. AppendsPart new later x) (other_text t at line h.other) h.sends.err) in
     let cost : more ≤ steps' + t.cost (cycle_after t cycle (complete_lines seen)) line = subst (λ p. more ≤ steps' + t.cost p line) (sym here) (subst (λ n. more ≤ steps' + n) (other_cost t at line h.other) h.within) in
     record {
@@ -163,12 +171,12 @@ along_line t cycle seen whole old new later before now last steps steps' more at
 -- ---- more bytes behind
 
 -- a last line that was heard stays the first one
-pub closed_more : (t : Talk) (cycle : ℕ) (seen more : List ℕ) (old new : Option (List ℕ)) (before now steps steps' : ℕ) → IsClosed t cycle seen old new before now steps steps' → IsClosed t cycle (seen ++ more) old new before now steps steps'
-closed_more t cycle seen more old new before now steps steps' c =
+pub closed_more : (t : Talk) (cycle : ℕ) (seen more : List ℕ) (old new : Option (List ℕ)) (before now steps steps' at : ℕ) → IsClosed t cycle seen old new before now steps steps' at → IsClosed t cycle (seen ++ more) old new before now steps steps' at
+closed_more t cycle seen more old new before now steps steps' at c =
     let lines : complete_lines (seen ++ more) ≡ complete_lines seen ++ complete_from (open_line seen) more = complete_append [] seen more in
     record {
       closed = closes_more t.last seen more c.closed;
-      answered = answered_same t cycle _ _ old new before now steps steps' (until_more t.last (complete_lines seen) (complete_from (open_line seen) more) c.closed ∙ ap (until t.last) (sym lines)) c.answered;
+      answered = answered_same t cycle _ _ old new before now steps steps' at (until_more t.last (complete_lines seen) (complete_from (open_line seen) more) c.closed ∙ ap (until t.last) (sym lines)) c.answered;
     }
 
 -- lines behind those at one of which the sink failed

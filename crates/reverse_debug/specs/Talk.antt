@@ -1,5 +1,5 @@
 -- A talk: lines, and the answer to each. The project's own.
-use Rattle.std.specs.Prelude.{◌≡◌, ℕ, ◌+◌, ◌≤◌, Bool, if◌then◌else◌, List, [], ◌∷◌, ◌++◌, length, Option, Result, IfOk}
+use Rattle.std.specs.Prelude.{◌≡◌, ℕ, ◌+◌, ◌≤◌, Bool, if◌then◌else◌, List, [], ◌∷◌, ◌++◌, length, Option, Result, IfOk, OnOk}
 use Rattle.trace_text.specs.Sent.{Sends}
 use Rattle.trace_text.specs.declared.writer.SinkFault.{SinkFault}
 use Rattle.reverse_debug.specs.declared.way.Way.{Way}
@@ -36,10 +36,14 @@ said_to t cycle line = if t.last line then [] else t.reply cycle line
 abbrev pub spent_on : Talk → ℕ → List ℕ → ℕ
 spent_on t cycle line = if t.last line then 0 else t.cost cycle line
 
+-- and where who answers stands then: at a last one it stays
+abbrev pub moved_by : Talk → ℕ → List ℕ → ℕ
+moved_by t cycle line = if t.last line then cycle else t.next cycle line
+
 -- Lines of a source were heard and answered from a cycle on: some bytes were taken, at most so many, and the taking ended so; the
--- replies to the lines were sent and no put failed, or the sink failed and a part of them was sent. Where the sink failed the taking
--- counts as ended after the bytes taken.
-pub record Hears (t : Talk) (cycle limit : ℕ) (left left' : Option (List ℕ)) (lost lost' : ℕ) (old new : Option (List ℕ)) (before now : ℕ) (steps steps' : ℕ) (result : Result Way SinkFault) : Type 0 where
+-- replies to the lines were sent, no put failed, and who answers stands at the cycle after them; or the sink failed and a part of the
+-- replies was sent. Where the sink failed the taking counts as ended after the bytes taken.
+pub record Hears (t : Talk) (cycle limit : ℕ) (left left' : Option (List ℕ)) (lost lost' : ℕ) (old new : Option (List ℕ)) (before now : ℕ) (steps steps' at : ℕ) (result : Result Way SinkFault) : Type 0 where
   pub bytes : List ℕ
   pub way : Way
   pub within : length bytes ≤ limit
@@ -47,5 +51,6 @@ pub record Hears (t : Talk) (cycle limit : ℕ) (left left' : Option (List ℕ))
   pub taken : IsTaken left left' lost lost' (status_by result) bytes way
   pub is : IfOk result (λ w. w ≡ way)
   pub sends : Sends old new before now (text_from t cycle (lines_heard t.last way bytes)) result
+  pub stands : OnOk result (at ≡ cycle_after t cycle (lines_heard t.last way bytes))
   pub forward : steps ≤ steps'
   pub most : steps' ≤ steps + cost_from t cycle (lines_heard t.last way bytes)

@@ -10,18 +10,18 @@ use Rattle.reverse_debug.specs.Lines.{complete_lines, open_line, until, has_last
 use Rattle.reverse_debug.specs.NextLine.{Ahead, behind}
 use Rattle.reverse_debug.specs.Talk.{Talk, text_from, cycle_after, cost_from, Hears}
 
--- the replies to these lines were sent, and no put failed
-pub record Answered (t : Talk) (cycle : ℕ) (lines : List (List ℕ)) (old new : Option (List ℕ)) (before now steps steps' : ℕ) : Type 0 where
+-- the replies to these lines were sent, no put failed, and who answers stands behind them
+pub record Answered (t : Talk) (cycle : ℕ) (lines : List (List ℕ)) (old new : Option (List ℕ)) (before now steps steps' at : ℕ) : Type 0 where
   pub sent : Appends old new (text_from t cycle lines)
   pub steady : now ≡ before
+  pub stands : at ≡ cycle_after t cycle lines
   pub forward : steps ≤ steps'
   pub most : steps' ≤ steps + cost_from t cycle lines
 
 -- the lines of these bytes, which end with one, were answered, and none of them is a last one
-pub record Along (t : Talk) (cycle : ℕ) (bytes : List ℕ) (old new : Option (List ℕ)) (before now steps steps' : ℕ) (at : ℕ) : Type 0 where
-  pub answered : Answered t cycle (complete_lines bytes) old new before now steps steps'
+pub record Along (t : Talk) (cycle : ℕ) (bytes : List ℕ) (old new : Option (List ℕ)) (before now steps steps' at : ℕ) : Type 0 where
+  pub answered : Answered t cycle (complete_lines bytes) old new before now steps steps' at
   pub none : closes t.last bytes ≡ false
-  pub stands : at ≡ cycle_after t cycle (complete_lines bytes)
   pub whole : open_line bytes ≡ []
 
 -- the sink failed at the reply to one of the lines, none of which so far is a last one
@@ -39,20 +39,20 @@ pub record CutOff (t : Talk) (cycle : ℕ) (lines : List (List ℕ)) (old new : 
   pub most : steps' ≤ steps + (cost_from t cycle heads + t.cost (cycle_after t cycle heads) line)
 
 -- a last line was heard, and those before it were answered
-pub record IsClosed (t : Talk) (cycle : ℕ) (bytes : List ℕ) (old new : Option (List ℕ)) (before now steps steps' : ℕ) : Type 0 where
+pub record IsClosed (t : Talk) (cycle : ℕ) (bytes : List ℕ) (old new : Option (List ℕ)) (before now steps steps' at : ℕ) : Type 0 where
   pub closed : closes t.last bytes ≡ true
-  pub answered : Answered t cycle (until t.last (complete_lines bytes)) old new before now steps steps'
+  pub answered : Answered t cycle (until t.last (complete_lines bytes)) old new before now steps steps' at
 
 -- what came of the bytes of one line more: the talk goes on, or that was a last line, or the sink failed
 abbrev pub Feeds : Talk → ℕ → List ℕ → Option (List ℕ) → Option (List ℕ) → ℕ → ℕ → ℕ → ℕ → ℕ → Result Bool SinkFault → Type 0
 Feeds t cycle bytes old new before now steps steps' at (Ok true) = Along t cycle bytes old new before now steps steps' at
-Feeds t cycle bytes old new before now steps steps' at (Ok false) = IsClosed t cycle bytes old new before now steps steps'
+Feeds t cycle bytes old new before now steps steps' at (Ok false) = IsClosed t cycle bytes old new before now steps steps' at
 Feeds t cycle bytes old new before now steps steps' at (Err fault) = CutOff t cycle (complete_lines bytes) old new before now steps steps'
 
 -- what came of the open line at the end: all lines were answered, up to a last one, or the sink failed
-abbrev pub Finishes : Talk → ℕ → List (List ℕ) → Option (List ℕ) → Option (List ℕ) → ℕ → ℕ → ℕ → ℕ → Result (Unit {0}) SinkFault → Type 0
-Finishes t cycle lines old new before now steps steps' (Ok done) = Answered t cycle (until t.last lines) old new before now steps steps'
-Finishes t cycle lines old new before now steps steps' (Err fault) = CutOff t cycle lines old new before now steps steps'
+abbrev pub Finishes : Talk → ℕ → List (List ℕ) → Option (List ℕ) → Option (List ℕ) → ℕ → ℕ → ℕ → ℕ → ℕ → Result (Unit {0}) SinkFault → Type 0
+Finishes t cycle lines old new before now steps steps' at (Ok done) = Answered t cycle (until t.last lines) old new before now steps steps' at
+Finishes t cycle lines old new before now steps steps' at (Err fault) = CutOff t cycle lines old new before now steps steps'
 
 -- ---- what is taken
 
@@ -70,6 +70,6 @@ abbrev pub IsAfterLine : Talk → ℕ → ℕ → Option (List ℕ) → Option (
 IsAfterLine t cycle limit left left' lost lost' old new before now steps steps' at ahead more (Ok None) =
     (behind limit ahead < more) × Taking t cycle limit left left' lost lost' old new before now steps steps' at ahead
 IsAfterLine t cycle limit left left' lost lost' old new before now steps steps' at ahead more (Ok (Some way)) =
-    Hears t cycle limit left left' lost lost' old new before now steps steps' (Ok way)
+    Hears t cycle limit left left' lost lost' old new before now steps steps' at (Ok way)
 IsAfterLine t cycle limit left left' lost lost' old new before now steps steps' at ahead more (Err fault) =
-    Hears t cycle limit left left' lost lost' old new before now steps steps' (Err fault)
+    Hears t cycle limit left left' lost lost' old new before now steps steps' at (Err fault)

@@ -8,7 +8,7 @@ ghost use Rattle.reverse_debug.specs.Session.{first_of, StandsFor};
 ghost use Rattle.reverse_debug.specs.Debugger.{talk_with};
 ghost use Rattle.reverse_debug.specs.Lines.{all_lines};
 ghost use Rattle.reverse_debug.specs.NextLine.{behind, given_bytes, HasNoEnd};
-ghost use Rattle.reverse_debug.specs.Talk.{Talk, said_to, spent_on, Hears};
+ghost use Rattle.reverse_debug.specs.Talk.{Talk, said_to, spent_on, moved_by, Hears};
 ghost use Rattle.reverse_debug.specs.Way.{Along, Feeds, Finishes, Taking, IsAfterLine};
 
 use crate::Session;
@@ -51,8 +51,8 @@ fn say<X: Device, L: Ledger>(
         (t.last line.now) }
     ensures reply { let t = talk_with (setting X.meaning world.now) session.old in result ≡ true →
         reply.new.items ≡ t.reply session.old.now.cycle line.now }
-    ensures cycle { let t = talk_with (setting X.meaning world.now) session.old in result ≡ true →
-        session.new.now.cycle ≡ t.next session.old.now.cycle line.now }
+    ensures cycle { let t = talk_with (setting X.meaning world.now) session.old in
+        session.new.now.cycle ≡ moved_by t session.old.now.cycle line.now }
     ensures forward { steps.old ≤ steps.new }
     ensures within { let t = talk_with (setting X.meaning world.now) session.old in steps.new ≤
         steps.old + spent_on t session.old.now.cycle line.now }
@@ -79,8 +79,8 @@ fn answer<X: Device, O: Sink, L: Ledger>(
     ensures sends { let t = talk_with (setting X.meaning world.now) session.old in Sends (O.written
         writer.old.out.now) (O.written writer.new.out.now) (O.faults writer.old.out.now) (O.faults
         writer.new.out.now) (said_to t session.old.now.cycle line.now) result }
-    ensures cycle { let t = talk_with (setting X.meaning world.now) session.old in IfOk result (λ
-        more. more ≡ true → session.new.now.cycle ≡ t.next session.old.now.cycle line.now) }
+    ensures cycle { let t = talk_with (setting X.meaning world.now) session.old in
+        session.new.now.cycle ≡ moved_by t session.old.now.cycle line.now }
     ensures forward { steps.old ≤ steps.new }
     ensures within { let t = talk_with (setting X.meaning world.now) session.old in steps.new ≤
         steps.old + spent_on t session.old.now.cycle line.now }
@@ -134,7 +134,7 @@ fn hear_end<X: Device, O: Sink, L: Ledger>(
         take given_bytes whole → Along t cycle seen old (O.written writer.old.out.now) before
         (O.faults writer.old.out.now) base steps.old session.old.now.cycle → Finishes t cycle
         (all_lines (seen ++ whole)) old (O.written writer.new.out.now) before (O.faults
-        writer.new.out.now) base steps.new result }
+        writer.new.out.now) base steps.new session.new.now.cycle result }
 {
     if given.is_empty() {
         return Ok(());
@@ -204,7 +204,8 @@ pub fn hear<X: Device, I: Source, O: Sink, L: Ledger>(
     ensures hears { let t = talk_with (setting X.meaning world.now) session.old in Hears t
         session.old.now.cycle limit (I.left input.old) (I.left input.new) (I.faults input.old)
         (I.faults input.new) (O.written writer.old.out.now) (O.written writer.new.out.now) (O.faults
-        writer.old.out.now) (O.faults writer.new.out.now) steps.old steps.new result }
+        writer.old.out.now) (O.faults writer.new.out.now) steps.old steps.new session.new.now.cycle
+        result }
     ensures first { first_of session.new ≡ first_of session.old }
     ensures same_sink { writer.new.out.ghost_name ≡ writer.old.out.ghost_name }
 {

@@ -1,5 +1,5 @@
 -- Texts sent one after another.
-use Rattle.std.proofs.Common.{◌≡◌, ℕ, ◌+◌, ◌-◌, ◌<◌, ◌≤◌, List, ◌++◌, length, take, drop, Option, Result, Ok, Err, arith, length-append, ap, sym, subst, ◌∙◌}
+use Rattle.std.proofs.Common.{◌≡◌, ℕ, ◌+◌, ◌-◌, ◌<◌, ◌≤◌, List, ◌++◌, length, take, drop, Option, Result, Ok, Err, IsErrAnd, arith, length-append, ap, sym, subst, ◌∙◌}
 use Rattle.std.proofs.Math.Seq.{take-append-add, take-add}
 use Rattle.std.proofs.lemmas.List.{take-append-le, take-append-drop}
 use Rattle.rp_ports.specs.Fault.{Rose}
@@ -33,8 +33,13 @@ sends_then {T} {E} {U} {a} {b} {c} {f} {g} {h} (Err e) first s = record {
 }
 
 -- the first text was sent in part
-pub sends_part : {T E : Type 0} {a b : Option (List ℕ)} {f g : ℕ} {xs : List ℕ} (ys : List ℕ) {e : E} → Sends {T = T} a b f g xs (Err e) → Sends {T = T} a b f g (xs ++ ys) (Err e)
+pub sends_part : {T U E : Type 0} {a b : Option (List ℕ)} {f g : ℕ} {xs : List ℕ} (ys : List ℕ) {e : E} → Sends {T = T} a b f g xs (Err e) → Sends {T = U} a b f g (xs ++ ys) (Err e)
 sends_part ys s = record { ok = tt; err = part_of_longer _ _ _ ys s.err; cause = s.cause; steady = tt; count = s.count }
+
+-- the fault is handed on
+pub sends_cut : {T U E : Type 0} {a b : Option (List ℕ)} {f g : ℕ} {xs : List ℕ} {e : E} (r : Result U E) → IsErrAnd r (λ x. x ≡ e) → Sends {T = T} a b f g xs (Err e) → Sends a b f g xs r
+sends_cut (Ok y) is s = absurd is
+sends_cut (Err x) is s = record { ok = tt; err = s.err; cause = s.cause; steady = tt; count = s.count }
 
 -- the first bytes of a text were sent, and no put failed
 pub record SentTo (old new : Option (List ℕ)) (before now : ℕ) (text : List ℕ) (done : ℕ) : Type 0 where

@@ -18,12 +18,12 @@ returns-in-Err-clause-came g c cycle left lost old before steps k =
 
 pub returns-in-Ok-clause-came : goal.returns-in-Ok-clause-came
 returns-in-Ok-clause-came g c cycle left lost old before steps k =
-    next_end _ cycle c.args.limit left _ _ lost _ _ old _ _ before _ _ steps _ _ _ _ _ _ c.in-Ok.field-0 k c.in-Last.ensures
+    next_end _ cycle c.args.limit left _ _ lost _ _ old _ _ before _ _ steps _ _ _ _ _ _ _ c.in-Ok.field-0 k c.in-Last.ensures
     (λ seen whole none gives along. c.in-Ok.ensures.ends cycle seen whole old before steps none (rw c.deref-in-Last.ensures.0 gives) along)
 
 pub returns-in-Err-hear_end-clause-came : goal.returns-in-Err-hear_end-clause-came
 returns-in-Err-hear_end-clause-came g c cycle left lost old before steps k =
-    next_end_cut _ cycle c.args.limit left _ _ lost _ _ old _ _ before _ _ steps _ _ _ _ _ _ c.in-Err-hear_end.fault k c.in-Last.ensures
+    next_end_cut _ cycle c.args.limit left _ _ lost _ _ old _ _ before _ _ steps _ _ _ c.hear_end.new.session.now.cycle _ _ _ c.in-Err-hear_end.fault k c.in-Last.ensures
     (λ seen whole none gives along. c.in-Err-hear_end.ensures.ends cycle seen whole old before steps none (rw c.deref-in-Last.ensures.0 gives) along)
 
 pub returns-in-Failed-clause-came : goal.returns-in-Failed-clause-came
