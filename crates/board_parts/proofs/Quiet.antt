@@ -3,6 +3,7 @@ use Rattle.std.proofs.Common.{◌≡◌, ℕ, zero, suc, ◌+◌, ◌-◌, ◌%�
 use Rattle.std.proofs.Math.Nat.{eq-or-lt_of_le}
 use Rattle.std.proofs.lemmas.Bool.Decides.{nat_tests}
 use Rattle.std.proofs.lemmas.Nat.Bits.{bit_at-lt}
+use Rattle.std.proofs.lemmas.List.{append-nil, drop_all, take_all}
 use Rattle.std.specs.Int.{bit_at}
 use Rattle.lane_look.specs.Quiet.{IsDeviceQuiet, device_after, device_step}
 use Rattle.lane_look.specs.Times.{times}
@@ -66,6 +67,22 @@ pub more_after : (p : Placed) (parts all : List Placed) (state own others own' o
     → others' ≡ device_after (parts_device parts) pads first n others → own' ++ others' ≡ device_after (parts_device all) pads first n state
 more_after p parts all state own others own' others' pads first n e f g h words i =
     rw (e, h, i, f, g) (sym (both_after (part_device p) (parts_device parts) pads first n state (rw f at words)))
+
+-- one part alone
+pub one_quiet : (p : Placed) (all : List Placed) (state : List ℕ) (cycle pads n : ℕ) → all ≡ p ∷ [] → length state ≡ words_of all
+    → IsDeviceQuiet (part_device p) state cycle pads n → IsDeviceQuiet (parts_device all) state cycle pads n
+one_quiet p all state cycle pads n e fits q =
+    let le : length state ≤ p.part.words = omega (arith, fits, ap words_of e) in
+    more_quiet p [] all state state [] cycle pads n n n e (sym (take_all p.part.words state le)) (sym (drop_all p.part.words state le)) q (none_quiet [] cycle pads n refl)
+    (omega arith) (omega arith)
+
+pub one_after : (p : Placed) (all : List Placed) (state state' : List ℕ) (pads first n : ℕ) → all ≡ p ∷ [] → length state ≡ words_of all
+    → state' ≡ device_after (part_device p) pads first n state → ((k : ℕ) → k ≤ n → length (device_after (part_device p) pads first k state) ≡ p.part.words)
+    → state' ≡ device_after (parts_device all) pads first n state
+one_after p all state state' pads first n e fits after words =
+    let le : length state ≤ p.part.words = omega (arith, fits, ap words_of e) in
+    sym (append-nil state') ∙ more_after p [] all state state [] state' [] pads first n e (sym (take_all p.part.words state le)) (sym (drop_all p.part.words state le)) after words
+    (sym (none_after [] pads first n refl))
 
 -- ---- a button and a wire
 

@@ -119,15 +119,24 @@ impl<P: Part + Sync> Device for Row<P> {
     }
 
     fn drives(&self, state: &[u32], cycle: u64, pads: u32) -> Wires {
-        wires(drives_all(&self.list, state, cycle, pads))
+        match self.list.as_slice() {
+            [only] => wires(join(only.drives(state, cycle, pads), Drive::default())),
+            list => wires(drives_all(list, state, cycle, pads)),
+        }
     }
 
     fn quiet(&self, state: &[u32], cycle: u64, pads: u32) -> u64 {
-        quiet_all(&self.list, state, cycle, pads)
+        match self.list.as_slice() {
+            [only] => only.quiet(state, cycle, pads),
+            list => quiet_all(list, state, cycle, pads),
+        }
     }
 
     fn pass(&self, state: &mut [u32], first: u64, pads: u32, n: u64) {
-        pass_all(&self.list, state, first, pads, n);
+        match self.list.as_slice() {
+            [only] => only.pass(state, first, pads, n),
+            list => pass_all(list, state, first, pads, n),
+        }
     }
 }
 
