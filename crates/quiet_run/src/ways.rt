@@ -20,6 +20,19 @@ pub struct Pace {
     apart: u64,
 }
 
+impl Pace {
+    ghost use Rattle.std.specs.Prelude.{◌≡◌, ◌&&◌, nat_le, not};
+    ghost use Rattle.bus_fabric.specs.State.{has_hold};
+
+    /// A try is due: so many cycles are over since the last one, and no access lasts.
+    #[inline(always)]
+    pub fn is_due(&self, machine: &Machine) -> bool
+        ensures { result ≡ (nat_le self.now.next machine.now.cycle && not (has_hold machine.now.fabric)) }
+    {
+        self.next <= machine.number() && !machine.fabric.holds()
+    }
+}
+
 /// Goes over cycles in which core 0 alone is at work in SRAM beside quiet peripherals and nothing stops it, at most up to a cycle, and counts
 /// them. Gives how many there are, 0 also where an access lasts or core 1 is awake. Each of them happens, has no events, and leaves the pads
 /// as they are.
@@ -69,7 +82,7 @@ pub fn pass_quiet<X: Device, L: Ledger>(
     pass_watched(machine, world, to, &Unwatched, marks, steps)
 }
 
-/// The same, where the pace has it that it is worth while to try.
+/// The same, and the pace knows what came of it: where no cycle was gone over the next try is due later.
 #[inline(always)]
 pub fn pass_paced<X: Device, L: Ledger>(
     machine: &mut Machine,
@@ -87,9 +100,6 @@ pub fn pass_paced<X: Device, L: Ledger>(
     ensures steps { steps.new ≡ steps.old + result }
 {
     let at = machine.number();
-    if at < pace.next || machine.fabric.holds() {
-        return 0;
-    }
     let done = pass_quiet(machine, world, to, marks, steps);
     if done == 0 {
         pace.apart = (pace.apart << 1 | 1) & 15;

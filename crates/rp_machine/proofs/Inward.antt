@@ -1,6 +1,8 @@
 -- Core 0 goes on alone beside lanes that lie behind: each cycle is the definition's.
+use Rattle.std.proofs.lemmas.Bool.{and_parts}
 use Rattle.std.proofs.lemmas.Bool.Decides.{eqb_tells}
-use Rattle.std.proofs.Common.{◌≡◌, ◌+◌, ◌*◌, ◌^◌, ◌<◌, ◌≤◌, zero, suc, inl, inr, arith, ℕ, true, false, Bool, if◌then◌else◌, List, [], ◌∷◌, Option, Some, None, ◌==◌, bit_or, refl, sym, ap, ◌∙◌}
+use Rattle.std.proofs.Common.{◌≡◌, ◌+◌, ◌*◌, ◌^◌, ◌<◌, ◌≤◌, zero, suc, inl, inr, arith, ℕ, true, false, Bool, if◌then◌else◌, List, [], ◌∷◌, Option, Some, None, ◌==◌, ◌&&◌, not, bit_or, refl, sym, ap, ◌∙◌}
+use Rattle.rp_base.specs.declared.Master.{Master}
 use Rattle.rp_base.specs.declared.Master.TheVariants as master
 use Rattle.rp_base.specs.declared.Request.{Request}
 use Rattle.rp_base.specs.declared.Why.{Why}
@@ -34,17 +36,20 @@ use Rattle.outer_lane.specs.declared.world.SeenOutputs.{SeenOutputs}
 use Rattle.outer_lane.specs.Step as outer
 use Rattle.outer_lane.specs.Step.{marked}
 use Rattle.outer_lane.specs.Quiet.{IsQuiet, seen_in, outer_after}
+use Rattle.outer_lane.specs.Words.{outer_allowed}
 use Rattle.lane_look.specs.Times.{times}
 use Rattle.rp_machine.specs.State.{State}
 use Rattle.rp_machine.specs.Answers.{answer_of, pair_number, sio_lines, lines_of, block_lines, packed_pair, pacing_of, inputs_of, outs_of}
-use Rattle.rp_machine.specs.Deeds.{asked_of, turn_of, deed_of, cause_of, stored_at}
+use Rattle.rp_machine.specs.Deeds.{word_for, is_open, outside_unless, asked_of, is_done_at, turn_of, deed_of, cause_of, stored_at}
+use Rattle.rp_machine.specs.Laws.{is_outer}
 use Rattle.rp_machine.specs.Cycle.{begun, wanted, wanted_by, cause_in, with_pins, pins_of, with_sio, ended, after_deed, mark, stop, next}
 use Rattle.rp_machine.specs.BusRest.{core1_at_rest}
 use Rattle.rp_machine.specs.Alone.{Blocks, AreBlocksQuiet, blocks_after, with_blocks, IsAlone, alone_next, granted_alone, with_grant, with_store}
-use Rattle.rp_machine.specs.Inward.{with_beside, is_inward, core0_want, inward_turn, inward_deed, core0_stepped, inward_rest, inward_next, TellsSame, GoesAlone, GoesOn, inward_cycle, inward_after, StaysInward, onward_after, GoesOnward, Core0GoesOnAlone}
+use Rattle.rp_machine.specs.Inward.{with_beside, is_peripheral, is_inward, core0_want, goes_inward, inward_turn, inward_deed, core0_stepped, inward_rest, inward_next, TellsSame, GoesAlone, GoesOn, inward_cycle, inward_after, StaysInward, onward_after, GoesOnward, Core0GoesOnAlone}
 use Rattle.rp_machine.specs.Events.{events}
 use Rattle.rp_machine.specs.Run.{states}
 use Rattle.rp_machine.proofs.Quietly.{RunsThrough, states_through, fewer, no_events, seen_later, seen_number}
+use Rattle.rp_machine.proofs.Opening.{opens_outer}
 use Rattle.rp_machine.proofs.OneCore.{next_alone, cause_alone}
 use Rattle.rp_machine.proofs.Going.{none_after}
 use Rattle.rp_machine.proofs.HeldLanes.{outer_next}
@@ -114,19 +119,42 @@ inward_end w p o s b seen x h pins =
     ∙ ap (λ (q : State). record q { cycle = s.cycle + 1 })
     (ends_beside p (outer.next w o seen) (with_store (inward_deed (granted_alone x s) x) (reached b x s)) ((outer_next w o seen).sio ∙ pins))
 
-inward_same : (w : Setting) (p q : Blocks) (o : OuterState) (s : State) (b : Doing) (seen : SeenOutputs) (x : Want) → GoesAlone s → o.sio ≡ pins_of s.sio → is_inward x ≡ true
-    → alone_next w q b seen x (with_beside p o s) ≡ with_beside q (outer.next w o seen) (inward_next b x s)
+-- an access to the peripherals that is not granted is not done
+waits : (at : Spot) (granted : Bool) → (not granted && is_peripheral at) ≡ true → is_done_at at granted ≡ false
+waits (spot.Reg block offset alias) false e = refl
+waits at true e = absurd (cc e)
+waits (spot.Ram index bank) false e = absurd (cc e)
+waits (spot.Sio offset) false e = absurd (cc e)
+waits (spot.Ppb offset) false e = absurd (cc e)
+waits spot.Outside false e = absurd (cc e)
+
+-- and they have its word
+has_word : (w : Setting) (seen : SeenOutputs) (m : Master) (r : Request) (at : Spot) (granted : Bool) (s : State) → (not granted && is_peripheral at) ≡ true
+    → is_open r at (word_for w seen m r.address at s) ≡ true
+unfolding word_for
+has_word w seen m r at true s e = absurd (cc e)
+has_word w seen m r (spot.Reg block offset alias) false s e =
+    let both = and_parts (is_outer block) (outer_allowed block offset) e in sym (opens_outer w seen r block offset alias s both.0) ∙ both.1
+has_word w seen m r (spot.Ram index bank) false s e = absurd (cc e)
+has_word w seen m r (spot.Sio offset) false s e = absurd (cc e)
+has_word w seen m r (spot.Ppb offset) false s e = absurd (cc e)
+has_word w seen m r spot.Outside false s e = absurd (cc e)
+
+inward_same : (w : Setting) (p q : Blocks) (o : OuterState) (s : State) (b : Doing) (seen : SeenOutputs) (x : Want) → GoesAlone s → o.sio ≡ pins_of s.sio
+    → is_inward (granted_alone x s) x ≡ true → alone_next w q b seen x (with_beside p o s) ≡ with_beside q (outer.next w o seen) (inward_next b x s)
 unfolding alone_next turn_of deed_of asked_of after_deed
 inward_same w p q o s b seen want.Nothing h pins e = inward_end w q o s b seen want.Nothing h pins
 inward_same w p q o s b seen (want.Ram request) h pins e =
     ap (λ (r : State). closed (want.Ram request) s.cycle (granted_alone (want.Ram request) s) (core1_at_rest (offers_of s.sio) r))
     (no_deed_where w _ (granted_alone (want.Ram request) s) request (with_beside q (outer.next w o seen) (reached b (want.Ram request) s)))
     ∙ inward_end w q o s b seen (want.Ram request) h pins
-inward_same w p q o s b seen (want.Outward request) h pins e = cc
+inward_same w p q o s b seen (want.Outward request) h pins e =
+    let x = want.Outward request in
+    rw (waits (place_of request.address) (granted_alone x s) e) (inward_end w q o s b seen x h pins)
 inward_same w p q o s b seen want.Signal h pins e = cc
 inward_same w p q o s b seen (want.Stopped cause) h pins e = cc
 
-pub onward : (w : Setting) (p q : Blocks) (o : OuterState) (s : State) → GoesAlone s → IsAlone (with_beside p o s) q → TellsSame p o s → is_inward (core0_want s) ≡ true
+pub onward : (w : Setting) (p q : Blocks) (o : OuterState) (s : State) → GoesAlone s → IsAlone (with_beside p o s) q → TellsSame p o s → goes_inward s ≡ true
     → next w (with_beside p o s) ≡ with_beside q (outer.next w o (begun (with_beside p o s)).outer) (inward_next (begun s).core0 (core0_want s) s)
 onward w p q o s h alone same inward =
     next_alone w (with_beside p o s) q alone
@@ -134,20 +162,21 @@ onward w p q o s h alone same inward =
     ∙ inward_same w p q o s (begun s).core0 (begun (with_beside p o s)).outer (core0_want s) h same.sio inward
 
 -- no master stops it
-no_cause : (w : Setting) (seen : SeenOutputs) (s : State) (x : Want) → is_inward x ≡ true → cause_of w seen s (wanted_by master.Core0 x) ≡ None
+no_cause : (w : Setting) (seen : SeenOutputs) (s : State) (granted : Bool) (x : Want) → is_inward granted x ≡ true → cause_of w seen s (wanted_by master.Core0 x) ≡ None
 unfolding cause_of
-no_cause w seen s want.Nothing e = refl
-no_cause w seen s (want.Ram request) e = refl
-no_cause w seen s (want.Outward request) e = cc
-no_cause w seen s want.Signal e = cc
-no_cause w seen s (want.Stopped cause) e = cc
+no_cause w seen s granted want.Nothing e = refl
+no_cause w seen s granted (want.Ram request) e = refl
+no_cause w seen s granted (want.Outward request) e =
+    ap (λ open_to. outside_unless open_to master.Core0 request.address) (has_word w seen master.Core0 request (place_of request.address) granted s e)
+no_cause w seen s granted want.Signal e = cc
+no_cause w seen s granted (want.Stopped cause) e = cc
 
-pub onward_runs : (w : Setting) (p q : Blocks) (o : OuterState) (s : State) → IsAlone (with_beside p o s) q → TellsSame p o s → is_inward (core0_want s) ≡ true
+pub onward_runs : (w : Setting) (p q : Blocks) (o : OuterState) (s : State) → IsAlone (with_beside p o s) q → TellsSame p o s → goes_inward s ≡ true
     → cause_in w (begun (with_beside p o s)) (wanted (begun (with_beside p o s))) (with_beside p o s) ≡ None
 onward_runs w p q o s alone same inward =
     cause_alone w (with_beside p o s) q alone
     ∙ ap (λ b. cause_of w (begun (with_beside p o s)).outer (with_beside p o s) (wanted_by master.Core0 (core.want_of b))) (begun_same p o s same)
-    ∙ no_cause w (begun (with_beside p o s)).outer (with_beside p o s) (core0_want s) inward
+    ∙ no_cause w (begun (with_beside p o s)).outer (with_beside p o s) (granted_alone (core0_want s) s) (core0_want s) inward
 
 -- ---- a cycle in which nothing is wanted, and no access lasts
 
@@ -162,13 +191,16 @@ rests_by b s e nothing free = rests_inward b (core.want_of b) s nothing free ∙
 pub reaches_by : (b : Doing) (s t : State) → b ≡ (begun s).core0 → t ≡ inward_next b (core.want_of b) s → t ≡ inward_cycle s
 reaches_by b s t e reaches = reaches ∙ ap (λ (d : Doing). inward_next d (core.want_of d) s) e
 
-pub nothing_inward : (b : Doing) (s : State) → b ≡ (begun s).core0 → core.want_of b ≡ want.Nothing → is_inward (core0_want s) ≡ true
-nothing_inward b s e nothing = ap (λ (d : Doing). is_inward (core.want_of d)) (sym e) ∙ ap is_inward nothing
+abbrev by_begun : State → Doing → Bool
+by_begun s d = is_inward (granted_alone (core.want_of d) s) (core.want_of d)
 
-pub inward_by : (b : Doing) (s : State) → b ≡ (begun s).core0 → is_inward (core.want_of b) ≡ true → is_inward (core0_want s) ≡ true
-inward_by b s e inward = ap (λ (d : Doing). is_inward (core.want_of d)) (sym e) ∙ inward
+pub nothing_inward : (b : Doing) (s : State) → b ≡ (begun s).core0 → core.want_of b ≡ want.Nothing → goes_inward s ≡ true
+nothing_inward b s e nothing = ap (by_begun s) (sym e) ∙ ap (λ x. is_inward (granted_alone x s) x) nothing
 
-goes_on : (w : Setting) (p q : Blocks) (o : OuterState) (s : State) → GoesAlone s → IsAlone (with_beside p o s) q → TellsSame p o s → is_inward (core0_want s) ≡ true → GoesOn w p q o s
+pub inward_by : (b : Doing) (s : State) → b ≡ (begun s).core0 → is_inward (granted_alone (core.want_of b) s) (core.want_of b) ≡ true → goes_inward s ≡ true
+inward_by b s e inward = ap (by_begun s) (sym e) ∙ inward
+
+goes_on : (w : Setting) (p q : Blocks) (o : OuterState) (s : State) → GoesAlone s → IsAlone (with_beside p o s) q → TellsSame p o s → goes_inward s ≡ true → GoesOn w p q o s
 goes_on w p q o s h alone same inward = record { cause = onward_runs w p q o s alone same inward; state = onward w p q o s h alone same inward }
 
 -- ---- one cycle after another
@@ -317,7 +349,7 @@ stop_none w s lt none = elim (eqb_tells s.cycle w.limit) [
 ]
 
 a_step : (w : Setting) (s : State) (n k : ℕ) → k < n → GoesAlone s → s.outer.sio ≡ pins_of s.sio → AreBlocksQuiet s n → IsQuiet w (begun s).outer s.outer n
-    → is_inward (core0_want (inward_after k s)) ≡ true → s.cycle + n ≤ w.limit → IsStep w s k
+    → goes_inward (inward_after k s) ≡ true → s.cycle + n ≤ w.limit → IsStep w s k
 unfolding mark events inward_after times
 a_step w s n k lt h known blocks quiet inward limit =
     let le : k ≤ n = omega arith in
@@ -389,7 +421,7 @@ went_onward w s t o seen n h known same went passed runs =
     ∙ ap (λ (x : Blocks). with_beside x (outer_after w (begun s).outer n s.outer) (inward_after n s)) (blocks_went s (inward_after n s) n n (stays_after s n h known))
     ∙ sym runs.state
 
--- ---- as far as core 0 reaches for nothing but SRAM
+-- ---- as far as core 0 goes on
 
 -- from s core 0 has gone on alone for so many cycles, at most so many
 pub record HasGone (s t : State) (most done lines before now : ℕ) (old new : List Mark) : Type 0 where
@@ -421,14 +453,14 @@ cycle_more : (b : Doing) (x : Want) (t : State) → (inward_next b x t).cycle �
 unfolding inward_next ended with_sio
 cycle_more b x t = refl
 
-inward_again : (s t : State) (n : ℕ) → t ≡ inward_after n s → is_inward (core0_want t) ≡ true → StaysInward s n → StaysInward s (suc n)
+inward_again : (s t : State) (n : ℕ) → t ≡ inward_after n s → goes_inward t ≡ true → StaysInward s n → StaysInward s (suc n)
 inward_again s t n e last so_far k lt = elim (eqb_tells k n) [
-  | inl same ↦ ap (λ (m : ℕ). is_inward (core0_want (inward_after m s))) same.1 ∙ ap (λ (x : State). is_inward (core0_want x)) (sym e) ∙ last
+  | inl same ↦ ap (λ (m : ℕ). goes_inward (inward_after m s)) same.1 ∙ ap goes_inward (sym e) ∙ last
   | inr other ↦ so_far k (let ne = other.1 in omega (arith, ne))
 ]
 
 pub has_gone_on : (s t u : State) (most done more lines before now later : ℕ) (old new last : List Mark)
-    → HasGone s t most done lines before now old new → done < most → is_inward (core0_want t) ≡ true → u ≡ inward_next (begun t).core0 (core0_want t) t
+    → HasGone s t most done lines before now old new → done < most → goes_inward t ≡ true → u ≡ inward_next (begun t).core0 (core0_want t) t
     → more ≡ done + 1 → later ≡ now + 1 → last ≡ new
     → HasGone s u most more lines before later old last
 unfolding inward_after

@@ -1,5 +1,5 @@
 -- Core 0 goes on alone beside lanes that lie behind: the DMA engine, both PIO blocks and the peripherals. The project's own.
-use Rattle.std.specs.Prelude.{◌≡◌, ℕ, zero, suc, ◌+◌, ◌<◌, ◌≤◌, Bool, true, false, if◌then◌else◌, [], ◌∷◌, None}
+use Rattle.std.specs.Prelude.{◌≡◌, ℕ, zero, suc, ◌+◌, ◌<◌, ◌≤◌, ◌&&◌, not, Bool, true, false, if◌then◌else◌, [], ◌∷◌, None}
 use Rattle.lane_look.specs.declared.lane.Want.{Want}
 use Rattle.lane_look.specs.declared.lane.Want.TheVariants as want
 use Rattle.lane_look.specs.declared.lane.Turn.{Turn}
@@ -12,8 +12,11 @@ use Rattle.sio_block.specs.Launcher.{offers_of}
 use Rattle.outer_lane.specs.Setting.{Setting}
 use Rattle.outer_lane.specs.State.{OuterState}
 use Rattle.outer_lane.specs.Lines.{outer_inputs}
+use Rattle.outer_lane.specs.Words.{outer_allowed}
 use Rattle.outer_lane.specs.Step as outer
 use Rattle.outer_lane.specs.Quiet.{IsQuiet, outer_after}
+use Rattle.rp_base.specs.declared.map.Spot.{Spot}
+use Rattle.rp_base.specs.declared.map.Spot.TheVariants as spot
 use Rattle.rp_base.specs.Map.{place_of}
 use Rattle.rp_machine.specs.declared.deed.Deed.{Deed}
 use Rattle.rp_machine.specs.declared.deed.Deed.TheVariants as deed
@@ -23,24 +26,36 @@ use Rattle.rp_machine.specs.Cycle.{begun, wanted, cause_in, pins_of, ended, next
 use Rattle.rp_machine.specs.Run.{states}
 use Rattle.rp_machine.specs.Quiet.{IsQuiet as RunsQuietly}
 use Rattle.rp_machine.specs.Answers.{lines_of, pacing_of, outs_of}
+use Rattle.rp_machine.specs.Laws.{is_outer}
 use Rattle.rp_machine.specs.Alone.{Blocks, AreBlocksQuiet, blocks_after, granted_alone, with_grant, with_store}
 
 -- a state with these blocks and peripherals
 abbrev pub with_beside : Blocks → OuterState → State → State
 with_beside p o s = record s { dma = p.dma; pio0 = p.pio0; pio1 = p.pio1; outer = o }
 
--- nothing is wanted, or an access to SRAM
-abbrev pub is_inward : Want → Bool
-is_inward want.Nothing = true
-is_inward (want.Ram request) = true
-is_inward _ = false
+-- a word that the peripherals have
+abbrev pub is_peripheral : Spot → Bool
+is_peripheral (spot.Reg block offset alias) = is_outer block && outer_allowed block offset
+is_peripheral _ = false
+
+-- nothing is wanted, or an access to SRAM, or one to the peripherals that is not granted yet
+abbrev pub is_inward : Bool → Want → Bool
+is_inward granted want.Nothing = true
+is_inward granted (want.Ram request) = true
+is_inward granted (want.Outward request) = not granted && is_peripheral (place_of request.address)
+is_inward granted _ = false
 
 abbrev pub core0_want : State → Want
 core0_want s = core.want_of (begun s).core0
 
--- what core 0 is told of an access to SRAM, and what it comes to
+-- core 0 reaches for nothing but SRAM, or waits for the peripherals
+abbrev pub goes_inward : State → Bool
+goes_inward s = is_inward (granted_alone (core0_want s) s) (core0_want s)
+
+-- what core 0 is told of such an access, and what it comes to
 abbrev pub inward_turn : Bool → Want → Turn
 inward_turn granted (want.Ram request) = turn_at granted 0
+inward_turn granted (want.Outward request) = turn.Wait
 inward_turn granted _ = turn.Nothing
 
 abbrev pub inward_deed : Bool → Want → Deed
@@ -51,7 +66,7 @@ inward_deed granted _ = deed.Nothing
 abbrev pub core0_stepped : Doing → Turn → State → State
 core0_stepped b told s = record s { core0 = core.next s.core0 b (told ∷ turn.Nothing ∷ []) }
 
--- the state after a cycle in which core 0 has begun this and wants that of SRAM, but for the blocks and the peripherals, which stay
+-- the state after a cycle in which core 0 has begun this and wants that, but for the blocks and the peripherals, which stay
 unfoldable pub inward_next : Doing → Want → State → State
 inward_next b x s =
     record (ended (with_store (inward_deed (granted_alone x s) x)
@@ -77,8 +92,8 @@ pub record GoesAlone (s : State) : Type 0 where
 abbrev pub inward_cycle : State → State
 inward_cycle s = inward_next (begun s).core0 (core0_want s) s
 
--- beside blocks p, which come to q, and peripherals that answer core 0 as those do with which it goes on alone, a cycle in which it reaches
--- for nothing but SRAM has no stop, and its state is what each leaves by itself
+-- beside blocks p, which come to q, and peripherals that answer core 0 as those do with which it goes on alone, such a
+-- cycle has no stop, and its state is what each leaves by itself
 pub record GoesOn (w : Setting) (p q : Blocks) (o : OuterState) (s : State) : Type 0 where
   pub cause : cause_in w (begun (with_beside p o s)) (wanted (begun (with_beside p o s))) (with_beside p o s) ≡ None
   pub state : next w (with_beside p o s) ≡ with_beside q (outer.next w o (begun (with_beside p o s)).outer) (inward_cycle s)
@@ -88,9 +103,9 @@ unfoldable pub inward_after : ℕ → State → State
 inward_after zero s = s
 inward_after (suc n) s = inward_cycle (inward_after n s)
 
--- in each of which it reaches for nothing but SRAM
+-- each of which is such a cycle
 abbrev pub StaysInward : State → ℕ → Type 0
-StaysInward s n = (k : ℕ) → k < n → is_inward (core0_want (inward_after k s)) ≡ true
+StaysInward s n = (k : ℕ) → k < n → goes_inward (inward_after k s) ≡ true
 
 -- the state after so many cycles, in which the blocks and the peripherals are quiet
 abbrev pub onward_after : Setting → State → ℕ → State

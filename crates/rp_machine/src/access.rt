@@ -151,7 +151,7 @@ fn is_late(rival: &Want, master: Master, spot: &Spot) -> bool
 
 /// A block of the peripherals.
 #[inline(always)]
-fn is_outer(block: Block) -> bool
+pub(crate) fn is_outer(block: Block) -> bool
     ensures { result ≡ is_outer block }
 {
     match block {

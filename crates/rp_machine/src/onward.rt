@@ -1,48 +1,62 @@
-//! A cycle in which core 0 alone is at work and reaches for nothing but SRAM, beside lanes that lie behind.
+//! A cycle in which core 0 alone is at work and reaches for nothing but SRAM, or waits for the peripherals, beside lanes that lie behind.
 
-ghost use Rattle.std.specs.Prelude.{◌≡◌, IfSome, true};
-ghost use Rattle.m0_core.specs.Cycle.{want_of};
-ghost use Rattle.rp_machine.specs.Deeds.{StoresInSram};
-ghost use Rattle.rp_machine.specs.Inward.{is_inward, inward_turn, inward_deed};
-
-use crate::access::{asked_begun, stored_at};
+use crate::access::{asked_begun, is_outer, stored_at};
 use crate::deed::Deed;
 use crate::machine::Machine;
 use crate::steps::Steps;
 use lane_look::{Lane, Marks, Turn};
 use m0_core::{Act, Doing};
+use rp_base::map::Spot;
 use std::sync::ledger::Ledger;
 
-/// What the bus gives a core for the access to SRAM that it has begun, and what that comes to.
-#[inline(always)]
-fn served_in_sram(begun: &Doing, granted: bool) -> Option<(Turn, Deed)>
-    ensures inward { IfSome result (λ r. is_inward (want_of begun.now) ≡ true) }
-    ensures turn { IfSome result (λ r. r.0 ≡ inward_turn granted (want_of begun.now)) }
-    ensures deed { IfSome result (λ r. r.1 ≡ inward_deed granted (want_of begun.now)) }
-    ensures stores { IfSome result (λ r. StoresInSram r.1) }
-{
-    match &begun.act {
-        Act::Read(_, access, _) | Act::Write(_, access) => {
-            if granted {
-                Some((Turn::Done(0), stored_at(access.request(), access.spot())))
-            } else {
+impl Machine {
+    ghost use Rattle.std.specs.Prelude.{◌≡◌, ◌+◌, ◌-◌, ◌^◌, ◌<◌, ◌≤◌, IfSome, true, false};
+    ghost use Rattle.m0_core.specs.Cycle.{want_of};
+    ghost use Rattle.rp_machine.specs.Deeds.{StoresInSram};
+    ghost use Rattle.rp_machine.specs.Alone.{granted_alone};
+    ghost use Rattle.rp_machine.specs.Answers.{lines_of};
+    ghost use Rattle.rp_machine.specs.Inward.{is_peripheral, is_inward, goes_inward, inward_turn, inward_deed, inward_rest, inward_next, inward_cycle, inward_after, StaysInward};
+
+    /// A word that the peripherals have.
+    fn is_peripheral(&self, spot: &Spot) -> bool
+        ensures { result ≡ is_peripheral spot.now }
+    {
+        match *spot {
+            Spot::Reg { block, offset, .. } => {
+                is_outer(block) && self.outer.allows(block, offset, None)
+            }
+            Spot::Ram { .. } | Spot::Sio { .. } | Spot::Ppb { .. } | Spot::Outside => false,
+        }
+    }
+
+    /// What the bus gives core 0 for the access that it has begun, and what that comes to, where it is one to SRAM, or waits for the
+    /// peripherals.
+    #[inline(always)]
+    fn served_inward(&self, begun: &Doing, granted: bool) -> Option<(Turn, Deed)>
+        ensures inward { IfSome result (λ r. is_inward granted (want_of begun.now) ≡ true) }
+        ensures turn { IfSome result (λ r. r.0 ≡ inward_turn granted (want_of begun.now)) }
+        ensures deed { IfSome result (λ r. r.1 ≡ inward_deed granted (want_of begun.now)) }
+        ensures stores { IfSome result (λ r. StoresInSram r.1) }
+    {
+        match &begun.act {
+            Act::Read(_, access, _) | Act::Write(_, access) => {
+                if granted {
+                    Some((Turn::Done(0), stored_at(access.request(), access.spot())))
+                } else {
+                    Some((Turn::Wait, Deed::Nothing))
+                }
+            }
+            Act::Outward(_, access) if !granted && self.is_peripheral(access.spot()) => {
                 Some((Turn::Wait, Deed::Nothing))
             }
+            Act::Asleep
+            | Act::Stopped(_)
+            | Act::Fault
+            | Act::Inner(_)
+            | Act::Private(..)
+            | Act::Outward(..) => None,
         }
-        Act::Asleep
-        | Act::Stopped(_)
-        | Act::Fault
-        | Act::Inner(_)
-        | Act::Private(..)
-        | Act::Outward(..) => None,
     }
-}
-
-impl Machine {
-    ghost use Rattle.std.specs.Prelude.{◌≡◌, ◌+◌, ◌-◌, ◌^◌, ◌<◌, ◌≤◌, true, false};
-    ghost use Rattle.m0_core.specs.Cycle.{want_of};
-    ghost use Rattle.rp_machine.specs.Answers.{lines_of};
-    ghost use Rattle.rp_machine.specs.Inward.{core0_want, is_inward, inward_rest, inward_next, inward_cycle, inward_after, StaysInward};
 
     /// A cycle in which core 0 has begun this and wants nothing, and no access lasts.
     #[inline(always)]
@@ -58,12 +72,14 @@ impl Machine {
         self.at = at + 1;
     }
 
-    /// A cycle in which core 0 has begun this, where that is an access to SRAM. False where it is none, and then nothing changes.
+    /// A cycle in which core 0 has begun this, where that is an access to SRAM, or one that waits for the peripherals. False where it is none
+    /// of these, and then nothing changes.
     #[inline(always)]
     #[tactic(auto, unfolding(crate::specs::Inward::inward_next))]
     fn reach_onward(&mut self, core0: &Doing, marks: &mut Marks) -> bool
         requires number { self.old.cycle < 2 ^ 64 - 1 }
-        ensures inward { result ≡ true → is_inward (want_of core0.now) ≡ true }
+        ensures inward { result ≡ true → is_inward (granted_alone (want_of core0.now) self.old)
+            (want_of core0.now) ≡ true }
         ensures done { result ≡ true → self.new ≡ inward_next core0.now (want_of core0.now) self.old }
         ensures stays { result ≡ false → self.new ≡ self.old }
         ensures marks { marks.new ≡ marks.old }
@@ -71,7 +87,7 @@ impl Machine {
         let at = self.at;
         let mut fabric = self.fabric;
         let granted = fabric.grant_core0(asked_begun(core0));
-        let Some((turn, deed)) = served_in_sram(core0, granted) else {
+        let Some((turn, deed)) = self.served_inward(core0, granted) else {
             return false;
         };
         self.fabric = fabric;
@@ -83,12 +99,12 @@ impl Machine {
     }
 
     /// One cycle of a machine in which core 0 is alone, whose interrupt lines are these, but for the other lanes, which stay as they
-    /// are. False where core 0 reaches for more than SRAM, and then nothing changes.
+    /// are. False where core 0 reaches for more than SRAM and does not wait, and then nothing changes.
     #[inline(always)]
     pub(crate) fn cycle_onward(&mut self, lines: u32, core0: &mut Doing, marks: &mut Marks) -> bool
         requires number { self.old.cycle < 2 ^ 64 - 1 }
         requires lines { lines ≡ lines_of 0 self.old }
-        ensures inward { result ≡ true → is_inward (core0_want self.old) ≡ true }
+        ensures inward { result ≡ true → goes_inward self.old ≡ true }
         ensures done { result ≡ true → self.new ≡ inward_cycle self.old }
         ensures stays { result ≡ false → self.new ≡ self.old }
         ensures marks { marks.new ≡ marks.old }
@@ -101,8 +117,8 @@ impl Machine {
         self.reach_onward(core0, marks)
     }
 
-    /// Core 0 goes on alone for at most so many cycles, up to the first in which it reaches for more than SRAM, and the other lanes stay
-    /// as they are. How many cycles that were.
+    /// Core 0 goes on alone for at most so many cycles, up to the first in which it reaches for more than SRAM and does not wait, and
+    /// the other lanes stay as they are. How many cycles that were.
     pub fn go_onward<L: Ledger>(
         &mut self,
         most: u64,

@@ -63,10 +63,10 @@ way_over w first s t before now after n r state h count =
       steps = omega (arith, so_far, number, count);
     }
 
--- and the cycle behind them brings the run nearer to its end
-pub nearer_over : (w : Setting) (s t u : State) (n : ℕ) → t ≡ states w s n → IsQuiet w s n → stop w t ≡ None → u ≡ next w t → t.cycle ≤ w.limit
+-- behind a cycle they bring the run nearer to its end
+pub nearer_over : (w : Setting) (s t u : State) (n : ℕ) → s.cycle ≤ w.limit → stop w s ≡ None → t ≡ next w s → u ≡ states w t n → IsQuiet w t n
     → w.limit - u.cycle < w.limit - s.cycle
-nearer_over w s t u n state h runs on le =
-    let number = number_over w s t n state h in
-    let near = step_nearer w t u runs on le in
+nearer_over w s t u n le runs on state h =
+    let number = number_over w t u n state h in
+    let near = step_nearer w s t runs on le in
     omega (arith, number, near)

@@ -1,16 +1,15 @@
 //! A run cycle by cycle, which goes over cycles in which nobody has anything to do at once: no window is made of it, and nothing is
 //! counted but its cycles.
 
-ghost use Rattle.std.specs.Prelude.{◌≡◌, ◌+◌, ◌≤◌, [], Some, IfOk, OnErr};
+ghost use Rattle.std.specs.Prelude.{◌≡◌, ◌+◌, ◌≤◌, Some, IfOk, OnErr};
 ghost use Rattle.outer_lane.specs.Setting.{setting};
 ghost use Rattle.trace_text.specs.Tape.{Tells};
-ghost use Rattle.rp_machine.specs.Cycle.{next, stop};
-ghost use Rattle.rp_machine.specs.Events.{events};
-ghost use Rattle.rp_machine.specs.Run.{last_state, unless_stopped};
-ghost use Rattle.window_runner.specs.Told.{all_shown, run_shown};
-ghost use Rattle.window_runner.specs.Alone.{IsOnRun, FailsWithin, stop_in};
+ghost use Rattle.rp_machine.specs.Cycle.{stop};
+ghost use Rattle.rp_machine.specs.Run.{last_state};
+ghost use Rattle.window_runner.specs.Told.{run_shown};
+ghost use Rattle.window_runner.specs.Alone.{IsOnRun, FailsWithin};
 
-use crate::alone::tell_step;
+use crate::events::tell_marks;
 use lane_look::{Device, Marks};
 use outer_lane::World;
 use quiet_run::{Pace, pass_paced};
@@ -20,34 +19,6 @@ use rp_machine::{Machine, Steps, is_bounded};
 use std::sync::ledger::Ledger;
 use trace_text::tape::Tape;
 use trace_text::writer::SinkFault;
-
-/// Does one cycle and tells its events, or finds a stop and changes nothing.
-fn cycle_told<X: Device, T: Tape, L: Ledger>(
-    machine: &mut Machine,
-    world: &World<'_, X>,
-    begun: &mut Begun,
-    marks: &mut Marks,
-    tape: &mut T,
-    steps: &mut Steps<L>,
-) -> Result<Option<Why>, SinkFault>
-    requires number { machine.old.cycle ≤ world.now.limit }
-    ensures cause { stop (setting X.meaning world.now) machine.old ≡ stop_in result }
-    ensures state { machine.new ≡ unless_stopped (stop_in result) machine.old (next (setting
-        X.meaning world.now) machine.old) }
-    ensures told { Tells T.took T.missed tape.old tape.new (T.faults tape.old) (T.faults tape.new)
-        (all_shown (unless_stopped (stop_in result) [] (events (setting X.meaning world.now)
-        machine.old))) result }
-    ensures steps { steps.new + machine.old.cycle ≡ steps.old + machine.new.cycle }
-{
-    is_bounded(world);
-    let cycle = machine.number();
-    let before = machine.pads();
-    machine.begin_into(world, begun);
-    match machine.cycle_of(world, begun, marks, steps) {
-        Some(why) => Ok(Some(why)),
-        None => tell_step(cycle, before, marks, tape),
-    }
-}
 
 /// Runs a machine up to its first stop, tells the events of all its cycles to a tape, and answers the cause of the stop: cycle by cycle,
 /// and over as many as nobody has anything to do in at once. Each cycle counts as a step. It takes no memory.
@@ -78,11 +49,19 @@ pub fn run_cycles<X: Device, T: Tape, L: Ledger>(
     let mut marks = Marks::new();
     let mut pace = Pace::default();
     'cycles: loop {
-        pass_paced(machine, world, world.limit, &mut pace, &mut marks, steps);
-        match cycle_told(machine, world, &mut begun, &mut marks, tape, steps) {
-            Ok(None) => continue 'cycles,
-            Ok(Some(why)) => return Ok(why),
-            Err(fault) => return Err(fault),
+        is_bounded(world);
+        let cycle = machine.number();
+        let before = machine.pads();
+        machine.begin_into(world, &mut begun);
+        match machine.cycle_of(world, &begun, &mut marks, steps) {
+            Some(why) => return Ok(why),
+            None => match tell_marks(cycle, before, &marks, tape) {
+                Ok(()) => {}
+                Err(fault) => return Err(fault),
+            },
+        }
+        if pace.is_due(machine) {
+            pass_paced(machine, world, world.limit, &mut pace, &mut marks, steps);
         }
     }
 }
