@@ -66,8 +66,9 @@ impl Watch for Unwatched {
     ghost looks_inward = { λ watch p o s. refl };
 }
 
-/// Goes on as far as core 0 alone is at work and reaches for nothing but SRAM, the peripherals are quiet and nothing stops it, at most up
-/// to a cycle; and counts the cycles. Each of them happens, has no events, and leaves the pads as they are. How many they were.
+/// Goes on as far as core 0 alone is at work and reaches for nothing but SRAM, or waits for the peripherals, the other lanes are quiet and
+/// nothing stops it, at most up to a cycle; and counts the cycles. Each of them happens, has no events, and leaves the pads as they are. How
+/// many they were.
 #[inline(never)]
 pub(crate) fn pass_onward<X: Device, W: Watch, L: Ledger>(
     machine: &mut Machine,

@@ -33,9 +33,9 @@ impl Pace {
     }
 }
 
-/// Goes over cycles in which core 0 alone is at work in SRAM beside quiet peripherals and nothing stops it, at most up to a cycle, and counts
-/// them. Gives how many there are, 0 also where an access lasts or core 1 is awake. Each of them happens, has no events, and leaves the pads
-/// as they are.
+/// Goes over cycles in which core 0 alone is at work in SRAM, or waits for the peripherals, beside lanes that are quiet, and nothing stops it,
+/// at most up to a cycle, and counts them. Gives how many there are, 0 also where an access lasts at the start or core 1 is awake. Each of
+/// them happens, has no events, and leaves the pads as they are.
 #[inline(always)]
 pub fn pass_watched<X: Device, W: Watch, L: Ledger>(
     machine: &mut Machine,
@@ -60,8 +60,8 @@ pub fn pass_watched<X: Device, W: Watch, L: Ledger>(
 }
 
 /// Goes over cycles of which nothing is told, at most up to a cycle, and counts them: those in which nobody has anything to do, or in
-/// which core 0 alone is at work in SRAM beside quiet peripherals. Gives how many there are, 0 also where an access lasts.
-/// Each of them happens, has no events, and leaves the pads as they are.
+/// which core 0 alone is at work in SRAM, or waits for the peripherals, beside lanes that are quiet. Gives how many there are, 0 also where
+/// an access lasts at the start. Each of them happens, has no events, and leaves the pads as they are.
 pub fn pass_quiet<X: Device, L: Ledger>(
     machine: &mut Machine,
     world: &World<'_, X>,

@@ -55,7 +55,8 @@ pub fn one_core_gets_a_lock()
     ensures { OneCoreGetsALock }
 {}
 
-/// Beside a DMA engine, PIO blocks and peripherals that are quiet, a core 0 that goes on alone and reaches for nothing but SRAM does what it
+/// Beside a DMA engine, PIO blocks and peripherals that are quiet, a core 0 that goes on alone and reaches for nothing but SRAM, or waits for
+/// the peripherals, does what it
 /// does where they lie behind, and they come to what they are so many cycles on.
 pub fn core0_goes_on_alone()
     ensures { Core0GoesOnAlone }
