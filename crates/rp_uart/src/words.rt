@@ -39,7 +39,10 @@ impl Uart {
     pub fn allows(&self, offset: u16, _write: Option<u32>) -> bool
         ensures { result ≡ is_word offset }
     {
-        self.read(offset).is_some()
+        matches!(
+            offset,
+            DR | RSR | FR | IBRD | FBRD | LCR_H | CR | IFLS | IMSC | RIS | MIS | ICR | DMACR
+        )
     }
 
     /// Does what a read, or a write of this word, does to the UART. False, and nothing is changed, where there is no such
