@@ -3,7 +3,6 @@ use Rattle.std.proofs.lemmas.Bool.Decides.{eqb_tells}
 use Rattle.std.proofs.Common.{◌≡◌, ◌+◌, ◌*◌, ◌^◌, ◌<◌, ◌≤◌, zero, suc, inl, inr, arith, ℕ, true, false, Bool, if◌then◌else◌, List, [], ◌∷◌, Option, Some, None, ◌==◌, bit_or, refl, sym, ap, ◌∙◌}
 use Rattle.rp_base.specs.declared.Master.TheVariants as master
 use Rattle.rp_base.specs.declared.Request.{Request}
-use Rattle.rp_base.specs.declared.Why.{Why}
 use Rattle.rp_base.specs.declared.map.Spot.{Spot}
 use Rattle.rp_base.specs.declared.map.Spot.TheVariants as spot
 use Rattle.rp_base.specs.Map.{place_of}
@@ -12,7 +11,6 @@ use Rattle.lane_look.specs.declared.lane.Ask.TheVariants as ask
 use Rattle.lane_look.specs.declared.marks.Mark.{Mark}
 use Rattle.lane_look.specs.declared.lane.Want.{Want}
 use Rattle.lane_look.specs.declared.lane.Want.TheVariants as want
-use Rattle.lane_look.specs.declared.lane.Turn.TheVariants as turn
 use Rattle.lane_look.specs.Asking.{Asking, answered}
 use Rattle.lane_look.specs.Asking.Asking.{Ready, Question}
 use Rattle.m0_core.specs.declared.doing.Doing.{Doing}
@@ -38,7 +36,7 @@ use Rattle.lane_look.specs.Times.{times}
 use Rattle.rp_machine.specs.State.{State}
 use Rattle.rp_machine.specs.Answers.{answer_of, pair_number, sio_lines, lines_of, block_lines, packed_pair, pacing_of, inputs_of, outs_of}
 use Rattle.rp_machine.specs.Deeds.{asked_of, turn_of, deed_of, cause_of, stored_at}
-use Rattle.rp_machine.specs.Cycle.{begun, wanted, wanted_by, cause_in, with_pins, pins_of, with_sio, ended, after_deed, mark, stop, next}
+use Rattle.rp_machine.specs.Cycle.{begun, wanted, wanted_by, cause_in, pins_of, with_sio, ended, after_deed, mark, stop, next}
 use Rattle.rp_machine.specs.BusRest.{core1_at_rest}
 use Rattle.rp_machine.specs.Alone.{Blocks, AreBlocksQuiet, blocks_after, with_blocks, IsAlone, alone_next, granted_alone, with_grant, with_store}
 use Rattle.rp_machine.specs.Inward.{with_beside, is_inward, core0_want, inward_turn, inward_deed, core0_stepped, inward_rest, inward_next, TellsSame, GoesAlone, GoesOn, inward_cycle, inward_after, StaysInward, onward_after, GoesOnward, Core0GoesOnAlone}

@@ -6,8 +6,6 @@ use Rattle.lane_look.specs.declared.lane.Turn.{Turn}
 use Rattle.lane_look.specs.declared.lane.Turn.TheVariants as turn
 use Rattle.m0_core.specs.declared.doing.Doing.{Doing}
 use Rattle.m0_core.specs.Cycle as core
-use Rattle.bus_fabric.specs.Grant.{after_grant}
-use Rattle.bus_fabric.specs.Alone.{at_most_core0}
 use Rattle.sio_block.specs.Launcher.{offers_of}
 use Rattle.outer_lane.specs.Setting.{Setting}
 use Rattle.outer_lane.specs.State.{OuterState}
@@ -18,7 +16,7 @@ use Rattle.rp_base.specs.Map.{place_of}
 use Rattle.rp_machine.specs.declared.deed.Deed.{Deed}
 use Rattle.rp_machine.specs.declared.deed.Deed.TheVariants as deed
 use Rattle.rp_machine.specs.State.{State}
-use Rattle.rp_machine.specs.Deeds.{asked_of, turn_at, stored_at}
+use Rattle.rp_machine.specs.Deeds.{turn_at, stored_at}
 use Rattle.rp_machine.specs.Cycle.{begun, wanted, cause_in, pins_of, ended, next}
 use Rattle.rp_machine.specs.Run.{states}
 use Rattle.rp_machine.specs.Quiet.{IsQuiet as RunsQuietly}

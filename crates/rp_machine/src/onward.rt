@@ -2,7 +2,7 @@
 
 ghost use Rattle.std.specs.Prelude.{◌≡◌, IfSome, true};
 ghost use Rattle.m0_core.specs.Cycle.{want_of};
-ghost use Rattle.rp_machine.specs.Deeds.{StoresInSram};
+ghost use Rattle.rp_machine.specs.Stores.{StoresInSram};
 ghost use Rattle.rp_machine.specs.Inward.{is_inward, inward_turn, inward_deed};
 
 use crate::access::{asked_begun, stored_at};
