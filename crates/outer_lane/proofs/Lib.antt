@@ -5,3 +5,4 @@ mod Stepped
 mod Staying
 mod BroughtUp
 mod Cycles
+pub mod Accesses

@@ -1,9 +1,7 @@
 -- The timer and the UARTs, which lie behind: what they are after so many cycles, in which of these they are quiet, and what an access does. Nothing of
 -- it is told outside.
-use Rattle.std.specs.Prelude.{ℕ, Bool, true, List, Option, None}
+use Rattle.std.specs.Prelude.{ℕ, Bool, true, List, [], Option}
 use Rattle.rp_base.specs.declared.map.Block.{Block}
-use Rattle.rp_base.specs.declared.map.Block.TheVariants as block
-use Rattle.rp_base.specs.Held.{unless_held}
 use Rattle.rp_base.specs.Resettable.{let_go, with_held}
 use Rattle.rp_base.specs.ResetBits.{TIMER, UART0, UART1}
 use Rattle.rp_base.specs.Word.{has_bit}
@@ -11,14 +9,12 @@ use Rattle.lane_look.specs.Times.{times}
 use Rattle.io_bank.specs.Levels.{receive_level, uart_outputs}
 use Rattle.rp_uart.specs.State as uart
 use Rattle.rp_uart.specs.Step.{output_of}
-use Rattle.rp_uart.specs.Words as uart_words
 use Rattle.rp_timer.specs.State as timer
-use Rattle.rp_timer.specs.Words as timer_words
 use Rattle.outer_lane.specs.declared.blocks.Blocks.{Blocks}
 use Rattle.outer_lane.specs.Quiet.{uart_cycle, IsTimerQuiet, IsUartQuiet}
-use Rattle.outer_lane.specs.State.{OuterState}
+use Rattle.outer_lane.specs.State.{OuterState, outer_at_start}
 use Rattle.outer_lane.specs.Step.{timer_after, uart_after}
-use Rattle.outer_lane.specs.Words.{uart_accessed, timer_accessed}
+use Rattle.outer_lane.specs.Words.{own_word, outer_accessed}
 
 -- the blocks, and what they are told: the levels of the lines that the UARTs hear
 pub record Told : Type 0 where
@@ -79,19 +75,12 @@ pub record AreBlocksQuiet (line0 line1 : Bool) (b : Blocks) (first n : ℕ) : Ty
 abbrev pub blocks_outs : Blocks → List ℕ
 blocks_outs b = uart_outputs (output_of b.uart0.block) (output_of b.uart1.block)
 
--- what their words read as; None where there is no such word, or the block is none of them
-unfoldable pub blocks_word : Block → ℕ → Blocks → Option ℕ
-blocks_word block.Uart0 offset b = unless_held b.uart0.held (uart_words.word_of offset b.uart0.block)
-blocks_word block.Uart1 offset b = unless_held b.uart1.held (uart_words.word_of offset b.uart1.block)
-blocks_word block.Timer offset b = unless_held b.timer.held (timer_words.word_of offset b.timer.block)
-blocks_word _ offset b = None
+-- what their words read as, and what a read or a write of one of these does, whatever the other peripherals are
+abbrev pub blocks_word : Block → ℕ → Blocks → Option ℕ
+blocks_word block offset b = own_word block offset (with_blocks b (outer_at_start []))
 
--- what a read or a write of one of their words does
-unfoldable pub blocks_accessed : Block → ℕ → Option ℕ → Blocks → Blocks
-blocks_accessed block.Uart0 offset write b = record b { uart0 = uart_accessed offset write b.uart0 }
-blocks_accessed block.Uart1 offset write b = record b { uart1 = uart_accessed offset write b.uart1 }
-blocks_accessed block.Timer offset write b = record b { timer = timer_accessed offset write b.timer }
-blocks_accessed _ offset write b = b
+abbrev pub blocks_accessed : Block → ℕ → Option ℕ → Blocks → Blocks
+blocks_accessed block offset write b = blocks_of (outer_accessed block offset write (with_blocks b (outer_at_start [])))
 
 -- what the bits of RESETS do
 abbrev pub blocks_reset : ℕ → Blocks → Blocks

@@ -3,6 +3,8 @@ use Rattle.std.specs.Prelude.{◌≡◌, ℕ, ◌+◌, ◌<◌, ◌≤◌, Bool,
 use Rattle.std.specs.List.{filter}
 use Rattle.rp_base.specs.declared.resettable.Resettable.{Resettable}
 use Rattle.rp_base.specs.Held.{unless_held}
+use Rattle.rp_base.specs.ResetBits.{TIMER, UART0, UART1}
+use Rattle.rp_base.specs.Word.{has_bit}
 use Rattle.lane_look.specs.declared.marks.Mark.{Mark}
 use Rattle.lane_look.specs.Device.{DeviceMeaning}
 use Rattle.lane_look.specs.Quiet.{device_after}
@@ -33,9 +35,12 @@ outer_step w seen cycle s = next w s (seen_in seen cycle)
 abbrev pub outer_after : Setting → SeenOutputs → ℕ → OuterState → OuterState
 outer_after w seen n s = times (outer_step w seen) seen.cycle n s
 
--- which blocks are held in reset beside the pads
+-- which blocks are held in reset beside the pads, and the bits of RESET that hold them
 abbrev pub held_blocks : OuterState → List Bool
 held_blocks s = s.timer.held ∷ s.uart0.held ∷ s.uart1.held ∷ []
+
+abbrev pub held_by : ℕ → List Bool
+held_by reset = has_bit reset TIMER ∷ has_bit reset UART0 ∷ has_bit reset UART1 ∷ []
 
 -- the mark of a cycle in which no frame ends and no level changes
 abbrev pub quiet_mark : OuterState → Mark

@@ -3,16 +3,13 @@
 use Rattle.std.specs.Prelude.{ℕ, ◌+◌, Bool, false, ◌&&◌, nat_lt, if◌then◌else◌, Option, None}
 use Rattle.rp_base.specs.declared.map.Block.{Block}
 use Rattle.rp_base.specs.declared.map.Block.TheVariants as block
-use Rattle.rp_base.specs.declared.resettable.Resettable.{Resettable}
 use Rattle.rp_base.specs.Held.{unless_held}
 use Rattle.rp_base.specs.Resettable.{unless_held_becomes}
 use Rattle.io_bank.specs.declared.outputs.Outs.{Outs}
 use Rattle.io_bank.specs.Offsets.{PADS_BANK0}
 use Rattle.io_bank.specs.State.{Bank}
 use Rattle.io_bank.specs.Words as bank
-use Rattle.rp_uart.specs.State.{SerialPort}
 use Rattle.rp_uart.specs.Words as uart
-use Rattle.rp_timer.specs.State.{TimerState}
 use Rattle.rp_timer.specs.Words as timer
 use Rattle.outer_lane.specs.declared.world.SeenOutputs.{SeenOutputs}
 use Rattle.outer_lane.specs.Setting.{Setting}
@@ -31,14 +28,18 @@ pads_word offset w seen s = bank.word_of offset (outs_now w seen s) s.pads
 abbrev pub bank_word : ℕ → Setting → SeenOutputs → OuterState → Option ℕ
 bank_word offset w seen s = if nat_lt offset PADS_BANK0 then pads_word offset w seen s else None
 
+-- what a word of the timer or a UART reads as; None where the block has no such word, or is none of them
+unfoldable pub own_word : Block → ℕ → OuterState → Option ℕ
+own_word block.Uart0 offset s = unless_held s.uart0.held (uart.word_of offset s.uart0.block)
+own_word block.Uart1 offset s = unless_held s.uart1.held (uart.word_of offset s.uart1.block)
+own_word block.Timer offset s = unless_held s.timer.held (timer.word_of offset s.timer.block)
+own_word _ offset s = None
+
 -- what a word reads as; None where the block has no such word, or is no peripheral
 unfoldable pub outer_word : Block → ℕ → Setting → SeenOutputs → OuterState → Option ℕ
 outer_word block.IoBank0 offset w seen s = bank_word offset w seen s
 outer_word block.PadsBank0 offset w seen s = pads_word (PADS_BANK0 + offset) w seen s
-outer_word block.Uart0 offset w seen s = unless_held s.uart0.held (uart.word_of offset s.uart0.block)
-outer_word block.Uart1 offset w seen s = unless_held s.uart1.held (uart.word_of offset s.uart1.block)
-outer_word block.Timer offset w seen s = unless_held s.timer.held (timer.word_of offset s.timer.block)
-outer_word _ offset w seen s = None
+outer_word other offset w seen s = own_word other offset s
 
 -- whether a block has a word; whether it is held does not matter
 unfoldable pub outer_allowed : Block → ℕ → Bool
@@ -49,12 +50,6 @@ outer_allowed block.Uart1 offset = uart.is_word offset
 outer_allowed block.Timer offset = timer.is_word offset
 outer_allowed _ offset = false
 
-abbrev pub uart_accessed : ℕ → Option ℕ → Resettable SerialPort → Resettable SerialPort
-uart_accessed offset write u = unless_held_becomes u (uart.effect_of offset write u.block)
-
-abbrev pub timer_accessed : ℕ → Option ℕ → Resettable TimerState → Resettable TimerState
-timer_accessed offset write t = unless_held_becomes t (timer.effect_of offset write t.block)
-
 abbrev pub bank_accessed : ℕ → Option ℕ → Bank → Bank
 bank_accessed offset write b = if nat_lt offset PADS_BANK0 then bank.effect_of offset write b else b
 
@@ -62,7 +57,7 @@ bank_accessed offset write b = if nat_lt offset PADS_BANK0 then bank.effect_of o
 unfoldable pub outer_accessed : Block → ℕ → Option ℕ → OuterState → OuterState
 outer_accessed block.IoBank0 offset write s = record s { pads = bank_accessed offset write s.pads }
 outer_accessed block.PadsBank0 offset write s = record s { pads = bank.effect_of (PADS_BANK0 + offset) write s.pads }
-outer_accessed block.Uart0 offset write s = record s { uart0 = uart_accessed offset write s.uart0 }
-outer_accessed block.Uart1 offset write s = record s { uart1 = uart_accessed offset write s.uart1 }
-outer_accessed block.Timer offset write s = record s { timer = timer_accessed offset write s.timer }
+outer_accessed block.Uart0 offset write s = record s { uart0 = unless_held_becomes s.uart0 (uart.effect_of offset write s.uart0.block) }
+outer_accessed block.Uart1 offset write s = record s { uart1 = unless_held_becomes s.uart1 (uart.effect_of offset write s.uart1.block) }
+outer_accessed block.Timer offset write s = record s { timer = unless_held_becomes s.timer (timer.effect_of offset write s.timer.block) }
 outer_accessed _ offset write s = s

@@ -179,7 +179,7 @@ impl Behind {
     }
 
     /// What a word of one of them reads as. None where there is no such word, or the block is none of them.
-    #[tactic(auto, unfolding(crate::specs::BroughtUp::blocks_word))]
+    #[tactic(auto, unfolding(crate::specs::Words::own_word))]
     pub(crate) fn read(&self, block: Block, offset: u16) -> Option<u32>
         ensures { result ≡ blocks_word block offset self.now.blocks }
     {

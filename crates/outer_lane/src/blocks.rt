@@ -74,7 +74,7 @@ impl Blocks {
     }
 
     /// Does what a read, or a write of this word, does to one of them.
-    #[tactic(auto, unfolding(crate::specs::BroughtUp::blocks_accessed))]
+    #[tactic(auto, unfolding(crate::specs::Words::outer_accessed))]
     pub(crate) fn access(&mut self, block: Block, offset: u16, write: Option<u32>)
         ensures { self.new ≡ blocks_accessed block offset write self.old }
     {

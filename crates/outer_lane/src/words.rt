@@ -27,7 +27,7 @@ impl Outer {
 
     /// The word at an offset in a register block as it reads in this cycle. None where the block has no such word, or is
     /// none of the peripherals.
-    #[tactic(auto, unfolding(crate::specs::Words::outer_word, crate::specs::BroughtUp::blocks_word))]
+    #[tactic(auto, unfolding(crate::specs::Words::outer_word, crate::specs::Words::own_word))]
     pub fn read<X: Device>(
         &self,
         world: &World<'_, X>,
@@ -40,10 +40,7 @@ impl Outer {
         match block {
             Block::IoBank0 => self.read_bank(world, seen, offset),
             Block::PadsBank0 => self.read_pads(world, seen, offset),
-            Block::Uart0 => self.blocks.read(Block::Uart0, offset),
-            Block::Uart1 => self.blocks.read(Block::Uart1, offset),
-            Block::Timer => self.blocks.read(Block::Timer, offset),
-            _ => None,
+            _ => self.blocks.read(block, offset),
         }
     }
 
@@ -127,7 +124,7 @@ impl Outer {
 
     /// Does what a read, or a write of this word, does to a register block. Nothing is changed where the block has no such
     /// word, or is none of the peripherals.
-    #[tactic(auto, unfolding(crate::specs::Words::outer_accessed, crate::specs::BroughtUp::blocks_accessed))]
+    #[tactic(auto, unfolding(crate::specs::Words::outer_accessed))]
     pub fn effect(&mut self, block: Block, offset: u16, write: Option<u32>)
         ensures { self.new ≡ outer_accessed block offset write self.old }
     {
@@ -144,10 +141,7 @@ impl Outer {
                 self.blocks
                     .tell(self.pads.receive_level(0), self.pads.receive_level(1));
             }
-            Block::Uart0 => self.access_blocks(Block::Uart0, offset, write),
-            Block::Uart1 => self.access_blocks(Block::Uart1, offset, write),
-            Block::Timer => self.access_blocks(Block::Timer, offset, write),
-            _ => {}
+            _ => self.access_blocks(block, offset, write),
         }
     }
 

@@ -15,7 +15,6 @@ use Rattle.rp_machine.specs.State.{State}
 use Rattle.rp_machine.specs.Copies.{Agree, CopiesAgree}
 use Rattle.rp_machine.specs.Cycle.{begun, pins_of}
 use Rattle.rp_machine.specs.Run.{states}
-use Rattle.rp_machine.specs.Quiet.{IsQuiet}
 use Rattle.rp_machine.specs.Alone.{Blocks, AreBlocksQuiet, blocks_after, with_blocks}
 use Rattle.rp_machine.specs.Inward.{with_beside, inward_after, StaysInward, GoesAlone, GoesOnward}
 use Rattle.rp_machine.proofs.Going.{fewer_cycles}

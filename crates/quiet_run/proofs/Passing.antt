@@ -1,6 +1,6 @@
 -- Cycles in which nobody has anything to do: each part goes its own way.
-use Rattle.std.proofs.Common.{◌≡◌, ℕ, zero, suc, ◌+◌, ◌<◌, ◌≤◌, ◌==◌, Bool, true, false, List, [], ◌∷◌, Option, None, refl, sym, ap, subst, ◌∙◌, arith}
-use Rattle.std.specs.Prelude.{if◌then◌else◌, slice_index, slice_index_or}
+use Rattle.std.proofs.Common.{◌≡◌, ℕ, zero, suc, ◌+◌, ◌<◌, ◌≤◌, ◌==◌, Bool, true, false, List, [], ◌∷◌, None, refl, sym, ap, subst, ◌∙◌, arith}
+use Rattle.std.specs.Prelude.{if◌then◌else◌, slice_index}
 use Rattle.std.proofs.lemmas.Bool.Decides.{nat_tests}
 use Rattle.lane_look.specs.declared.lane.Want.TheVariants as want
 use Rattle.lane_look.specs.declared.lane.Turn.{Turn}
@@ -259,20 +259,11 @@ quiet_none w s =
 
 -- ---- the copies that lanes keep
 
-first_of : (a b c a' b' c' : Bool) → a ∷ b ∷ c ∷ [] ≡ a' ∷ b' ∷ c' ∷ [] → a ≡ a'
-first_of a b c a' b' c' e = ap (λ (xs : List Bool). slice_index_or xs 0 false) e
-
-second_of : (a b c a' b' c' : Bool) → a ∷ b ∷ c ∷ [] ≡ a' ∷ b' ∷ c' ∷ [] → b ≡ b'
-second_of a b c a' b' c' e = ap (λ (xs : List Bool). slice_index_or xs 1 false) e
-
-third_of : (a b c a' b' c' : Bool) → a ∷ b ∷ c ∷ [] ≡ a' ∷ b' ∷ c' ∷ [] → c ≡ c'
-third_of a b c a' b' c' e = ap (λ (xs : List Bool). slice_index_or xs 2 false) e
-
 -- quiet cycles leave them as they are
 pub passing_agrees : {reset : ℕ} {core1 after1 : Core} {dma : Engine} {pio0 pio1 : Pio} {outer after : OuterState} {sio : SioState} → after1.offer ≡ core1.offer → after.pads ≡ outer.pads → held_blocks after ≡ held_blocks outer → after.sio ≡ outer.sio → Agree reset core1 dma pio0 pio1 outer sio → Agree reset after1 dma pio0 pio1 after sio
 passing_agrees offer pads held pins a = record {
   bits = a.bits;
-  held = rw (pads, first_of _ _ _ _ _ _ held, second_of _ _ _ _ _ _ held, third_of _ _ _ _ _ _ held) a.held;
+  held = rw (pads, held) a.held;
   pins = pins ∙ a.pins;
   offer = offer ∙ a.offer;
 }

@@ -1,9 +1,9 @@
 -- The n-th cycle below the present one, by a session that stands where it stood; and moves back to it.
-use Rattle.std.proofs.Common.{◌≡◌, ℕ, ◌+◌, ◌-◌, ◌%◌, ◌≤◌, List, [], ◌++◌, Option, Some, None, refl, sym, ap, subst, arith, ◌∙◌}
+use Rattle.std.proofs.Common.{◌≡◌, ℕ, ◌+◌, ◌-◌, ◌%◌, ◌≤◌, List, [], ◌++◌, Option, Some, None, sym, ap, subst, arith, ◌∙◌}
 use Rattle.outer_lane.specs.Setting.{Setting}
 use Rattle.rp_machine.specs.State.{State}
 use Rattle.rp_base.specs.Alias.{or_zero}
-use Rattle.reverse_debug.specs.declared.watch.Watched.{Watched}
+use Rattle.reverse_debug.specs.Command.{Watched}
 use Rattle.reverse_debug.specs.Reply.{last_cycle, before_nth, search_cost, move_cost, Said, at_or_start, moved_to}
 use Rattle.reverse_debug.specs.Session.{Standing, first_in, first_of, IsIn, AreOf, StandsFor, Lands, Does, Moves, FindsNear}
 use Rattle.std.specs.Prelude.{codes}

@@ -17,11 +17,14 @@ use Rattle.rp_machine.specs.Sram.{ram_word}
 use Rattle.rp_machine.specs.Run.{states}
 use Rattle.rp_machine.proofs.Runs.{states_here}
 use Rattle.quiet_run.specs.Parts.{IsIdle}
-use Rattle.reverse_debug.specs.declared.watch.Watched.{Watched}
-use Rattle.reverse_debug.specs.declared.watch.Watched.TheVariants.{Word, Pin, Begun}
+use Rattle.reverse_debug.specs.declared.watch.Watched.{Watched as Written}
+use Rattle.reverse_debug.specs.declared.watch.Watched.TheVariants as written
+use Rattle.reverse_debug.specs.Command.{Watched}
+use Rattle.reverse_debug.specs.Command.Watched.{Word, Pin, Begun}
+use Rattle.reverse_debug.specs.Reading.{sought}
 use Rattle.reverse_debug.specs.Reply.{seen, is_begun, ends, ends_by}
 use Rattle.reverse_debug.specs.Advance.{Advances, CountsMove, NoneEnds, EndsAtLast, SeesAs}
-use Rattle.reverse_debug.proofs.Paths.{Path, Way, joined, one_on, none_first, states_within, next_at, way_on, way_passed, way_stopped, way_there, quiet_there, still_below}
+use Rattle.reverse_debug.proofs.Paths.{Path, Way, joined, one_on, none_first, states_within, next_at, way_on, way_passed, way_stopped, way_there, quiet_there}
 
 -- ---- what was seen before
 
@@ -54,9 +57,9 @@ pub pin_stays : (pin b : ℕ) (s t : State) → SeesAs (Pin pin) b s → t.outer
 pin_stays pin b s t same pads =
     same (seen (Pin pin) t) ∙ same_level (seen (Pin pin) t) (seen (Pin pin) s) (ap (λ (p : Bank). if has_bit p.current pin then 1 else 0) pads)
 
-pub pin_unended : (what : Watched) (pin b : ℕ) (s t : State) → what ≡ Pin pin → SeesAs what b s → t.outer.pads ≡ s.outer.pads → ends_by what b (seen what t) ≡ false
+pub pin_unended : (what : Written) (pin b : ℕ) (s t : State) → what ≡ written.Pin pin → SeesAs (sought what) b s → t.outer.pads ≡ s.outer.pads → ends_by (sought what) b (seen (sought what) t) ≡ false
 pin_unended what pin b s t e same pads =
-    subst (λ (x : Watched). ends_by x b (seen x t) ≡ false) (sym e) (pin_stays pin b s t (subst (λ (x : Watched). SeesAs x b s) e same) pads)
+    subst (λ (x : Written). ends_by (sought x) b (seen (sought x) t) ≡ false) (sym e) (pin_stays pin b s t (subst (λ (x : Written). SeesAs (sought x) b s) e same) pads)
 
 -- nor while the cores wait
 pub idle_stays : (watched : Watched) (b : ℕ) (s t : State) → SeesAs watched b s → IsIdle s t → t.outer.pads ≡ s.outer.pads → ends_by watched b (seen watched t) ≡ false

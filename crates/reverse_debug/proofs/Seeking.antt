@@ -5,7 +5,7 @@ use Rattle.trace_text.specs.Line.{stop_text}
 use Rattle.outer_lane.specs.Setting.{Setting}
 use Rattle.rp_machine.specs.State.{State}
 use Rattle.rp_machine.specs.Run.{states, last_state}
-use Rattle.reverse_debug.specs.declared.watch.Watched.{Watched}
+use Rattle.reverse_debug.specs.Command.{Watched}
 use Rattle.reverse_debug.specs.Reply.{Said, said, last_cycle, seen, ends, ends_by, fewer, behind_nth, behind_next, at_or_last, at_reply}
 use Rattle.reverse_debug.specs.Advance.{CountsMove, NoneEnds}
 use Rattle.reverse_debug.specs.Session.{Standing, first_of, StandsFor, StaysFor, GoesOn, Seeks, Misses, Moves}

@@ -1,5 +1,5 @@
 -- What is watched, while core 0 is at work by itself.
-use Rattle.std.proofs.Common.{◌≡◌, ℕ, zero, suc, ◌+◌, ◌==◌, ◌<◌, ◌≤◌, ◌^◌, Bool, true, false, not, if◌then◌else◌, Option, inl, inr, refl, sym, ap, subst, arith, ◌∙◌, add-one}
+use Rattle.std.proofs.Common.{◌≡◌, ℕ, ◌+◌, ◌==◌, ◌<◌, ◌≤◌, Bool, true, false, not, if◌then◌else◌, Option, inl, inr, refl, sym, ap, subst, arith, ◌∙◌, add-one}
 use Rattle.std.proofs.lemmas.Bool.{cases_lt}
 use Rattle.m0_core.specs.Begins.{begins}
 use Rattle.rp_machine.specs.State.{State}
@@ -8,6 +8,7 @@ use Rattle.reverse_debug.specs.declared.watch.Watched.{Watched}
 use Rattle.reverse_debug.specs.declared.watch.Watched.TheVariants as watched
 use Rattle.reverse_debug.specs.declared.sight.Sight.{Sight}
 use Rattle.reverse_debug.specs.declared.sight.Sight.TheVariants.{Word, Begun}
+use Rattle.reverse_debug.specs.Reading.{sought}
 use Rattle.reverse_debug.specs.Reply.{seen, is_begun, ends_by}
 use Rattle.reverse_debug.specs.Sight.{stops_at}
 
@@ -21,11 +22,11 @@ by_core : (first : Bool) (address : Option ℕ) (s : State) → stops_at (Begun 
 by_core true address s = flag (is_begun address (begins s.core0))
 by_core false address s = flag (is_begun address (begins s.core1))
 
-pub word_unended : (what : Watched) (address before : ℕ) (s : State) → what ≡ watched.Word address → stops_at (Word address before) s ≡ false → ends_by what before (seen what s) ≡ false
-word_unended what address before s e none = subst (λ (x : Watched). ends_by x before (seen x s) ≡ false) (sym e) none
+pub word_unended : (what : Watched) (address before : ℕ) (s : State) → what ≡ watched.Word address → stops_at (Word address before) s ≡ false → ends_by (sought what) before (seen (sought what) s) ≡ false
+word_unended what address before s e none = subst (λ (x : Watched). ends_by (sought x) before (seen (sought x) s) ≡ false) (sym e) none
 
-pub begun_unended : (what : Watched) (core before : ℕ) (address : Option ℕ) (s : State) → what ≡ watched.Begun core address → stops_at (Begun (not (core == 0)) address) s ≡ false → ends_by what before (seen what s) ≡ false
-begun_unended what core before address s e none = subst (λ (x : Watched). ends_by x before (seen x s) ≡ false) (sym e) (sym (by_core (core == 0) address s) ∙ none)
+pub begun_unended : (what : Watched) (core before : ℕ) (address : Option ℕ) (s : State) → what ≡ watched.Begun core address → stops_at (Begun (not (core == 0)) address) s ≡ false → ends_by (sought what) before (seen (sought what) s) ≡ false
+begun_unended what core before address s e none = subst (λ (x : Watched). ends_by (sought x) before (seen (sought x) s) ≡ false) (sym e) (sym (by_core (core == 0) address s) ∙ none)
 
 -- ---- core 0 goes on cycle by cycle
 

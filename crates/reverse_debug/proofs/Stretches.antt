@@ -9,7 +9,7 @@ use Rattle.rp_machine.specs.State.{State}
 use Rattle.rp_machine.specs.Run.{states}
 use Rattle.snap_ring.specs.Ring.{Snapshots, state_at, restored, IsNearest}
 use Rattle.reverse_debug.specs.declared.search.Tally.{Tally}
-use Rattle.reverse_debug.specs.declared.watch.Watched.{Watched}
+use Rattle.reverse_debug.specs.Command.{Watched}
 use Rattle.reverse_debug.specs.Reply.{last_cycle, happens, search_cost, before_nth}
 use Rattle.reverse_debug.specs.Search.{noted, tally}
 use Rattle.reverse_debug.specs.Session.{IsIn, AreOf, FindsNear, all_kept}

@@ -6,7 +6,7 @@ use Rattle.rp_machine.specs.State.{State}
 use Rattle.rp_machine.specs.Cycle.{stop, next}
 use Rattle.rp_machine.specs.Run.{states}
 use Rattle.rp_machine.proofs.Runs.{states_here, states_on}
-use Rattle.reverse_debug.specs.declared.watch.Watched.{Watched}
+use Rattle.reverse_debug.specs.Command.{Watched}
 use Rattle.reverse_debug.specs.Reply.{seen, last_cycle, happens, happens_by}
 use Rattle.reverse_debug.specs.Advance.{Advances, CountsMove}
 use Rattle.reverse_debug.specs.declared.search.Tally.{Tally}

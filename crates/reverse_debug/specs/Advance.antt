@@ -5,7 +5,7 @@ use Rattle.outer_lane.specs.Setting.{Setting}
 use Rattle.rp_machine.specs.State.{State}
 use Rattle.rp_machine.specs.Cycle.{stop}
 use Rattle.rp_machine.specs.Run.{states}
-use Rattle.reverse_debug.specs.declared.watch.Watched.{Watched}
+use Rattle.reverse_debug.specs.Command.{Watched}
 use Rattle.reverse_debug.specs.Reply.{seen, ends, ends_by}
 
 -- from one state to another, at most to a cycle; with a cause only where that is the first stop below it

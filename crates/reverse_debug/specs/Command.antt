@@ -7,8 +7,12 @@ use Rattle.std.specs.Str.{bytes_eq}
 use Rattle.rp_base.specs.declared.map.Spot.{Spot}
 use Rattle.rp_base.specs.declared.map.Spot.TheVariants as spot
 use Rattle.rp_base.specs.Map.{place_of}
-use Rattle.reverse_debug.specs.declared.watch.Watched.{Watched}
-use Rattle.reverse_debug.specs.declared.watch.Watched.TheVariants.{Word, Pin, Begun}
+
+-- what is watched on a run: a word of SRAM, the level of a pin, or what a core begins, at an address or at any one
+pub data Watched : Type 0 where
+  Word : (address : ℕ) → Watched
+  Pin : (pin : ℕ) → Watched
+  Begun : (core : ℕ) → (address : Option ℕ) → Watched
 
 pub data Command : Type 0 where
   -- move so many cycles forward, or back
@@ -84,18 +88,15 @@ words line = slice_split (λ byte. byte == 32) line
 -- a core has the number 0 or 1; what it begins is watched: the instruction at an address, or each one
 abbrev pub begun_at : Option ℕ → Option ℕ → Option Watched
 begun_at (Some address) (Some core) = if nat_le core 1 then Some (Begun core (Some address)) else None
-begun_at (Some address) None = None
-begun_at None core = None
+begun_at _ _ = None
 
 abbrev pub next_of : Option ℕ → Option ℕ → Command
 next_of (Some count) (Some core) = if nat_le core 1 then Until (Begun core None) count else Bad
-next_of (Some count) None = Bad
-next_of None core = Bad
+next_of _ _ = Bad
 
 abbrev pub prev_of : Option ℕ → Option ℕ → Command
 prev_of (Some count) (Some core) = if nat_le core 1 then Before (Begun core None) count else Bad
-prev_of (Some count) None = Bad
-prev_of None core = Bad
+prev_of _ _ = Bad
 
 abbrev pub alone : List ℕ → Command
 alone name =
@@ -116,8 +117,7 @@ with_number command (Some n) = command n
 
 abbrev pub mem_of : Option ℕ → Option ℕ → Command
 mem_of (Some address) (Some count) = if are_words address count then Mem address count else Bad
-mem_of (Some address) None = Bad
-mem_of None count = Bad
+mem_of _ _ = Bad
 
 -- what is watched: one word of SRAM, or one of the pins 0 to 29
 abbrev pub word_of : Option ℕ → Option Watched
@@ -143,8 +143,7 @@ peek_of (Some address) = if address % 4 == 0 then Peek address else Bad
 
 abbrev pub pio_of : Option ℕ → Option ℕ → Command
 pio_of (Some block) (Some machine) = if nat_le block 1 && nat_le machine 3 then Pio block machine else Bad
-pio_of (Some block) None = Bad
-pio_of None machine = Bad
+pio_of _ _ = Bad
 
 abbrev pub with_one : List ℕ → List ℕ → Command
 with_one name word =

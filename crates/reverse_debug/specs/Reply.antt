@@ -14,9 +14,8 @@ use Rattle.rp_machine.specs.Sram.{ram_word}
 use Rattle.rp_machine.specs.Readers.{registers_of, pio_registers}
 use Rattle.rp_machine.specs.Reads.{begins_of, peeked}
 use Rattle.rp_machine.specs.Run.{states, last_state}
-use Rattle.reverse_debug.specs.declared.watch.Watched.{Watched}
-use Rattle.reverse_debug.specs.declared.watch.Watched.TheVariants.{Word, Pin, Begun}
-use Rattle.reverse_debug.specs.Command.{Command, addresses, command_of}
+use Rattle.reverse_debug.specs.Command.{Command, Watched, addresses, command_of}
+use Rattle.reverse_debug.specs.Command.Watched.{Word, Pin, Begun}
 use Rattle.reverse_debug.specs.Command.Command.{Step, Back, Goto, End, Regs, Mem, Pins, Pio, Peek, Until, Before, Last, Quit, Bad}
 
 -- where the session stands after a line, the reply, and whether the line ends the session

@@ -3,7 +3,7 @@ use Rattle.std.specs.Prelude.{ℕ, zero, suc, ◌+◌, max, Bool, true, false, n
 use Rattle.outer_lane.specs.Setting.{Setting}
 use Rattle.rp_machine.specs.State.{State}
 use Rattle.reverse_debug.specs.declared.search.Tally.{Tally}
-use Rattle.reverse_debug.specs.declared.watch.Watched.{Watched}
+use Rattle.reverse_debug.specs.Command.{Watched}
 use Rattle.reverse_debug.specs.Reply.{happens}
 
 -- the greater of two cycles, of which each may be none

@@ -8,9 +8,8 @@ use Rattle.rp_machine.specs.State.{State}
 use Rattle.rp_machine.specs.Cycle.{stop}
 use Rattle.rp_machine.specs.Run.{states}
 use Rattle.snap_ring.specs.Ring.{Snapshots, spacing_of, near_spacing, is_kept, is_within, state_at, restored}
-use Rattle.reverse_debug.specs.declared.watch.Watched.{Watched}
 use Rattle.reverse_debug.specs.Advance.{CountsMove}
-use Rattle.reverse_debug.specs.Command.{Command}
+use Rattle.reverse_debug.specs.Command.{Command, Watched}
 use Rattle.reverse_debug.specs.Command.Command.{Before, Last}
 use Rattle.reverse_debug.specs.Reply.{Said, last_cycle, move_cost, before_nth, behind_next, answer}
 

@@ -5,7 +5,7 @@ ghost use Rattle.outer_lane.specs.Setting.{setting};
 ghost use Rattle.rp_machine.specs.Quiet.{IsQuiet};
 ghost use Rattle.rp_machine.specs.Run.{states};
 ghost use Rattle.reverse_debug.specs.Advance.{Advances, SeesAs, EndsAtLast, CountsMove};
-ghost use Rattle.reverse_debug.specs.Reading.{IsThere};
+ghost use Rattle.reverse_debug.specs.Reading.{sought, IsThere};
 ghost use Rattle.reverse_debug.specs.Reply.{ends_by, seen};
 
 use crate::sight::Sight;
@@ -58,7 +58,7 @@ pub(crate) fn advance<X: Device, L: Ledger>(
 /// So many cycles were passed, and a move forward ends behind the last of them.
 fn has_ended(passed: u64, watched: Watched, before: u32, machine: &Machine) -> bool
     requires { IsThere watched }
-    ensures { result ≡ (nat_lt 0 passed && ends_by watched before (seen watched machine.now)) }
+    ensures { result ≡ (nat_lt 0 passed && ends_by (sought watched) before (seen (sought watched) machine.now)) }
 {
     0 < passed && ends_by(watched, before, seen(machine, watched))
 }
@@ -75,12 +75,12 @@ fn pass_seeking<X: Device, L: Ledger>(
     steps: &mut Steps<L>,
 ) -> u64
     requires limit { to ≤ world.now.limit }
-    requires before { SeesAs watched before machine.old }
+    requires before { SeesAs (sought watched) before machine.old }
     ensures state { machine.new ≡ states (setting X.meaning world.now) machine.old result }
     ensures quiet { IsQuiet (setting X.meaning world.now) machine.old result }
     ensures within { 0 < result → machine.old.cycle + result ≤ to }
-    ensures none { (k : ℕ) → k + 1 < result → ends_by watched before
-        (seen watched (states (setting X.meaning world.now) machine.old (k + 1))) ≡ false }
+    ensures none { (k : ℕ) → k + 1 < result → ends_by (sought watched) before
+        (seen (sought watched) (states (setting X.meaning world.now) machine.old (k + 1))) ≡ false }
     ensures steps { steps.new ≡ steps.old + result }
 {
     if machine.core0.is_waiting() {
@@ -114,7 +114,7 @@ pub(crate) fn seek<X: Device, L: Ledger>(
     requires ahead { machine.old.cycle < to }
     ensures way { Advances (setting X.meaning world.now) machine.old to machine.new result }
     ensures ahead { IfNone result (machine.old.cycle < machine.new.cycle) }
-    ensures none { EndsAtLast (setting X.meaning world.now) watched machine.old machine.new result }
+    ensures none { EndsAtLast (setting X.meaning world.now) (sought watched) machine.old machine.new result }
     ensures steps { CountsMove machine.old machine.new steps.old steps.new }
 {
     let before = seen(machine, watched);

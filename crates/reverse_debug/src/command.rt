@@ -1,8 +1,9 @@
 //! The commands, and how a line asks for them.
 
 ghost use Rattle.std.specs.Prelude.{◌≡◌, not, IfSome};
+ghost use Rattle.std.specs.Option.{option_map};
 ghost use Rattle.reverse_debug.specs.Command.{is_quit, command_of, alone, with_one, with_two, mem_of, word_of, pin_of, begun_at, next_of, prev_of, until_of, last_of, peek_of, pio_of};
-ghost use Rattle.reverse_debug.specs.Reading.{meant, Fits, IsThere};
+ghost use Rattle.reverse_debug.specs.Reading.{meant, sought, Fits, IsThere};
 
 use crate::watch::Watched;
 use crate::words::{address_of, are_words, first_word, is, number_of};
@@ -52,7 +53,7 @@ pub(crate) enum Command {
 
 /// What core 0 or 1 begins is watched: the instruction at an address.
 fn begun_at(address: Option<u32>, core: Option<u64>) -> Option<Watched>
-    ensures meaning { result ≡ begun_at address core }
+    ensures meaning { option_map sought result ≡ begun_at address core }
     ensures fits { IfSome result IsThere }
 {
     match (address, core) {
@@ -92,7 +93,7 @@ fn prev_of(count: Option<u64>, core: Option<u64>) -> Command
 /// A move to the next time of what is watched.
 fn until_of(watched: Option<Watched>) -> Command
     requires { IfSome watched IsThere }
-    ensures meaning { meant result ≡ until_of watched }
+    ensures meaning { meant result ≡ until_of (option_map sought watched) }
     ensures fits { Fits result }
 {
     match watched {
@@ -104,7 +105,7 @@ fn until_of(watched: Option<Watched>) -> Command
 /// A question for the last time of what is watched.
 fn last_of(watched: Option<Watched>) -> Command
     requires { IfSome watched IsThere }
-    ensures meaning { meant result ≡ last_of watched }
+    ensures meaning { meant result ≡ last_of (option_map sought watched) }
     ensures fits { Fits result }
 {
     match watched {
@@ -166,7 +167,7 @@ fn mem_of(address: Option<u32>, count: Option<u64>) -> Command
 
 /// A word of SRAM that is watched.
 fn word_of(address: Option<u32>) -> Option<Watched>
-    ensures meaning { result ≡ word_of address }
+    ensures meaning { option_map sought result ≡ word_of address }
     ensures fits { IfSome result IsThere }
 {
     match address {
@@ -177,7 +178,7 @@ fn word_of(address: Option<u32>) -> Option<Watched>
 
 /// A pin that is watched.
 fn pin_of(pin: Option<u64>) -> Option<Watched>
-    ensures meaning { result ≡ pin_of pin }
+    ensures meaning { option_map sought result ≡ pin_of pin }
     ensures fits { IfSome result IsThere }
 {
     match pin {

@@ -7,6 +7,7 @@ ghost use Rattle.outer_lane.specs.Setting.{setting};
 ghost use Rattle.rp_base.specs.Word.{has_bit};
 ghost use Rattle.trace_text.specs.Line.{hex_word, level_digit, spaced_word};
 ghost use Rattle.reverse_debug.specs.Command.{addresses, are_words};
+ghost use Rattle.reverse_debug.specs.Reading.{sought};
 ghost use Rattle.reverse_debug.specs.Reply.{word_at, regs_reply, mem_reply, pins_reply, pio_words, pio_reply, peek_reply, at_reply, watched_text, last_reply};
 
 use crate::watch::{Watched, word_at};
@@ -183,7 +184,7 @@ pub(crate) fn put_cycle(cycle: u64, reply: &mut Reply)
 /// The name of what is watched.
 fn push_watched(watched: Watched, reply: &mut Reply)
     requires { reply.old.items ≡ [] }
-    ensures text { reply.new.items ≡ watched_text watched }
+    ensures text { reply.new.items ≡ watched_text (sought watched) }
     ensures short { array_vec_len reply.new ≤ 50 }
 {
     match watched {
@@ -206,7 +207,7 @@ fn push_watched(watched: Watched, reply: &mut Reply)
 #[tactic(auto, unfolding(crate::specs::Reply::last_reply))]
 pub(crate) fn put_last(watched: Watched, last: Option<u64>, reply: &mut Reply)
     requires { reply.old.items ≡ [] }
-    ensures { reply.new.items ≡ last_reply watched last }
+    ensures { reply.new.items ≡ last_reply (sought watched) last }
 {
     push_watched(watched, reply);
     push_text(b" ", reply);

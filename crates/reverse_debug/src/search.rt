@@ -6,7 +6,7 @@ ghost use Rattle.rp_base.specs.Alias.{or_zero};
 ghost use Rattle.snap_ring.specs.Ring.{state_at, restored, IsNearest};
 ghost use Rattle.reverse_debug.specs.Search.{greater_of, noted, tally};
 ghost use Rattle.reverse_debug.specs.Reply.{last_cycle, search_cost, before_nth};
-ghost use Rattle.reverse_debug.specs.Reading.{IsThere};
+ghost use Rattle.reverse_debug.specs.Reading.{sought, IsThere};
 ghost use Rattle.reverse_debug.specs.Session.{AreOf, FindsNear, all_kept, first_in};
 
 use crate::advance::advance;
@@ -57,7 +57,7 @@ fn scan<X: Device, L: Ledger>(
     requires ahead { machine.old.cycle ≤ to }
     requires to { to ≤ last_cycle (setting X.meaning world.now) machine.old }
     ensures tally { result
-        ≡ tally (setting X.meaning world.now) machine.old watched most (to - machine.old.cycle) }
+        ≡ tally (setting X.meaning world.now) machine.old (sought watched) most (to - machine.old.cycle) }
     ensures steps { steps.new + machine.old.cycle ≡ steps.old + to }
 {
     let mut tally = Tally {
@@ -124,7 +124,7 @@ pub(crate) fn nth_before<X: Device, L: Ledger>(
     requires kept { AreOf (setting X.meaning world.now) (first_in ring.now machine.old) ring.now near.now to }
     requires to { to ≤ last_cycle (setting X.meaning world.now) (first_in ring.now machine.old) }
     ensures found { result
-        ≡ before_nth (setting X.meaning world.now) (first_in ring.now machine.old) watched count to }
+        ≡ before_nth (setting X.meaning world.now) (first_in ring.now machine.old) (sought watched) count to }
     ensures forward { steps.old ≤ steps.new }
     ensures steps { steps.new ≤ steps.old + search_cost ring.now.spacing count to result }
     ensures near { FindsNear near.now count to (or_zero result)

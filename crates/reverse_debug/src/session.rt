@@ -95,7 +95,7 @@ impl Session {
     ghost use Rattle.outer_lane.specs.Setting.{Setting, setting};
     ghost use Rattle.rp_base.specs.Alias.{or_zero};
     ghost use Rattle.reverse_debug.specs.Command.{are_words};
-    ghost use Rattle.reverse_debug.specs.Reading.{meant, Fits, IsThere};
+    ghost use Rattle.reverse_debug.specs.Reading.{meant, sought, Fits, IsThere};
     ghost use Rattle.reverse_debug.specs.Reply.{heard, answer, cost, command_cost, moved_to, moved_back, move_cost, search_cost, before_nth, behind_next, at_or_last, at_or_start};
     ghost use Rattle.reverse_debug.specs.Command.{command_of};
     ghost use Rattle.snap_ring.specs.Ring.{is_within};
@@ -237,7 +237,7 @@ impl Session {
         requires watched { IsThere watched }
         ensures way { GoesOn (setting X.meaning world.now) self.old (self.old.now.cycle + self.old.ring.spacing) self.new result }
         ensures ahead { IfNone result (self.old.now.cycle < self.new.now.cycle) }
-        ensures none { EndsAtLast (setting X.meaning world.now) watched self.old.now self.new.now result }
+        ensures none { EndsAtLast (setting X.meaning world.now) (sought watched) self.old.now self.new.now result }
         ensures steps { CountsMove self.old.now self.new.now steps.old steps.new }
     {
         let until = self.next_stop(u64::MAX);
@@ -326,7 +326,7 @@ impl Session {
     ) -> Option<Why>
         requires stands { StandsFor (setting X.meaning world.now) self.old }
         requires watched { IsThere watched }
-        ensures { ComesTo (setting X.meaning world.now) watched count self.old self.new result steps.old steps.new }
+        ensures { ComesTo (setting X.meaning world.now) (sought watched) count self.old self.new result steps.old steps.new }
     {
         let mut left = count;
         let mut marks = Marks::new();
@@ -358,7 +358,7 @@ impl Session {
         requires empty { reply.old.items ≡ [] }
         ensures { let w = setting X.meaning world.now in
             let what = at_or_last w (first_of self.old)
-            (behind_next w (first_of self.old) watched count self.old.now.cycle) in
+            (behind_next w (first_of self.old) (sought watched) count self.old.now.cycle) in
             Moves w self.old what self.new reply.new.items steps.old steps.new }
     {
         match self.until_nth(world, watched, count, steps) {
@@ -377,7 +377,7 @@ impl Session {
     ) -> Option<u64>
         requires stands { StandsFor (setting X.meaning world.now) self.old }
         requires watched { IsThere watched }
-        ensures found { result ≡ before_nth (setting X.meaning world.now) (first_of self.old) watched count self.old.now.cycle }
+        ensures found { result ≡ before_nth (setting X.meaning world.now) (first_of self.old) (sought watched) count self.old.now.cycle }
         ensures same { self.new ≡ self.old }
         ensures forward { steps.old ≤ steps.new }
         ensures steps { steps.new ≤ steps.old
@@ -412,7 +412,7 @@ impl Session {
         requires watched { IsThere watched }
         requires empty { reply.old.items ≡ [] }
         ensures { let w = setting X.meaning world.now in
-            let found = before_nth w (first_of self.old) watched count self.old.now.cycle in
+            let found = before_nth w (first_of self.old) (sought watched) count self.old.now.cycle in
             Does w self.old (at_or_start found)
             (FindsNear self.old.near count self.old.now.cycle (or_zero found))
             (λ d. search_cost d count self.old.now.cycle found

@@ -1,7 +1,7 @@
 //! What is watched on a run.
 
 ghost use Rattle.std.specs.Prelude.{◌≡◌};
-ghost use Rattle.reverse_debug.specs.Reading.{IsThere};
+ghost use Rattle.reverse_debug.specs.Reading.{sought, IsThere};
 ghost use Rattle.reverse_debug.specs.Reply.{seen, word_at, is_begun, happens_by, ends_by};
 
 use rp_base::bits::has_bit;
@@ -43,7 +43,7 @@ pub(crate) fn is_begun(address: Option<u32>, begun: Option<u32>) -> bool
 /// What is there of it at the machine's cycle: the word, or the level as 0 or 1, or 1 where the core begins the instruction.
 pub(crate) fn seen(machine: &Machine, watched: Watched) -> u32
     requires { IsThere watched }
-    ensures { result ≡ seen watched machine.now }
+    ensures { result ≡ seen (sought watched) machine.now }
 {
     match watched {
         Watched::Word(address) => word_at(machine, address),
@@ -66,7 +66,7 @@ pub(crate) fn seen(machine: &Machine, watched: Watched) -> u32
 
 /// It happens in a cycle, by what is seen before and after its step.
 pub(crate) fn happens_by(watched: Watched, before: u32, after: u32) -> bool
-    ensures { result ≡ happens_by watched before after }
+    ensures { result ≡ happens_by (sought watched) before after }
 {
     match watched {
         Watched::Begun(..) => before == 1,
@@ -76,7 +76,7 @@ pub(crate) fn happens_by(watched: Watched, before: u32, after: u32) -> bool
 
 /// A move forward ends behind a cycle, by what is seen before and after its step.
 pub(crate) fn ends_by(watched: Watched, before: u32, after: u32) -> bool
-    ensures { result ≡ ends_by watched before after }
+    ensures { result ≡ ends_by (sought watched) before after }
 {
     match watched {
         Watched::Begun(..) => after == 1,

@@ -26,12 +26,13 @@ use Rattle.outer_lane.specs.Device.{device_accessed}
 use Rattle.sio_block.specs.State.{SioState}
 use Rattle.sio_block.specs.State as sio_state
 use Rattle.sio_block.specs.Launcher.{offers_of}
+use Rattle.outer_lane.proofs.Accesses.{SameCopies, access_leaves, device_leaves, pads_reset}
 use Rattle.rp_machine.specs.declared.load.PioLoad.{PioLoad}
 use Rattle.rp_machine.specs.Boot.{block_loaded}
 use Rattle.rp_machine.specs.Cycle.{pins_of, with_pins, with_offer}
 use Rattle.rp_machine.specs.Copies.{Agree}
 use Rattle.rp_machine.proofs.HeldDma.{Holds, dma_next, dma_effect, dma_reset}
-use Rattle.rp_machine.proofs.HeldLanes.{PioHolds, pio_next, pio_effect, pio_reset, pio_loaded, SameCopies, outer_next, outer_effect, outer_device, bank_reset, Offers, core_next}
+use Rattle.rp_machine.proofs.HeldLanes.{PioHolds, pio_next, pio_effect, pio_reset, pio_loaded, outer_next, Offers, core_next}
 
 -- ---- one part has changed
 
@@ -51,7 +52,7 @@ with_outer : {reset : ℕ} {core1 : Core} {dma : Engine} {pio0 pio1 : Pio} {oute
     → SameCopies outer after → Agree reset core1 dma pio0 pio1 outer sio → Agree reset core1 dma pio0 pio1 after sio
 with_outer h a = record {
   bits = a.bits;
-  held = rw (h.bank, h.pads, h.timer, h.uart0, h.uart1) a.held;
+  held = rw (h.bank, h.pads, h.blocks) a.held;
   pins = h.sio ∙ a.pins;
   offer = a.offer;
 }
@@ -84,13 +85,13 @@ pub outer_agrees : {reset : ℕ} {core1 : Core} {dma : Engine} {pio0 pio1 : Pio}
     → after ≡ outer_accessed block offset write outer
     → Agree reset core1 dma pio0 pio1 outer sio → Agree reset core1 dma pio0 pio1 after sio
 outer_agrees {reset} {core1} {dma} {pio0} {pio1} {outer} {after} {sio} block offset write e a =
-    rw e (with_outer (outer_effect block offset write outer) a)
+    rw e (with_outer (access_leaves block offset write outer).copies a)
 
 pub device_agrees : {reset : ℕ} {core1 : Core} {dma : Engine} {pio0 pio1 : Pio} {outer after : OuterState} {sio : SioState} (w : Setting) (address : ℕ) (write : Option ℕ)
     → after ≡ device_accessed w address write outer
     → Agree reset core1 dma pio0 pio1 outer sio → Agree reset core1 dma pio0 pio1 after sio
 device_agrees {reset} {core1} {dma} {pio0} {pio1} {outer} {after} {sio} w address write e a =
-    rw e (with_outer (outer_device w address write outer) a)
+    rw e (with_outer (device_leaves w address write outer).copies a)
 
 -- ---- RESETS
 
@@ -101,7 +102,7 @@ pub reset_agrees : (w : ℕ) (core1 : Core) (dma : Engine) (pio0 pio1 : Pio) (ou
     → Agree w core1 (with_hold (has_bit w DMA) dma) (with_held (has_bit w PIO0) pio0) (with_held (has_bit w PIO1) pio1) (outer_reset w outer) sio
 unfolding outer_reset
 reset_agrees w core1 dma pio0 pio1 outer sio bits pins offer =
-    let bank = bank_reset (has_bit w IO_BANK0) (has_bit w PADS_BANK0) outer.pads in
+    let bank = pads_reset (has_bit w IO_BANK0) (has_bit w PADS_BANK0) outer.pads in
     record {
       bits = bits;
       held = rw ((dma_reset (has_bit w DMA) dma).is, bank.0, bank.1, (pio_reset (has_bit w PIO0) pio0).is, (pio_reset (has_bit w PIO1) pio1).is) refl;

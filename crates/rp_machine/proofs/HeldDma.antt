@@ -1,5 +1,5 @@
 -- The DMA engine keeps its bit of RESETS in a cycle and in an access.
-use Rattle.std.proofs.Common.{◌≡◌, ℕ, zero, suc, Bool, true, false, ◌&&◌, ◌==◌, if◌then◌else◌, nat_lt, length, Option, Some, None, List, refl}
+use Rattle.std.proofs.Common.{◌≡◌, ℕ, zero, suc, Bool, true, false, if◌then◌else◌, nat_lt, length, Option, Some, None, List, refl}
 use Rattle.std.specs.Prelude.{slice_get, slice_set}
 use Rattle.rp_base.specs.Word.{has_bit}
 use Rattle.lane_look.specs.declared.lane.Turn.{Turn}
@@ -13,10 +13,6 @@ use Rattle.dma_engine.specs.Choice.{choice_of}
 use Rattle.dma_engine.specs.Cycle.{is_over, after_ends, word_of, word_read, is_written, after_read_of, after_write_of, with_data, with_read_by, with_read, after_read, after_write, counted, choice_where_none, after_transfers, next}
 use Rattle.dma_engine.specs.Words.{null_trigger, trigger_word, with_read_address, with_write_address, with_count, with_control, dma_rows, after_any, effect_of}
 use Rattle.rp_base.proofs.Rows.{Kept, keeps}
-
-pub either_way : {A : Type 0} (P : A → Type 0) (c : Bool) (x y : A) → P x → P y → P (if c then x else y)
-either_way P true x y h k = h
-either_way P false x y h k = k
 
 pub record Holds (bit : Bool) (e : Engine) : Type 0 where
   pub is : e.held ≡ bit

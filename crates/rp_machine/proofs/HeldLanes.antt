@@ -1,9 +1,7 @@
 -- The PIO blocks and the peripherals keep their bits of RESETS in a cycle and in an access, and core 1 what its launcher has.
-use Rattle.std.proofs.Common.{◌≡◌, ◌+◌, ◌==◌, nat_lt, ℕ, Bool, true, false, if◌then◌else◌, Option, Some, None, List, [], ◌∷◌, refl, rules}
+use Rattle.std.proofs.Common.{◌≡◌, ◌+◌, ◌==◌, nat_lt, ℕ, Bool, true, false, if◌then◌else◌, Option, Some, None, List, [], ◌∷◌, refl}
 use Rattle.rp_base.specs.declared.Request.{Request}
 use Rattle.rp_base.specs.declared.op.Op.{Op}
-use Rattle.rp_base.specs.declared.map.Block.{Block}
-use Rattle.rp_base.specs.declared.map.Block.TheVariants as block
 use Rattle.lane_look.specs.declared.lane.Turn.{Turn}
 use Rattle.pio_block.specs.declared.inputs.Inputs.{Inputs}
 use Rattle.pio_block.specs.State.{Block as Pio, with_held}
@@ -12,16 +10,11 @@ use Rattle.pio_block.specs.Queues.{debug_written, sent, taken}
 use Rattle.pio_block.specs.Cycle as pio
 use Rattle.pio_block.specs.Words as words
 use Rattle.rp_base.proofs.Rows.{Kept, keeps}
-use Rattle.io_bank.specs.Offsets.{PADS_BANK0}
-use Rattle.io_bank.specs.State.{Bank, after_held}
-use Rattle.io_bank.specs.Words as bank
 use Rattle.outer_lane.specs.Setting.{Setting}
 use Rattle.outer_lane.specs.declared.world.SeenOutputs.{SeenOutputs}
 use Rattle.outer_lane.specs.State.{OuterState}
 use Rattle.outer_lane.specs.Step as outer
-use Rattle.outer_lane.specs.Words.{bank_accessed, outer_accessed}
-use Rattle.outer_lane.specs.Device.{device_words, device_accessed}
-use Rattle.outer_lane.specs.Step.{is_fitting}
+use Rattle.outer_lane.proofs.Accesses.{SameCopies}
 use Rattle.m0_core.specs.declared.doing.Act.{Act}
 use Rattle.m0_core.specs.declared.doing.Act.TheVariants as act
 use Rattle.m0_core.specs.declared.doing.Work.{Work}
@@ -79,79 +72,9 @@ pio_loaded load bit p h =
 
 -- ---- the peripherals
 
-record SameBank (b c : Bank) : Type 0 where
-  pub bank : c.bank_held ≡ b.bank_held
-  pub pads : c.pads_held ≡ b.pads_held
-
-bank_way : (b : Bank) (c : Bool) (x y : Bank) → SameBank b x → SameBank b y → SameBank b (if c then x else y)
-bank_way b true x y h k = h
-bank_way b false x y h k = k
-
-same_bank : (b : Bank) → SameBank b b
-same_bank b = record { bank = refl; pads = refl }
-
-any_same : (offset : ℕ) (write : Option ℕ) (b : Bank) → SameBank b (bank.after_any offset write b)
-any_same offset write b = keeps (SameBank b) bank.bank_rows offset write b (same_bank b) (search rules)
-
-effect_same : (offset : ℕ) (write : Option ℕ) (b : Bank) → SameBank b (bank.effect_of offset write b)
-effect_same offset write b =
-    bank_way b (bank.is_word offset) _ b
-    (bank_way b (bank.is_held offset b) b _ (same_bank b) (any_same offset write b)) (same_bank b)
-
-accessed_same : (offset : ℕ) (write : Option ℕ) (b : Bank) → SameBank b (bank_accessed offset write b)
-accessed_same offset write b = bank_way b _ _ _ (effect_same offset write b) (same_bank b)
-
--- the bits, and what SIO puts out
-pub record SameCopies (o p : OuterState) : Type 0 where
-  pub bank : p.pads.bank_held ≡ o.pads.bank_held
-  pub pads : p.pads.pads_held ≡ o.pads.pads_held
-  pub timer : p.timer.held ≡ o.timer.held
-  pub uart0 : p.uart0.held ≡ o.uart0.held
-  pub uart1 : p.uart1.held ≡ o.uart1.held
-  pub sio : p.sio ≡ o.sio
-
-outer_way : (o : OuterState) (c : Bool) (x y : OuterState) → SameCopies o x → SameCopies o y → SameCopies o (if c then x else y)
-outer_way o true x y h k = h
-outer_way o false x y h k = k
-
-same_copies : (o : OuterState) → SameCopies o o
-same_copies o = record { bank = refl; pads = refl; timer = refl; uart0 = refl; uart1 = refl; sio = refl }
-
-with_bank : (o : OuterState) (b : Bank) → SameBank o.pads b → SameCopies o (record o { pads = b })
-with_bank o b h = record { bank = h.bank; pads = h.pads; timer = refl; uart0 = refl; uart1 = refl; sio = refl }
-
 pub outer_next : (w : Setting) (o : OuterState) (seen : SeenOutputs) → SameCopies o (outer.next w o seen)
 unfolding outer.next outer.next_by outer.pads_by
-outer_next w o seen = record { bank = refl; pads = refl; timer = refl; uart0 = refl; uart1 = refl; sio = refl }
-
-pub outer_effect : (b : Block) (offset : ℕ) (write : Option ℕ) (o : OuterState) → SameCopies o (outer_accessed b offset write o)
-unfolding outer_accessed
-outer_effect block.IoBank0 offset write o = with_bank o (bank_accessed offset write o.pads) (accessed_same offset write o.pads)
-outer_effect block.PadsBank0 offset write o = with_bank o (bank.effect_of (PADS_BANK0 + offset) write o.pads) (effect_same (PADS_BANK0 + offset) write o.pads)
-outer_effect block.Uart0 offset write o = record { bank = refl; pads = refl; timer = refl; uart0 = refl; uart1 = refl; sio = refl }
-outer_effect block.Uart1 offset write o = record { bank = refl; pads = refl; timer = refl; uart0 = refl; uart1 = refl; sio = refl }
-outer_effect block.Timer offset write o = record { bank = refl; pads = refl; timer = refl; uart0 = refl; uart1 = refl; sio = refl }
-outer_effect block.Resets offset write o = same_copies o
-outer_effect block.Busctrl offset write o = same_copies o
-outer_effect block.Dma offset write o = same_copies o
-outer_effect block.Pio0 offset write o = same_copies o
-outer_effect block.Pio1 offset write o = same_copies o
-
-device_same : (words : List ℕ) (o : OuterState) → SameCopies o (record o { device = words })
-device_same words o = record { bank = refl; pads = refl; timer = refl; uart0 = refl; uart1 = refl; sio = refl }
-
-pub outer_device : (w : Setting) (address : ℕ) (write : Option ℕ) (o : OuterState) → SameCopies o (device_accessed w address write o)
-unfolding device_accessed
-outer_device w address write o =
-    outer_way o (is_fitting w.device o.device) (record o { device = device_words w.device address write o.device }) o
-    (device_same (device_words w.device address write o.device) o) (same_copies o)
-
--- RESETS
-pub bank_reset : (bank pads : Bool) (b : Bank) → ((after_held bank pads b).bank_held ≡ bank) × ((after_held bank pads b).pads_held ≡ pads)
-bank_reset true true b = (refl, refl)
-bank_reset true false b = (refl, refl)
-bank_reset false true b = (refl, refl)
-bank_reset false false b = (refl, refl)
+outer_next w o seen = record { bank = refl; pads = refl; blocks = refl; sio = refl }
 
 -- ---- a core
 

@@ -1,11 +1,11 @@
 -- Core 0 goes on alone beside lanes that lie behind: each cycle is the definition's.
-use Rattle.std.proofs.lemmas.Bool.{and_parts}
 use Rattle.std.proofs.lemmas.Bool.Decides.{eqb_tells}
 use Rattle.std.proofs.Common.{◌≡◌, ◌+◌, ◌*◌, ◌^◌, ◌<◌, ◌≤◌, zero, suc, inl, inr, arith, ℕ, true, false, Bool, if◌then◌else◌, List, [], ◌∷◌, Option, Some, None, ◌==◌, ◌&&◌, not, bit_or, refl, sym, ap, ◌∙◌}
 use Rattle.rp_base.specs.declared.Master.{Master}
 use Rattle.rp_base.specs.declared.Master.TheVariants as master
 use Rattle.rp_base.specs.declared.Request.{Request}
 use Rattle.rp_base.specs.declared.Why.{Why}
+use Rattle.rp_base.specs.declared.Why.TheVariants as why
 use Rattle.rp_base.specs.declared.map.Spot.{Spot}
 use Rattle.rp_base.specs.declared.map.Spot.TheVariants as spot
 use Rattle.rp_base.specs.Map.{place_of}
@@ -14,7 +14,6 @@ use Rattle.lane_look.specs.declared.lane.Ask.TheVariants as ask
 use Rattle.lane_look.specs.declared.marks.Mark.{Mark}
 use Rattle.lane_look.specs.declared.lane.Want.{Want}
 use Rattle.lane_look.specs.declared.lane.Want.TheVariants as want
-use Rattle.lane_look.specs.declared.lane.Turn.TheVariants as turn
 use Rattle.lane_look.specs.Asking.{Asking, answered}
 use Rattle.lane_look.specs.Asking.Asking.{Ready, Question}
 use Rattle.m0_core.specs.declared.doing.Doing.{Doing}
@@ -36,16 +35,16 @@ use Rattle.outer_lane.specs.declared.world.SeenOutputs.{SeenOutputs}
 use Rattle.outer_lane.specs.Step as outer
 use Rattle.outer_lane.specs.Step.{marked}
 use Rattle.outer_lane.specs.Quiet.{IsQuiet, seen_in, outer_after}
-use Rattle.outer_lane.specs.Words.{outer_allowed}
 use Rattle.lane_look.specs.Times.{times}
 use Rattle.rp_machine.specs.State.{State}
 use Rattle.rp_machine.specs.Answers.{answer_of, pair_number, sio_lines, lines_of, block_lines, packed_pair, pacing_of, inputs_of, outs_of}
-use Rattle.rp_machine.specs.Deeds.{word_for, is_open, outside_unless, asked_of, is_done_at, turn_of, deed_of, cause_of, stored_at}
-use Rattle.rp_machine.specs.Laws.{is_outer}
-use Rattle.rp_machine.specs.Cycle.{begun, wanted, wanted_by, cause_in, with_pins, pins_of, with_sio, ended, after_deed, mark, stop, next}
+use Rattle.rp_machine.specs.Deeds.{word_for, opens, is_open, asked_of, is_done_at, turn_of, deed_of, cause_of, stored_at}
+use Rattle.rp_machine.specs.Registers.{Part, part_of, part_word}
+use Rattle.rp_machine.specs.Registers.Part.{Resets, Fabric, Dma, Pio0, Pio1, Outer}
+use Rattle.rp_machine.specs.Cycle.{begun, wanted, wanted_by, cause_in, pins_of, with_sio, ended, after_deed, mark, stop, next}
 use Rattle.rp_machine.specs.BusRest.{core1_at_rest}
 use Rattle.rp_machine.specs.Alone.{Blocks, AreBlocksQuiet, blocks_after, with_blocks, IsAlone, alone_next, granted_alone, with_grant, with_store}
-use Rattle.rp_machine.specs.Inward.{with_beside, is_peripheral, is_inward, core0_want, goes_inward, inward_turn, inward_deed, core0_stepped, inward_rest, inward_next, TellsSame, GoesAlone, GoesOn, inward_cycle, inward_after, StaysInward, onward_after, GoesOnward, Core0GoesOnAlone}
+use Rattle.rp_machine.specs.Inward.{with_beside, is_theirs, is_peripheral, is_inward, core0_want, goes_inward, inward_turn, inward_deed, core0_stepped, inward_rest, inward_next, TellsSame, GoesAlone, GoesOn, inward_cycle, inward_after, StaysInward, onward_after, GoesOnward, Core0GoesOnAlone}
 use Rattle.rp_machine.specs.Events.{events}
 use Rattle.rp_machine.specs.Run.{states}
 use Rattle.rp_machine.proofs.Quietly.{RunsThrough, states_through, fewer, no_events, seen_later, seen_number}
@@ -129,12 +128,20 @@ waits (spot.Ppb offset) false e = absurd (cc e)
 waits spot.Outside false e = absurd (cc e)
 
 -- and they have its word
+theirs : (w : Setting) (seen : SeenOutputs) (r : Request) (p : Part) (offset alias : ℕ) (s : State) → is_theirs p offset ≡ true → opens p r offset alias (part_word p offset w seen s) ≡ true
+unfolding part_word
+theirs w seen r (Outer block) offset alias s e = sym (opens_outer w seen r block offset alias s.outer) ∙ e
+theirs w seen r Resets offset alias s e = absurd (cc e)
+theirs w seen r Fabric offset alias s e = absurd (cc e)
+theirs w seen r Dma offset alias s e = absurd (cc e)
+theirs w seen r Pio0 offset alias s e = absurd (cc e)
+theirs w seen r Pio1 offset alias s e = absurd (cc e)
+
 has_word : (w : Setting) (seen : SeenOutputs) (m : Master) (r : Request) (at : Spot) (granted : Bool) (s : State) → (not granted && is_peripheral at) ≡ true
     → is_open r at (word_for w seen m r.address at s) ≡ true
 unfolding word_for
 has_word w seen m r at true s e = absurd (cc e)
-has_word w seen m r (spot.Reg block offset alias) false s e =
-    let both = and_parts (is_outer block) (outer_allowed block offset) e in sym (opens_outer w seen r block offset alias s both.0) ∙ both.1
+has_word w seen m r (spot.Reg block offset alias) false s e = theirs w seen r (part_of block) offset alias s e
 has_word w seen m r (spot.Ram index bank) false s e = absurd (cc e)
 has_word w seen m r (spot.Sio offset) false s e = absurd (cc e)
 has_word w seen m r (spot.Ppb offset) false s e = absurd (cc e)
@@ -167,7 +174,7 @@ unfolding cause_of
 no_cause w seen s granted want.Nothing e = refl
 no_cause w seen s granted (want.Ram request) e = refl
 no_cause w seen s granted (want.Outward request) e =
-    ap (λ open_to. outside_unless open_to master.Core0 request.address) (has_word w seen master.Core0 request (place_of request.address) granted s e)
+    ap (λ (opened : Bool). if opened then (None {A = Why}) else Some (why.Outside master.Core0 request.address)) (has_word w seen master.Core0 request (place_of request.address) granted s e)
 no_cause w seen s granted want.Signal e = cc
 no_cause w seen s granted (want.Stopped cause) e = cc
 

@@ -1,7 +1,6 @@
 pub mod Agreeing
 pub mod Copies
 pub mod Packed
-pub mod Effects
 pub mod Going
 pub mod HeldDma
 pub mod HeldLanes

@@ -1,9 +1,8 @@
 -- A cycle in which core 0 alone is at work is the one that the definition says.
-use Rattle.std.proofs.Common.{◌≡◌, ◌+◌, ℕ, true, false, List, [], ◌∷◌, ◌++◌, Option, Some, None, refl, sym, ap, ◌∙◌}
+use Rattle.std.proofs.Common.{◌≡◌, ◌+◌, ℕ, true, false, List, [], ◌∷◌, Option, Some, None, refl, sym, ap, ◌∙◌}
 use Rattle.std.specs.Prelude.{slice_index_or}
 use Rattle.rp_base.specs.declared.Master.TheVariants as master
 use Rattle.rp_base.specs.declared.Why.{Why}
-use Rattle.lane_look.specs.declared.marks.Mark.{Mark}
 use Rattle.lane_look.specs.declared.lane.Want.{Want}
 use Rattle.lane_look.specs.declared.lane.Want.TheVariants as want
 use Rattle.lane_look.specs.declared.lane.Turn.{Turn}
@@ -16,14 +15,11 @@ use Rattle.m0_core.specs.Cycle as core
 use Rattle.dma_engine.specs.Cycle as dma
 use Rattle.pio_block.specs.Cycle as pio
 use Rattle.bus_fabric.specs.State.{has_hold}
-use Rattle.bus_fabric.proofs.Alone.{nobody-after}
 use Rattle.outer_lane.specs.Setting.{Setting}
-use Rattle.outer_lane.specs.declared.world.SeenOutputs.{SeenOutputs}
-use Rattle.outer_lane.specs.Step.{marked}
 use Rattle.rp_machine.specs.declared.begun.Begun.{Begun}
 use Rattle.rp_machine.specs.State.{State}
 use Rattle.rp_machine.specs.Deeds.{asked_of, turn_of, deed_of, cause_of}
-use Rattle.rp_machine.specs.Cycle.{begun, wanted, wanted_by, first_cause, cause_in, asked, granted, turns, turn_for, deeds, with_turns, with_grants, after_deed, after_deeds, stepped, next_by, next, mark}
+use Rattle.rp_machine.specs.Cycle.{begun, wanted, wanted_by, first_cause, cause_in, asked, granted, turns, turn_for, deeds, with_turns, with_grants, after_deed, after_deeds, stepped, next_by, next}
 use Rattle.rp_machine.specs.BusRest.{is_nothing, core1_at_rest, rest_next}
 use Rattle.rp_machine.proofs.BusRest.{both, nothing, rest_four}
 use Rattle.rp_machine.specs.declared.wanted.Wanted.{Wanted}

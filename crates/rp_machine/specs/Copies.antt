@@ -2,11 +2,12 @@
 -- the levels and enables that SIO puts out (2.3.1.2), and whether the launcher has a word for core 1 (2.8.2).
 use Rattle.std.specs.Prelude.{◌≡◌, ◌<◌, ◌^◌, ℕ, Bool, List, [], ◌∷◌, slice_index}
 use Rattle.rp_base.specs.Word.{has_bit}
-use Rattle.rp_base.specs.ResetBits.{DMA, IO_BANK0, PADS_BANK0, PIO0, PIO1, TIMER, UART0, UART1}
+use Rattle.rp_base.specs.ResetBits.{DMA, IO_BANK0, PADS_BANK0, PIO0, PIO1}
 use Rattle.m0_core.specs.State.{State as Core}
 use Rattle.dma_engine.specs.State.{Engine}
 use Rattle.pio_block.specs.State.{Block as Pio}
 use Rattle.outer_lane.specs.State.{OuterState}
+use Rattle.outer_lane.specs.Quiet as peripherals
 use Rattle.sio_block.specs.State.{SioState}
 use Rattle.sio_block.specs.Launcher.{offers_of}
 use Rattle.rp_machine.specs.State.{State}
@@ -15,13 +16,12 @@ use Rattle.rp_machine.specs.State.{State}
 abbrev pub held_by : ℕ → List Bool
 held_by reset =
     has_bit reset DMA ∷ has_bit reset IO_BANK0 ∷ has_bit reset PADS_BANK0 ∷ has_bit reset PIO0 ∷ has_bit reset PIO1
-    ∷ has_bit reset TIMER ∷ has_bit reset UART0 ∷ has_bit reset UART1 ∷ []
+    ∷ peripherals.held_by reset
 
 -- the same bits as the lanes keep them
 abbrev pub held_of : Engine → Pio → Pio → OuterState → List Bool
 held_of dma pio0 pio1 outer =
-    dma.held ∷ outer.pads.bank_held ∷ outer.pads.pads_held ∷ pio0.held ∷ pio1.held ∷ outer.timer.held ∷ outer.uart0.held
-    ∷ outer.uart1.held ∷ []
+    dma.held ∷ outer.pads.bank_held ∷ outer.pads.pads_held ∷ pio0.held ∷ pio1.held ∷ peripherals.held_blocks outer
 
 -- each copy is what RESET, which has 25 bits, and SIO hold
 pub record Agree (reset : ℕ) (core1 : Core) (dma : Engine) (pio0 pio1 : Pio) (outer : OuterState) (sio : SioState) : Type 0 where

@@ -38,7 +38,7 @@ use Rattle.rp_machine.specs.declared.deed.Deed.{Deed}
 use Rattle.rp_machine.specs.declared.deed.Deed.TheVariants as deed
 use Rattle.rp_machine.specs.State.{State}
 use Rattle.rp_machine.specs.Answers.{answer_of}
-use Rattle.rp_machine.specs.Registers.{block_accessed}
+use Rattle.rp_machine.specs.Registers.{part_of, part_accessed}
 use Rattle.rp_machine.specs.Deeds.{cause_of, asked_of, turn_of, deed_of}
 
 -- ---- what the lanes begin, and what the masters want
@@ -173,7 +173,7 @@ sio_accessed found _ offset write s = s
 -- the deed of a master that has found this, but for a write to SRAM, which comes last
 unfoldable pub after_deed : Setting → Bool → Master → Deed → State → State
 after_deed w found m deed.Signal s = signalled s
-after_deed w found m (deed.Register block offset write) s = block_accessed block offset write s
+after_deed w found m (deed.Register block offset write) s = part_accessed (part_of block) offset write s
 after_deed w found m (deed.SingleCycle offset write) s = sio_accessed found m offset write s
 after_deed w found m (deed.Device address write) s = record s { outer = device_accessed w address write s.outer }
 after_deed w found m _ s = s

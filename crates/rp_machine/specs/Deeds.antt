@@ -1,7 +1,7 @@
 -- What the accesses of a cycle come to: where an access goes, the cause to stop of one that goes nowhere, the word that a
 -- read has, and what is left to be done once all parts have stepped (RP2040 Datasheet, 2.1.1 "AHB-Lite Crossbar", 2.3.1
 -- "SIO", 2.2 "Address Map").
-use Rattle.std.specs.Prelude.{ℕ, ◌<◌, ◌==◌, ◌&&◌, Bool, true, false, if◌then◌else◌, nat_le, Option, Some, None, is_none, is_some, unwrap_or}
+use Rattle.std.specs.Prelude.{ℕ, ◌==◌, ◌&&◌, Bool, true, false, if◌then◌else◌, nat_le, Option, Some, None, is_none, is_some, unwrap_or}
 use Rattle.rp_base.specs.Access.{lanes_at, replicated, word_written}
 use Rattle.rp_base.specs.Map.{place_of, port_of}
 use Rattle.rp_base.specs.declared.Master.{Master}
@@ -25,7 +25,7 @@ use Rattle.rp_machine.specs.declared.deed.Deed.{Deed}
 use Rattle.rp_machine.specs.declared.deed.Deed.TheVariants as deed
 use Rattle.rp_machine.specs.declared.wanted.Wanted.{Wanted}
 use Rattle.rp_machine.specs.State.{State}
-use Rattle.rp_machine.specs.Registers.{block_word, block_allows, plain_write}
+use Rattle.rp_machine.specs.Registers.{Part, part_of, part_word, part_allows, plain_write}
 
 -- ---- words
 
@@ -42,34 +42,28 @@ sio_word _ offset s = None
 -- the word at a spot that is not in SRAM, as it reads for a master at the start of the cycle; None where there is none. An
 -- address that is outside of the chip may be the device's
 unfoldable pub word_for : Setting → SeenOutputs → Master → ℕ → Spot → State → Option ℕ
-word_for w seen m address (spot.Reg block offset alias) s = block_word block offset w seen s
+word_for w seen m address (spot.Reg block offset alias) s = part_word (part_of block) offset w seen s
 word_for w seen m address (spot.Sio offset) s = sio_word m offset s
 word_for w seen m address spot.Outside s = owned_word w address s.outer
 word_for w seen m address _ s = None
 
 -- ---- causes to stop
 
--- an access to the word of a spot, which reads so, is allowed
-abbrev pub is_allowed_at : Request → Spot → ℕ → Bool
-is_allowed_at request (spot.Reg block offset alias) word =
-    block_allows block offset (plain_write request request.write alias word)
-is_allowed_at request _ word = true
+-- an access to a word of a part, or of any spot, which reads so, finds it and is allowed
+abbrev pub opens : Part → Request → ℕ → ℕ → Option ℕ → Bool
+opens part request offset alias None = false
+opens part request offset alias (Some word) = part_allows part offset (plain_write request request.write alias word)
 
 abbrev pub is_open : Request → Spot → Option ℕ → Bool
-is_open request at None = false
-is_open request at (Some word) = is_allowed_at request at word
-
-abbrev pub outside_unless : Bool → Master → ℕ → Option Why
-outside_unless open_to m address = if open_to then None else Some (why.Outside m address)
+is_open request (spot.Reg block offset alias) word = opens (part_of block) request offset alias word
+is_open request _ word = is_some word
 
 -- the cause for which a cycle does not happen in which a master wants this: an access that is not to SRAM has to find a word,
 -- and has to be allowed
 abbrev pub cause_by : Setting → SeenOutputs → Master → Want → State → Option Why
 cause_by w seen m (want.Outward request) s =
-    outside_unless
-    (is_open request (place_of request.address) (word_for w seen m request.address (place_of request.address) s))
-    m
-    request.address
+    if is_open request (place_of request.address) (word_for w seen m request.address (place_of request.address) s) then None
+    else Some (why.Outside m request.address)
 cause_by w seen m (want.Stopped cause) s = Some cause
 cause_by w seen m _ s = None
 
@@ -157,7 +151,7 @@ stored_at request _ _ = deed.Nothing
 -- an access to a word of a register block, of SIO or of the device; the device has its address unchanged
 abbrev pub accessed_at : Setting → SeenOutputs → Request → Spot → State → Deed
 accessed_at w seen request (spot.Reg block offset alias) s =
-    deed.Register block offset (plain_write request request.write alias (unwrap_or (block_word block offset w seen s) 0))
+    deed.Register block offset (plain_write request request.write alias (unwrap_or (part_word (part_of block) offset w seen s) 0))
 accessed_at w seen request (spot.Sio offset) s = deed.SingleCycle offset (word_written request.size request.write)
 accessed_at w seen request spot.Outside s = deed.Device request.address (word_written request.size request.write)
 accessed_at w seen request _ s = deed.Nothing
@@ -172,8 +166,3 @@ deed_of w seen granted (want.Outward request) s =
     else deed.Nothing
 deed_of w seen granted want.Signal s = deed.Signal
 deed_of w seen granted _ s = deed.Nothing
-
--- a write to SRAM has the index of a word
-abbrev pub StoresInSram : Deed → Type 0
-StoresInSram (deed.Store index lanes value) = index < 67584
-StoresInSram _ = Unit {0}

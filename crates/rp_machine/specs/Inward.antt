@@ -6,8 +6,6 @@ use Rattle.lane_look.specs.declared.lane.Turn.{Turn}
 use Rattle.lane_look.specs.declared.lane.Turn.TheVariants as turn
 use Rattle.m0_core.specs.declared.doing.Doing.{Doing}
 use Rattle.m0_core.specs.Cycle as core
-use Rattle.bus_fabric.specs.Grant.{after_grant}
-use Rattle.bus_fabric.specs.Alone.{at_most_core0}
 use Rattle.sio_block.specs.Launcher.{offers_of}
 use Rattle.outer_lane.specs.Setting.{Setting}
 use Rattle.outer_lane.specs.State.{OuterState}
@@ -21,12 +19,13 @@ use Rattle.rp_base.specs.Map.{place_of}
 use Rattle.rp_machine.specs.declared.deed.Deed.{Deed}
 use Rattle.rp_machine.specs.declared.deed.Deed.TheVariants as deed
 use Rattle.rp_machine.specs.State.{State}
-use Rattle.rp_machine.specs.Deeds.{asked_of, turn_at, stored_at}
+use Rattle.rp_machine.specs.Deeds.{turn_at, stored_at}
 use Rattle.rp_machine.specs.Cycle.{begun, wanted, cause_in, pins_of, ended, next}
 use Rattle.rp_machine.specs.Run.{states}
 use Rattle.rp_machine.specs.Quiet.{IsQuiet as RunsQuietly}
 use Rattle.rp_machine.specs.Answers.{lines_of, pacing_of, outs_of}
-use Rattle.rp_machine.specs.Laws.{is_outer}
+use Rattle.rp_machine.specs.Registers.{Part, part_of}
+use Rattle.rp_machine.specs.Registers.Part.{Outer}
 use Rattle.rp_machine.specs.Alone.{Blocks, AreBlocksQuiet, blocks_after, granted_alone, with_grant, with_store}
 
 -- a state with these blocks and peripherals
@@ -34,8 +33,12 @@ abbrev pub with_beside : Blocks → OuterState → State → State
 with_beside p o s = record s { dma = p.dma; pio0 = p.pio0; pio1 = p.pio1; outer = o }
 
 -- a word that the peripherals have
+abbrev pub is_theirs : Part → ℕ → Bool
+is_theirs (Outer block) offset = outer_allowed block offset
+is_theirs _ offset = false
+
 abbrev pub is_peripheral : Spot → Bool
-is_peripheral (spot.Reg block offset alias) = is_outer block && outer_allowed block offset
+is_peripheral (spot.Reg block offset alias) = is_theirs (part_of block) offset
 is_peripheral _ = false
 
 -- nothing is wanted, or an access to SRAM, or one to the peripherals that is not granted yet

@@ -2,8 +2,8 @@
 use Rattle.std.specs.Prelude.{◌≡◌, ℕ, ◌+◌, ◌<◌, ◌==◌, if◌then◌else◌, Bool, true, false, List, [], ◌∷◌, ◌++◌, length, slice_index}
 use Rattle.std.specs.List.{list_any}
 use Rattle.rp_base.specs.declared.Master.TheVariants as master
-use Rattle.rp_base.specs.declared.map.Block.{Block}
-use Rattle.rp_base.specs.declared.map.Block.TheVariants as block
+use Rattle.rp_base.specs.Rows.{IsListed}
+use Rattle.bus_fabric.specs.Words.{busctrl_rows}
 use Rattle.lane_look.specs.declared.lane.Turn.{Turn}
 use Rattle.lane_look.specs.declared.lane.Turn.TheVariants as turn
 use Rattle.m0_core.specs.State.{State as Core}
@@ -22,9 +22,17 @@ use Rattle.uf2_image.specs.declared.parts.Image.{Image}
 use Rattle.sio_block.specs.Launcher.{offers_of}
 use Rattle.rp_machine.specs.declared.load.PioLoad.{PioLoad}
 use Rattle.rp_machine.specs.State.{State}
+use Rattle.rp_machine.specs.Registers.{Part, part_of, resets_rows}
+use Rattle.rp_machine.specs.Registers.Part.{Resets, Dma, Pio0, Pio1, Outer}
 use Rattle.rp_machine.specs.Boot.{start}
 use Rattle.rp_machine.specs.Cycle.{begun, wanted, granted, turns, turn_for, deeds, with_event, with_offer, with_pins, pins_of, next}
 use Rattle.rp_machine.specs.Run.{states, events_in}
+
+-- ---- registers: each of RESETS and of BUSCTRL is what stands at its offset, and nothing stands at any other
+
+pub record EachRegisterIsAtItsOffset : Type 0 where
+  pub resets : IsListed resets_rows
+  pub busctrl : IsListed busctrl_rows
 
 -- ---- runs: a run of some cycles and then of others is one of all of them
 
@@ -82,30 +90,29 @@ core_alone c = with_event (with_offer false c)
 abbrev pub outer_alone : OuterState → OuterState
 outer_alone o = with_pins [] o
 
--- an access to a word of RESETS, or of a block that is the part's own
-abbrev pub is_for : (Block → Bool) → Deed → Bool
-is_for own (deed.Register block.Resets offset write) = true
-is_for own (deed.Register other offset write) = own other
+-- an access to a word of RESETS, or of the part itself
+abbrev pub reaches : (Part → Bool) → Part → Bool
+reaches own Resets = true
+reaches own other = own other
+
+abbrev pub is_for : (Part → Bool) → Deed → Bool
+is_for own (deed.Register block offset write) = reaches own (part_of block)
 is_for own _ = false
 
-abbrev pub is_dma : Block → Bool
-is_dma block.Dma = true
+abbrev pub is_dma : Part → Bool
+is_dma Dma = true
 is_dma _ = false
 
-abbrev pub is_pio0 : Block → Bool
-is_pio0 block.Pio0 = true
+abbrev pub is_pio0 : Part → Bool
+is_pio0 Pio0 = true
 is_pio0 _ = false
 
-abbrev pub is_pio1 : Block → Bool
-is_pio1 block.Pio1 = true
+abbrev pub is_pio1 : Part → Bool
+is_pio1 Pio1 = true
 is_pio1 _ = false
 
-abbrev pub is_outer : Block → Bool
-is_outer block.IoBank0 = true
-is_outer block.PadsBank0 = true
-is_outer block.Uart0 = true
-is_outer block.Uart1 = true
-is_outer block.Timer = true
+abbrev pub is_outer : Part → Bool
+is_outer (Outer block) = true
 is_outer _ = false
 
 -- an access to the peripherals or to the device

@@ -9,6 +9,7 @@ pub mod Events
 pub mod Laws
 pub mod LineLaws
 pub mod Loading
+pub mod PartMeant
 pub mod Inward
 pub mod Quiet
 pub mod Readers
@@ -18,3 +19,4 @@ pub mod Rest
 pub mod Run
 pub mod Sram
 pub mod State
+pub mod Stores

@@ -6,7 +6,7 @@ use Rattle.rp_base.specs.declared.map.Block.{Block}
 use Rattle.rp_base.specs.declared.map.Block.TheVariants as block
 use Rattle.rp_base.specs.Access.{replicated}
 use Rattle.rp_base.specs.Alias.{aliased}
-use Rattle.rp_base.specs.Rows.{Row, read_only, read_write, word_at, effect_at, IsListed}
+use Rattle.rp_base.specs.Rows.{Row, read_only, read_write, word_at, effect_at}
 use Rattle.rp_base.specs.Word.{has_bit}
 use Rattle.rp_base.specs.ResetBits.{DMA, PIO0, PIO1}
 use Rattle.bus_fabric.specs.Words as busctrl
@@ -42,35 +42,46 @@ resets_rows =
 
 -- ---- all blocks
 
--- what a word reads as at the start of a cycle, in which the peripherals have seen this; None where the block has no such word
-unfoldable pub block_word : Block → ℕ → Setting → SeenOutputs → State → Option ℕ
-block_word block.Resets offset w seen s = word_at resets_rows tt offset s
-block_word block.Busctrl offset w seen s = busctrl.word_of offset s.fabric
-block_word block.Dma offset w seen s = dma.word_of offset s.dma
-block_word block.Pio0 offset w seen s = pio.word_of offset s.pio0
-block_word block.Pio1 offset w seen s = pio.word_of offset s.pio1
-block_word other offset w seen s = outer_word other offset w seen s.outer
+-- the part of the machine that a block stands in; the peripherals have several
+pub data Part : Type 0 where
+  Resets : Part
+  Fabric : Part
+  Dma : Part
+  Pio0 : Part
+  Pio1 : Part
+  Outer : (block : Block) → Part
 
--- whether a read, or a write of this word, is allowed where the block has the word: what OUT_STICKY and INLINE_OUT_EN of a PIO
--- block do is left out
-abbrev pub block_allows : Block → ℕ → Option ℕ → Bool
-block_allows block.Pio0 offset write = pio.is_allowed offset write
-block_allows block.Pio1 offset write = pio.is_allowed offset write
-block_allows _ offset write = true
+abbrev pub part_of : Block → Part
+part_of block.Resets = Resets
+part_of block.Busctrl = Fabric
+part_of block.Dma = Dma
+part_of block.Pio0 = Pio0
+part_of block.Pio1 = Pio1
+part_of other = Outer other
+
+-- what a word reads as at the start of a cycle, in which the peripherals have seen this; None where the part has no such word
+unfoldable pub part_word : Part → ℕ → Setting → SeenOutputs → State → Option ℕ
+part_word Resets offset w seen s = word_at resets_rows tt offset s
+part_word Fabric offset w seen s = busctrl.word_of offset s.fabric
+part_word Dma offset w seen s = dma.word_of offset s.dma
+part_word Pio0 offset w seen s = pio.word_of offset s.pio0
+part_word Pio1 offset w seen s = pio.word_of offset s.pio1
+part_word (Outer block) offset w seen s = outer_word block offset w seen s.outer
+
+-- whether a read, or a write of this word, is allowed where there is the word: OUT_STICKY and INLINE_OUT_EN of PIO are left out
+abbrev pub part_allows : Part → ℕ → Option ℕ → Bool
+part_allows Pio0 offset write = pio.is_allowed offset write
+part_allows Pio1 offset write = pio.is_allowed offset write
+part_allows _ offset write = true
 
 -- what a read, or a write of this word, does
-unfoldable pub block_accessed : Block → ℕ → Option ℕ → State → State
-block_accessed block.Resets offset write s = effect_at resets_rows offset write s
-block_accessed block.Busctrl offset write s = record s { fabric = busctrl.effect_of offset write s.fabric }
-block_accessed block.Dma offset write s = record s { dma = dma.effect_of offset write s.dma }
-block_accessed block.Pio0 offset write s = record s { pio0 = pio.effect_of offset write s.pio0 }
-block_accessed block.Pio1 offset write s = record s { pio1 = pio.effect_of offset write s.pio1 }
-block_accessed other offset write s = record s { outer = outer_accessed other offset write s.outer }
-
--- each register of RESETS and of BUSCTRL is what stands at its offset, and nothing stands at any other
-pub record EachRegisterIsAtItsOffset : Type 0 where
-  pub resets : IsListed resets_rows
-  pub busctrl : IsListed busctrl.busctrl_rows
+unfoldable pub part_accessed : Part → ℕ → Option ℕ → State → State
+part_accessed Resets offset write s = effect_at resets_rows offset write s
+part_accessed Fabric offset write s = record s { fabric = busctrl.effect_of offset write s.fabric }
+part_accessed Dma offset write s = record s { dma = dma.effect_of offset write s.dma }
+part_accessed Pio0 offset write s = record s { pio0 = pio.effect_of offset write s.pio0 }
+part_accessed Pio1 offset write s = record s { pio1 = pio.effect_of offset write s.pio1 }
+part_accessed (Outer block) offset write s = record s { outer = outer_accessed block offset write s.outer }
 
 -- ---- aliases: a write through one changes the word as it is at the start of the cycle
 

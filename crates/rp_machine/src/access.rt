@@ -4,18 +4,19 @@ ghost use Rattle.std.specs.Prelude.{◌≡◌};
 ghost use Rattle.rp_base.specs.Map.{IsWithin};
 ghost use Rattle.bus_fabric.specs.Masters.{HasPort};
 ghost use Rattle.m0_core.specs.Cycle.{want_of};
-ghost use Rattle.rp_machine.specs.Laws.{is_outer};
-ghost use Rattle.rp_machine.specs.Deeds.{port_at, asked_at, spot_of, asked_of, is_done_at, is_lock, is_same_word, reads_at, is_core1, is_late, stored_at, StoresInSram};
+ghost use Rattle.rp_machine.specs.Deeds.{port_at, asked_at, spot_of, asked_of, is_done_at, is_lock, is_same_word, reads_at, is_core1, is_late, stored_at};
+ghost use Rattle.rp_machine.specs.Stores.{StoresInSram};
 
 use crate::deed::Deed;
 use crate::machine::Machine;
+use crate::part::{Part, part_of};
 use crate::registers::plain_write;
 use crate::wanted::Wanted;
 use lane_look::{Device, Turn, Want};
 use m0_core::{Act, Doing, Placed};
 use outer_lane::{SeenOutputs, World};
 use rp_base::access::{lanes_at, replicated, word_written};
-use rp_base::map::{Block, Spot, place, port};
+use rp_base::map::{Spot, place, port};
 use rp_base::{Master, Request, Why};
 use sio_block::registers::SPINLOCK0;
 
@@ -149,17 +150,6 @@ fn is_late(rival: &Want, master: Master, spot: &Spot) -> bool
     is_core1(master) && is_lock(spot) && reads_at(rival, spot)
 }
 
-/// A block of the peripherals.
-#[inline(always)]
-pub(crate) fn is_outer(block: Block) -> bool
-    ensures { result ≡ is_outer block }
-{
-    match block {
-        Block::IoBank0 | Block::PadsBank0 | Block::Uart0 | Block::Uart1 | Block::Timer => true,
-        Block::Resets | Block::Busctrl | Block::Dma | Block::Pio0 | Block::Pio1 => false,
-    }
-}
-
 /// The write to SRAM of a request to a spot, if it is one.
 pub(crate) fn stored_at(request: &Request, spot: &Spot) -> Deed
     requires { IsWithin spot.now }
@@ -183,10 +173,11 @@ impl Machine {
     ghost use Rattle.m0_core.specs.Cycle.{want_of};
     ghost use Rattle.lane_look.specs.declared.lane.Turn.TheVariants as turn;
     ghost use Rattle.rp_base.specs.Map.{place_of};
-    ghost use Rattle.rp_base.specs.declared.map.Spot.TheVariants as spot;
-    ghost use Rattle.rp_machine.specs.Registers.{block_word};
+    ghost use Rattle.rp_machine.specs.Registers.{part_word};
+    ghost use Rattle.rp_machine.specs.PartMeant.{meant};
     ghost use Rattle.rp_machine.specs.Cycle.{wanted_by};
-    ghost use Rattle.rp_machine.specs.Deeds.{spot_of, sio_word, word_for, is_open, cause_by, cause_of, turn_of, accessed_at, deed_of, StoresInSram};
+    ghost use Rattle.rp_machine.specs.Deeds.{spot_of, sio_word, word_for, opens, is_open, cause_by, cause_of, turn_of, accessed_at, deed_of};
+    ghost use Rattle.rp_machine.specs.Stores.{StoresInSram};
 
     /// A word of SIO as a master reads it.
     fn sio_word(&self, master: Master, offset: u16) -> Option<u32>
@@ -213,54 +204,37 @@ impl Machine {
             self.now }
     {
         match *spot {
-            Spot::Reg { block, offset, .. } => self.block_word(world, seen, block, offset),
+            Spot::Reg { block, offset, .. } => self.part_word(world, seen, part_of(block), offset),
             Spot::Sio { offset } => self.sio_word(master, offset),
             Spot::Outside => self.outer.owned_word(world, address),
             Spot::Ram { .. } | Spot::Ppb { .. } => None,
         }
     }
 
-    /// An access to this word of a register block finds it and is allowed. Of an access to PIO by its plain addresses (alias 0) the
-    /// word is not read.
+    /// An access to this word of a part finds it and is allowed. Of an access to the peripherals, or to PIO by its plain addresses
+    /// (alias 0), the word is not read.
     #[inline(always)]
-    fn is_open_word<X: Device>(
+    fn opens<X: Device>(
         &self,
         world: &World<'_, X>,
         seen: &SeenOutputs,
         request: &Request,
-        block: Block,
+        part: Part,
         offset: u16,
         alias: u8,
     ) -> bool
-        ensures { result ≡ is_open request.now (spot.Reg block offset alias) (block_word block offset (setting X.meaning world.now) seen.now self.now) }
+        ensures { result ≡ opens (meant part) request.now offset alias
+            (part_word (meant part) offset (setting X.meaning world.now) seen.now self.now) }
     {
-        match block {
-            Block::Pio0 if alias == 0 => self.pio0.allows(offset, word_written(request)),
-            Block::Pio1 if alias == 0 => self.pio1.allows(offset, word_written(request)),
-            _ => match self.block_word(world, seen, block, offset) {
-                Some(word) => self.block_allows(block, offset, plain_write(request, alias, word)),
+        match part {
+            Part::Outer(block) => self.outer.allows(block, offset, None),
+            Part::Pio0 if alias == 0 => self.pio0.allows(offset, word_written(request)),
+            Part::Pio1 if alias == 0 => self.pio1.allows(offset, word_written(request)),
+            _ => match self.part_word(world, seen, part, offset) {
+                Some(word) => self.part_allows(part, offset, plain_write(request, alias, word)),
                 None => false,
             },
         }
-    }
-
-    /// The same; of an access to the peripherals no word is read.
-    #[inline(always)]
-    fn is_open_register<X: Device>(
-        &self,
-        world: &World<'_, X>,
-        seen: &SeenOutputs,
-        request: &Request,
-        block: Block,
-        offset: u16,
-        alias: u8,
-    ) -> bool
-        ensures { result ≡ is_open request.now (spot.Reg block offset alias) (block_word block offset (setting X.meaning world.now) seen.now self.now) }
-    {
-        if is_outer(block) {
-            return self.outer.allows(block, offset, None);
-        }
-        self.is_open_word(world, seen, request, block, offset, alias)
     }
 
     /// The access of a master to this spot, which is not in SRAM, finds a word and is allowed.
@@ -282,7 +256,7 @@ impl Machine {
                 block,
                 offset,
                 alias,
-            } => self.is_open_register(world, seen, request, block, offset, alias),
+            } => self.opens(world, seen, request, part_of(block), offset, alias),
             Spot::Sio { offset } => self.sio_word(master, offset).is_some(),
             Spot::Outside => self.outer.owned_word(world, request.address).is_some(),
             Spot::Ram { .. } | Spot::Ppb { .. } => false,

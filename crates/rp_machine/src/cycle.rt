@@ -12,6 +12,7 @@ use crate::access::{asked_begun, asked_by, spot_of};
 use crate::begun::Begun;
 use crate::deed::Deed;
 use crate::machine::Machine;
+use crate::part::part_of;
 use crate::steps::Steps;
 use crate::wanted::{Wanted, all_wanted, is_core0_first, spot_begun};
 use lane_look::{Device, Lane, Marks, Turn};
@@ -83,7 +84,8 @@ impl Machine {
     ghost use Rattle.rp_base.specs.declared.Master.TheVariants.{Core0};
     ghost use Rattle.m0_core.specs.Cycle.{want_of};
     ghost use Rattle.rp_base.specs.Map.{IsWithin};
-    ghost use Rattle.rp_machine.specs.Deeds.{spot_of, StoresInSram};
+    ghost use Rattle.rp_machine.specs.Deeds.{spot_of};
+    ghost use Rattle.rp_machine.specs.Stores.{StoresInSram};
     ghost use Rattle.rp_machine.specs.BusRest.{core1_at_rest, rest_next};
     ghost use Rattle.rp_machine.specs.Alone.{first_next, is_first_alone};
     ghost use Rattle.rp_machine.specs.Cycle.{begun, wanted_by, wanted, cause_in, stop, turns, deeds, turned_inside, signalled, pins_of, with_sio, found_by, sio_accessed, after_deed, after_launcher, after_core1, stored, ended, after_deeds, next_by, next, mark};
@@ -235,7 +237,7 @@ impl Machine {
                 block,
                 offset,
                 write,
-            } => self.access_block(block, offset, write),
+            } => self.access_part(part_of(block), offset, write),
             Deed::SingleCycle { offset, write } => self.access_sio(found, master, offset, write),
             Deed::Device { address, write } => self.outer.device_effect(world, address, write),
             Deed::Nothing | Deed::Store { .. } => {}

@@ -1,11 +1,10 @@
 //! The laws of the machine, each the contract of a function without arguments.
 
-ghost use Rattle.rp_machine.specs.Laws.{RunsFollowEachOther, SramChangesByTheWritesAlone, EffectsComeAfterTheSteps, SioIsKnown};
+ghost use Rattle.rp_machine.specs.Laws.{EachRegisterIsAtItsOffset, RunsFollowEachOther, SramChangesByTheWritesAlone, EffectsComeAfterTheSteps, SioIsKnown};
 ghost use Rattle.rp_machine.specs.BusRest.{CyclesAtRestChangeTheLanesAlone};
 ghost use Rattle.rp_machine.specs.Alone.{OneCoreGoesAlone};
 ghost use Rattle.rp_machine.specs.Inward.{Core0GoesOnAlone};
 ghost use Rattle.rp_machine.specs.LineLaws.{EachLineHasItsNumber, OneCoreGetsALock};
-ghost use Rattle.rp_machine.specs.Registers.{EachRegisterIsAtItsOffset};
 
 /// A run of some cycles and then of others is one of all of them: it ends in the same state and has the same events.
 pub fn runs_follow_each_other()
@@ -56,8 +55,7 @@ pub fn one_core_gets_a_lock()
 {}
 
 /// Beside a DMA engine, PIO blocks and peripherals that are quiet, a core 0 that goes on alone and reaches for nothing but SRAM, or waits for
-/// the peripherals, does what it
-/// does where they lie behind, and they come to what they are so many cycles on.
+/// the peripherals, does what it does where they lie behind, and they come to what they are so many cycles on.
 pub fn core0_goes_on_alone()
     ensures { Core0GoesOnAlone }
 {}

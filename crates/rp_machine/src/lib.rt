@@ -18,6 +18,7 @@ mod loading;
 mod look;
 pub mod machine;
 mod onward;
+mod part;
 mod reads;
 pub mod registers;
 pub mod rest;

@@ -1,8 +1,9 @@
 //! A cycle in which core 0 alone is at work and reaches for nothing but SRAM, or waits for the peripherals, beside lanes that lie behind.
 
-use crate::access::{asked_begun, is_outer, stored_at};
+use crate::access::{asked_begun, stored_at};
 use crate::deed::Deed;
 use crate::machine::Machine;
+use crate::part::{Part, part_of};
 use crate::steps::Steps;
 use lane_look::{Lane, Marks, Turn};
 use m0_core::{Act, Doing};
@@ -12,7 +13,7 @@ use std::sync::ledger::Ledger;
 impl Machine {
     ghost use Rattle.std.specs.Prelude.{◌≡◌, ◌+◌, ◌-◌, ◌^◌, ◌<◌, ◌≤◌, IfSome, true, false};
     ghost use Rattle.m0_core.specs.Cycle.{want_of};
-    ghost use Rattle.rp_machine.specs.Deeds.{StoresInSram};
+    ghost use Rattle.rp_machine.specs.Stores.{StoresInSram};
     ghost use Rattle.rp_machine.specs.Alone.{granted_alone};
     ghost use Rattle.rp_machine.specs.Answers.{lines_of};
     ghost use Rattle.rp_machine.specs.Inward.{is_peripheral, is_inward, goes_inward, inward_turn, inward_deed, inward_rest, inward_next, inward_cycle, inward_after, StaysInward};
@@ -22,9 +23,10 @@ impl Machine {
         ensures { result ≡ is_peripheral spot.now }
     {
         match *spot {
-            Spot::Reg { block, offset, .. } => {
-                is_outer(block) && self.outer.allows(block, offset, None)
-            }
+            Spot::Reg { block, offset, .. } => match part_of(block) {
+                Part::Outer(block) => self.outer.allows(block, offset, None),
+                _ => false,
+            },
             Spot::Ram { .. } | Spot::Sio { .. } | Spot::Ppb { .. } | Spot::Outside => false,
         }
     }

@@ -4,12 +4,12 @@ ghost use Rattle.std.specs.Prelude.{◌≡◌, ◌^◌, ◌<◌};
 ghost use Rattle.rp_machine.specs.Registers.{plain_write};
 
 use crate::machine::Machine;
+use crate::part::Part;
 use lane_look::Device;
 use outer_lane::{SeenOutputs, World};
 use rp_base::access::replicated;
 use rp_base::alias::aliased;
 use rp_base::bits::has_bit;
-use rp_base::map::Block;
 use rp_base::resets::{DMA, PIO0, PIO1};
 use rp_base::{Registers, Request};
 
@@ -52,7 +52,8 @@ fn access<B: Registers<()>>(block: &mut B, offset: u16, write: Option<u32>)
 impl Machine {
     ghost use Rattle.std.specs.Prelude.{◌≡◌, Some, ◌<◌, ◌^◌};
     ghost use Rattle.outer_lane.specs.Setting.{setting};
-    ghost use Rattle.rp_machine.specs.Registers.{resets_rows, with_reset, block_word, block_allows, block_accessed};
+    ghost use Rattle.rp_machine.specs.Registers.{resets_rows, with_reset, part_word, part_allows, part_accessed};
+    ghost use Rattle.rp_machine.specs.PartMeant.{meant};
     ghost use Rattle.rp_base.specs.Rows.{word_at, effect_at};
 
     /// RESET, WDSEL or RESET_DONE.
@@ -67,37 +68,35 @@ impl Machine {
         }
     }
 
-    /// What a word of a block reads as in a cycle in which the peripherals have seen this. None where the block has no such
+    /// What a word of a part reads as in a cycle in which the peripherals have seen this. None where the part has no such
     /// word.
-    #[tactic(auto, unfolding(crate::specs::Registers::block_word))]
-    pub(crate) fn block_word<X: Device>(
+    #[tactic(auto, unfolding(crate::specs::Registers::part_word))]
+    pub(crate) fn part_word<X: Device>(
         &self,
         world: &World<'_, X>,
         seen: &SeenOutputs,
-        block: Block,
+        part: Part,
         offset: u16,
     ) -> Option<u32>
-        ensures { result ≡ block_word block offset (setting X.meaning world.now) seen.now self.now }
+        ensures { result ≡ part_word (meant part) offset (setting X.meaning world.now) seen.now self.now }
     {
-        match block {
-            Block::Resets => self.resets_word(offset),
-            Block::Busctrl => word(&self.fabric, offset),
-            Block::Dma => word(&self.dma, offset),
-            Block::Pio0 => word(&self.pio0, offset),
-            Block::Pio1 => word(&self.pio1, offset),
-            Block::IoBank0 | Block::PadsBank0 | Block::Uart0 | Block::Uart1 | Block::Timer => {
-                self.outer.read(world, seen, block, offset)
-            }
+        match part {
+            Part::Resets => self.resets_word(offset),
+            Part::Fabric => word(&self.fabric, offset),
+            Part::Dma => word(&self.dma, offset),
+            Part::Pio0 => word(&self.pio0, offset),
+            Part::Pio1 => word(&self.pio1, offset),
+            Part::Outer(block) => self.outer.read(world, seen, block, offset),
         }
     }
 
-    /// A read, or a plain write of this word, is allowed where the block has the word.
-    pub(crate) fn block_allows(&self, block: Block, offset: u16, write: Option<u32>) -> bool
-        ensures { result ≡ block_allows block offset write }
+    /// A read, or a plain write of this word, is allowed where the part has the word.
+    pub(crate) fn part_allows(&self, part: Part, offset: u16, write: Option<u32>) -> bool
+        ensures { result ≡ part_allows (meant part) offset write }
     {
-        match block {
-            Block::Pio0 => self.pio0.allows(offset, write),
-            Block::Pio1 => self.pio1.allows(offset, write),
+        match part {
+            Part::Pio0 => self.pio0.allows(offset, write),
+            Part::Pio1 => self.pio1.allows(offset, write),
             _ => true,
         }
     }
@@ -136,19 +135,17 @@ impl Machine {
     }
 
     /// Does what a read, or a plain write of this word, does.
-    #[tactic(auto, unfolding(crate::specs::Registers::block_accessed))]
-    pub(crate) fn access_block(&mut self, block: Block, offset: u16, write: Option<u32>)
-        ensures { self.new ≡ block_accessed block offset write self.old }
+    #[tactic(auto, unfolding(crate::specs::Registers::part_accessed))]
+    pub(crate) fn access_part(&mut self, part: Part, offset: u16, write: Option<u32>)
+        ensures { self.new ≡ part_accessed (meant part) offset write self.old }
     {
-        match block {
-            Block::Resets => self.access_resets(offset, write),
-            Block::Busctrl => access(&mut self.fabric, offset, write),
-            Block::Dma => access(&mut self.dma, offset, write),
-            Block::Pio0 => access(&mut self.pio0, offset, write),
-            Block::Pio1 => access(&mut self.pio1, offset, write),
-            Block::IoBank0 | Block::PadsBank0 | Block::Uart0 | Block::Uart1 | Block::Timer => {
-                self.outer.effect(block, offset, write);
-            }
+        match part {
+            Part::Resets => self.access_resets(offset, write),
+            Part::Fabric => access(&mut self.fabric, offset, write),
+            Part::Dma => access(&mut self.dma, offset, write),
+            Part::Pio0 => access(&mut self.pio0, offset, write),
+            Part::Pio1 => access(&mut self.pio1, offset, write),
+            Part::Outer(block) => self.outer.effect(block, offset, write),
         }
     }
 }

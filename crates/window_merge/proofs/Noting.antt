@@ -12,7 +12,8 @@ use Rattle.lane_look.specs.declared.lane.Want.TheVariants as want
 use Rattle.ram_banks.specs.Lanes.{with_lanes}
 use Rattle.rp_machine.specs.declared.deed.Deed.{Deed}
 use Rattle.rp_machine.specs.declared.deed.Deed.TheVariants as deed
-use Rattle.rp_machine.specs.Deeds.{stored_at, StoresInSram}
+use Rattle.rp_machine.specs.Deeds.{stored_at}
+use Rattle.rp_machine.specs.Stores.{StoresInSram}
 use Rattle.rp_machine.specs.Cycle.{stored}
 use Rattle.window_merge.specs.Patch.{patched, sram_after}
 use Rattle.window_merge.specs.Notes.{first_of, last_of, is_none, seen_word, write_of, original_word, own_word, with_word}

@@ -1,7 +1,7 @@
 //! What a window writes to SRAM: each word as it was before the window, and the words that each lane wrote.
 
 ghost use Rattle.std.specs.Prelude.{◌≡◌, ◌<◌, ◌≤◌, length};
-ghost use Rattle.rp_machine.specs.Deeds.{StoresInSram};
+ghost use Rattle.rp_machine.specs.Stores.{StoresInSram};
 ghost use Rattle.window_merge.specs.Notes.{first_of, write_of, original_word};
 
 use crate::patch::{last_of, with_lanes};
@@ -164,7 +164,7 @@ pub struct Notes {
 
 impl Notes {
     ghost use Rattle.std.specs.Prelude.{◌≡◌, IfOk};
-    ghost use Rattle.rp_machine.specs.Deeds.{StoresInSram};
+    ghost use Rattle.rp_machine.specs.Stores.{StoresInSram};
     ghost use Rattle.lane_look.specs.declared.lane.Want.TheVariants as want;
     ghost use Rattle.window_merge.specs.Notes.{last_of, own_of, is_clean, seen_of, own_word, no_notes, noted, noted_by, HasRoom};
 

@@ -2,7 +2,7 @@ use Rattle.std.proofs.Common.{refl, sym, arith}
 use Rattle.outer_lane.specs.Setting.{setting}
 use Rattle.rp_machine.specs.contracts.machine.Machine.{the_view}
 use Rattle.quiet_run.proofs.Passing.{no_states, quiet_none}
-use Rattle.quiet_run.proofs.GoneOn.{HasBegun, has_begun, goes_onward, goes_unstopped, number_fits, blocks_pass, still_quiet, brought_up, agrees}
+use Rattle.quiet_run.proofs.GoneOn.{has_begun, goes_onward, goes_unstopped, number_fits, blocks_pass, still_quiet, brought_up, agrees}
 use Rattle.quiet_run.proofs.onward.pass_onward.Goals as goal
 
 pub returns-then-to-at-clause-state : goal.returns-then-to-at-clause-state

@@ -1,11 +1,12 @@
 use Rattle.std.proofs.Common.{◌-◌}
 use Rattle.outer_lane.specs.Setting.{setting_of}
+use Rattle.reverse_debug.specs.Reading.{sought}
 use Rattle.reverse_debug.proofs.Tallies.{Counting}
 use Rattle.reverse_debug.proofs.search.scan.Given as goal
 
 abbrev pub invariant-cycles : goal.invariant-cycles
 invariant-cycles g l =
-    Counting (setting_of l.world.script.now (g.X.Device.meaning l.world.device.now) l.world.limit) l.initial.machine l.machine l.watched l.most l.to
+    Counting (setting_of l.world.script.now (g.X.Device.meaning l.world.device.now) l.world.limit) l.initial.machine l.machine (sought l.watched) l.most l.to
     l.tally l.initial.steps l.steps
 
 abbrev pub decreases-cycles : goal.decreases-cycles

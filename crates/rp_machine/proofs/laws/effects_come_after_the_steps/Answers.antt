@@ -1,4 +1,4 @@
-use Rattle.rp_machine.proofs.Effects.{effects_after}
+use Rattle.rp_machine.proofs.Kept.{effects_after}
 use Rattle.rp_machine.proofs.laws.effects_come_after_the_steps.Goals as goal
 
 pub returns : goal.returns

@@ -1,4 +1,4 @@
-use Rattle.std.proofs.Common.{refl, ◌∙◌}
+use Rattle.std.proofs.Common.{refl}
 use Rattle.rp_machine.proofs.Inward.{has_gone_none, has_gone_on}
 use Rattle.rp_machine.proofs.machine.Machine.go_onward.Goals as goal
 
