@@ -52,11 +52,14 @@ def size(crate):
 
 
 def heights(order, uses):
-    """For each crate, how many bytes of sources stand on each other from it upwards at most: the tallest are begun first."""
-    tall = {crate: size(crate) for crate in order}
+    """For each crate, what the proofs on each other from it upwards cost at most, in bytes of sources: the tallest are begun first. A proof
+    also reads what is below, at about a sixth of what it costs to prove it."""
+    sizes = {crate: size(crate) for crate in order}
+    costs = {crate: sizes[crate] + sum(sizes[each] for each in below(crate, uses, {})) // 6 for crate in order}
+    tall = dict(costs)
     for crate in reversed(order):
         for library in uses[crate]:
-            tall[library] = max(tall[library], size(library) + tall[crate])
+            tall[library] = max(tall[library], costs[library] + tall[crate])
     return tall
 
 
@@ -127,24 +130,33 @@ class Build:
     def minutes(self):
         return int((time.monotonic() - self.begun) / 60)
 
+    def left(self, ready):
+        """How many processors no proof could take before the tallest of those that are ready has ended."""
+        room = self.jobs - sum(jobs for _, jobs, _, _ in self.running.values())
+        others = [crate for crate in self.waiting if ready[0] not in below(crate, self.uses, {})]
+        return max(0, room - 1 - len(others))
+
     def start(self):
-        """Begins what can be begun, each proof on one processor: each further one would read the libraries below anew."""
+        """Begins what can be begun, each proof on one processor, for each further one reads the libraries below anew; the tallest also on
+        those that would have nothing to do."""
         ready = [crate for crate in self.waiting if all(library in self.done for library in self.uses[crate])]
         ready.sort(key=lambda crate: -self.tall[crate])
-        for crate in ready[: self.jobs - len(self.running)]:
+        more = self.left(ready) if ready else 0
+        for crate in ready[: self.jobs - sum(jobs for _, jobs, _, _ in self.running.values())]:
+            jobs, more = 1 + more, 0
             place = self.copies.pop()
             for library in below(crate, self.uses, {}):
                 hand(library, TOP, place)
             move_work(crate, TOP, place)
             out = open(f"{self.log.name}.{crate}", "w+")
-            words = ["rt", "lib", "--jobs", "1"]
+            words = ["rt", "lib", "--jobs", str(jobs)]
             process = subprocess.Popen(words, cwd=f"{place}/crates/{crate}", stdin=subprocess.DEVNULL, stdout=out, stderr=subprocess.STDOUT)
-            self.running[crate] = (process, out, place)
+            self.running[crate] = (process, jobs, out, place)
             self.waiting.remove(crate)
 
     def leave(self, crate):
         """Takes a proof that ended away, with what it printed and kept; whether it is proved."""
-        process, out, place = self.running.pop(crate)
+        process, _, out, place = self.running.pop(crate)
         out.seek(0)
         self.log.write(f"== {crate}\n{out.read()}")
         self.log.flush()
@@ -166,7 +178,7 @@ class Build:
         return True
 
     def stop(self):
-        for crate, (process, _, _) in list(self.running.items()):
+        for crate, (process, _, _, _) in list(self.running.items()):
             process.terminate()
             process.wait()
             self.leave(crate)
@@ -179,7 +191,7 @@ class Build:
             while self.waiting or self.running:
                 self.start()
                 time.sleep(0.2)
-                for crate in [crate for crate, (process, _, _) in self.running.items() if process.poll() is not None]:
+                for crate in [crate for crate, (process, _, _, _) in self.running.items() if process.poll() is not None]:
                     if not self.end(crate):
                         return False
             return True

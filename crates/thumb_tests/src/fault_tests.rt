@@ -44,31 +44,31 @@ fn the_first_fault(rt: HostRuntime) -> Result<(), Fail> {
 }
 
 /// Lines that fit no form.
-const NO_FORM: [&str; 23] = [
-    "MOVS r0, #1",
-    "movs R0, #1",
-    "movs r0, 1",
-    "movs r0 #1",
-    "movs r0, #- 1",
-    "movs r0, #0x12345678901",
-    "movs r0, #12345678901",
-    "movs r0, #0X1",
-    "a: b: nop",
-    "r0: nop",
-    "nop: nop",
-    "1a: nop",
-    "sub r0, #4",
-    "add r0, #4",
-    "add r0, r1, #4",
-    "movs r0, r1",
-    "ldr r0, [r1]",
-    "a: .word a-4",
-    ". word 1",
-    ".byte 1",
-    ".align 2",
-    "foo bar",
-    "there",
-];
+const NO_FORM: &str = "\
+    MOVS r0, #1\n\
+    movs R0, #1\n\
+    movs r0, 1\n\
+    movs r0 #1\n\
+    movs r0, #- 1\n\
+    movs r0, #0x12345678901\n\
+    movs r0, #12345678901\n\
+    movs r0, #0X1\n\
+    a: b: nop\n\
+    r0: nop\n\
+    nop: nop\n\
+    1a: nop\n\
+    sub r0, #4\n\
+    add r0, #4\n\
+    add r0, r1, #4\n\
+    movs r0, r1\n\
+    ldr r0, [r1]\n\
+    a: .word a-4\n\
+    . word 1\n\
+    .byte 1\n\
+    .align 2\n\
+    foo bar\n\
+    there\
+";
 
 /// Lines that do.
 const FORMS: [Row; 7] = [
@@ -83,7 +83,7 @@ const FORMS: [Row; 7] = [
 
 #[test]
 fn lines_and_their_forms(rt: HostRuntime) -> Result<(), Fail> {
-    for line in NO_FORM {
+    for line in NO_FORM.split('\n') {
         let fault = fault_of(rt.alloc(), line.as_bytes());
         assert!(rt; fault == Some(Syntax(1)), "{line}");
     }

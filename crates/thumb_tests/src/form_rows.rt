@@ -1,4 +1,6 @@
-//! Each form at its least and its greatest number, with its words, and one step beyond, with its fault.
+//! Each form at its least and its greatest number, with its words, and one step beyond, with its fault. Where each source is a line, the
+//! table is one text, a line for each: a source, and behind ` = ` its words or the name of its fault. (A text costs a proof far less than a
+//! list of rows.)
 
 use crate::outcome::Row;
 use crate::outcome::Wanted::{Fault, Words};
@@ -46,386 +48,386 @@ pub const DIRECTIVES: [Row; 28] = [
 ];
 
 /// Instructions with a number.
-pub const NUMBERS: [Row; 76] = [
-    ("movs r0, #0", Words(0, &[0x2000])),
-    ("movs r7, #255", Words(0, &[0x27ff])),
-    ("movs r0, #256", Fault(Range(1))),
-    ("movs r0, #-1", Fault(Range(1))),
-    ("movs r8, #0", Fault(Register(1))),
-    ("cmp r0, #0", Words(0, &[0x2800])),
-    ("cmp r7, #255", Words(0, &[0x2fff])),
-    ("cmp r0, #256", Fault(Range(1))),
-    ("cmp r0, #-1", Fault(Range(1))),
-    ("cmp r8, #0", Fault(Register(1))),
-    ("adds r0, #0", Words(0, &[0x3000])),
-    ("adds r7, #255", Words(0, &[0x37ff])),
-    ("adds r0, #256", Fault(Range(1))),
-    ("adds r0, #-1", Fault(Range(1))),
-    ("adds r8, #0", Fault(Register(1))),
-    ("subs r0, #0", Words(0, &[0x3800])),
-    ("subs r7, #255", Words(0, &[0x3fff])),
-    ("subs r0, #256", Fault(Range(1))),
-    ("subs r0, #-1", Fault(Range(1))),
-    ("subs r8, #0", Fault(Register(1))),
-    ("adds r0, r7, #0", Words(0, &[0x1c38])),
-    ("adds r7, r0, #7", Words(0, &[0x1dc7])),
-    ("adds r0, r0, #8", Fault(Range(1))),
-    ("adds r0, r0, #-1", Fault(Range(1))),
-    ("adds r8, r0, #0", Fault(Register(1))),
-    ("adds r0, r8, #0", Fault(Register(1))),
-    ("subs r0, r7, #0", Words(0, &[0x1e38])),
-    ("subs r7, r0, #7", Words(0, &[0x1fc7])),
-    ("subs r0, r0, #8", Fault(Range(1))),
-    ("subs r0, r0, #-1", Fault(Range(1))),
-    ("subs r8, r0, #0", Fault(Register(1))),
-    ("subs r0, r8, #0", Fault(Register(1))),
-    ("lsls r0, r7, #0", Words(0, &[0x0038])),
-    ("lsls r7, r0, #31", Words(0, &[0x07c7])),
-    ("lsls r0, r0, #32", Fault(Range(1))),
-    ("lsls r0, r0, #-1", Fault(Range(1))),
-    ("lsls r8, r0, #1", Fault(Register(1))),
-    ("lsls r0, r8, #1", Fault(Register(1))),
-    ("lsrs r0, r7, #1", Words(0, &[0x0878])),
-    ("lsrs r7, r0, #32", Words(0, &[0x0807])),
-    ("lsrs r0, r0, #33", Fault(Range(1))),
-    ("lsrs r0, r0, #0", Fault(Range(1))),
-    ("lsrs r8, r0, #1", Fault(Register(1))),
-    ("lsrs r0, r8, #1", Fault(Register(1))),
-    ("asrs r0, r7, #1", Words(0, &[0x1078])),
-    ("asrs r7, r0, #32", Words(0, &[0x1007])),
-    ("asrs r0, r0, #33", Fault(Range(1))),
-    ("asrs r0, r0, #0", Fault(Range(1))),
-    ("asrs r8, r0, #1", Fault(Register(1))),
-    ("asrs r0, r8, #1", Fault(Register(1))),
-    ("bkpt #0", Words(0, &[0xbe00])),
-    ("bkpt #255", Words(0, &[0xbeff])),
-    ("bkpt #256", Fault(Range(1))),
-    ("bkpt #-1", Fault(Range(1))),
-    ("udf #0", Words(0, &[0xde00])),
-    ("udf #255", Words(0, &[0xdeff])),
-    ("udf #256", Fault(Range(1))),
-    ("udf #-1", Fault(Range(1))),
-    ("svc #0", Words(0, &[0xdf00])),
-    ("svc #255", Words(0, &[0xdfff])),
-    ("svc #256", Fault(Range(1))),
-    ("svc #-1", Fault(Range(1))),
-    ("msr #0, r0", Words(0, &[0xf380, 0x8800])),
-    ("msr #255, lr", Words(0, &[0xf38e, 0x88ff])),
-    ("msr #256, r0", Fault(Range(1))),
-    ("msr #-1, r0", Fault(Range(1))),
-    ("msr #0, sp", Fault(Register(1))),
-    ("msr #0, pc", Fault(Register(1))),
-    ("msr #0, r16", Fault(Syntax(1))),
-    ("mrs r0, #0", Words(0, &[0xf3ef, 0x8000])),
-    ("mrs lr, #255", Words(0, &[0xf3ef, 0x8eff])),
-    ("mrs r0, #256", Fault(Range(1))),
-    ("mrs r0, #-1", Fault(Range(1))),
-    ("mrs sp, #0", Fault(Register(1))),
-    ("mrs pc, #0", Fault(Register(1))),
-    ("mrs r16, #0", Fault(Syntax(1))),
-];
+pub const NUMBERS: &str = "\
+    movs r0, #0 = 2000\n\
+    movs r7, #255 = 27ff\n\
+    movs r0, #256 = Range\n\
+    movs r0, #-1 = Range\n\
+    movs r8, #0 = Register\n\
+    cmp r0, #0 = 2800\n\
+    cmp r7, #255 = 2fff\n\
+    cmp r0, #256 = Range\n\
+    cmp r0, #-1 = Range\n\
+    cmp r8, #0 = Register\n\
+    adds r0, #0 = 3000\n\
+    adds r7, #255 = 37ff\n\
+    adds r0, #256 = Range\n\
+    adds r0, #-1 = Range\n\
+    adds r8, #0 = Register\n\
+    subs r0, #0 = 3800\n\
+    subs r7, #255 = 3fff\n\
+    subs r0, #256 = Range\n\
+    subs r0, #-1 = Range\n\
+    subs r8, #0 = Register\n\
+    adds r0, r7, #0 = 1c38\n\
+    adds r7, r0, #7 = 1dc7\n\
+    adds r0, r0, #8 = Range\n\
+    adds r0, r0, #-1 = Range\n\
+    adds r8, r0, #0 = Register\n\
+    adds r0, r8, #0 = Register\n\
+    subs r0, r7, #0 = 1e38\n\
+    subs r7, r0, #7 = 1fc7\n\
+    subs r0, r0, #8 = Range\n\
+    subs r0, r0, #-1 = Range\n\
+    subs r8, r0, #0 = Register\n\
+    subs r0, r8, #0 = Register\n\
+    lsls r0, r7, #0 = 0038\n\
+    lsls r7, r0, #31 = 07c7\n\
+    lsls r0, r0, #32 = Range\n\
+    lsls r0, r0, #-1 = Range\n\
+    lsls r8, r0, #1 = Register\n\
+    lsls r0, r8, #1 = Register\n\
+    lsrs r0, r7, #1 = 0878\n\
+    lsrs r7, r0, #32 = 0807\n\
+    lsrs r0, r0, #33 = Range\n\
+    lsrs r0, r0, #0 = Range\n\
+    lsrs r8, r0, #1 = Register\n\
+    lsrs r0, r8, #1 = Register\n\
+    asrs r0, r7, #1 = 1078\n\
+    asrs r7, r0, #32 = 1007\n\
+    asrs r0, r0, #33 = Range\n\
+    asrs r0, r0, #0 = Range\n\
+    asrs r8, r0, #1 = Register\n\
+    asrs r0, r8, #1 = Register\n\
+    bkpt #0 = be00\n\
+    bkpt #255 = beff\n\
+    bkpt #256 = Range\n\
+    bkpt #-1 = Range\n\
+    udf #0 = de00\n\
+    udf #255 = deff\n\
+    udf #256 = Range\n\
+    udf #-1 = Range\n\
+    svc #0 = df00\n\
+    svc #255 = dfff\n\
+    svc #256 = Range\n\
+    svc #-1 = Range\n\
+    msr #0, r0 = f380 8800\n\
+    msr #255, lr = f38e 88ff\n\
+    msr #256, r0 = Range\n\
+    msr #-1, r0 = Range\n\
+    msr #0, sp = Register\n\
+    msr #0, pc = Register\n\
+    msr #0, r16 = Syntax\n\
+    mrs r0, #0 = f3ef 8000\n\
+    mrs lr, #255 = f3ef 8eff\n\
+    mrs r0, #256 = Range\n\
+    mrs r0, #-1 = Range\n\
+    mrs sp, #0 = Register\n\
+    mrs pc, #0 = Register\n\
+    mrs r16, #0 = Syntax\
+";
 
 /// Instructions on two or three low registers.
-pub const ARITHMETIC: [Row; 55] = [
-    ("adds r0, r0, r0", Words(0, &[0x1800])),
-    ("adds r7, r7, r7", Words(0, &[0x19ff])),
-    ("adds r8, r0, r0", Fault(Register(1))),
-    ("adds r0, r8, r0", Fault(Register(1))),
-    ("adds r0, r0, r8", Fault(Register(1))),
-    ("subs r0, r0, r0", Words(0, &[0x1a00])),
-    ("subs r7, r7, r7", Words(0, &[0x1bff])),
-    ("subs r8, r0, r0", Fault(Register(1))),
-    ("subs r0, r8, r0", Fault(Register(1))),
-    ("subs r0, r0, r8", Fault(Register(1))),
-    ("ands r0, r7", Words(0, &[0x4038])),
-    ("ands r7, r0", Words(0, &[0x4007])),
-    ("ands r8, r0", Fault(Register(1))),
-    ("ands r0, r8", Fault(Register(1))),
-    ("eors r0, r7", Words(0, &[0x4078])),
-    ("eors r7, r0", Words(0, &[0x4047])),
-    ("eors r8, r0", Fault(Register(1))),
-    ("eors r0, r8", Fault(Register(1))),
-    ("lsls r0, r7", Words(0, &[0x40b8])),
-    ("lsls r7, r0", Words(0, &[0x4087])),
-    ("lsls r8, r0", Fault(Register(1))),
-    ("lsls r0, r8", Fault(Register(1))),
-    ("lsrs r0, r7", Words(0, &[0x40f8])),
-    ("lsrs r7, r0", Words(0, &[0x40c7])),
-    ("lsrs r8, r0", Fault(Register(1))),
-    ("lsrs r0, r8", Fault(Register(1))),
-    ("asrs r0, r7", Words(0, &[0x4138])),
-    ("asrs r7, r0", Words(0, &[0x4107])),
-    ("asrs r8, r0", Fault(Register(1))),
-    ("asrs r0, r8", Fault(Register(1))),
-    ("adcs r0, r7", Words(0, &[0x4178])),
-    ("adcs r7, r0", Words(0, &[0x4147])),
-    ("adcs r8, r0", Fault(Register(1))),
-    ("adcs r0, r8", Fault(Register(1))),
-    ("sbcs r0, r7", Words(0, &[0x41b8])),
-    ("sbcs r7, r0", Words(0, &[0x4187])),
-    ("sbcs r8, r0", Fault(Register(1))),
-    ("sbcs r0, r8", Fault(Register(1))),
-    ("rors r0, r7", Words(0, &[0x41f8])),
-    ("rors r7, r0", Words(0, &[0x41c7])),
-    ("rors r8, r0", Fault(Register(1))),
-    ("rors r0, r8", Fault(Register(1))),
-    ("tst r0, r7", Words(0, &[0x4238])),
-    ("tst r7, r0", Words(0, &[0x4207])),
-    ("tst r8, r0", Fault(Register(1))),
-    ("tst r0, r8", Fault(Register(1))),
-    ("rsbs r0, r7", Words(0, &[0x4278])),
-    ("rsbs r7, r0", Words(0, &[0x4247])),
-    ("rsbs r8, r0", Fault(Register(1))),
-    ("rsbs r0, r8", Fault(Register(1))),
-    ("cmn r0, r7", Words(0, &[0x42f8])),
-    ("cmn r7, r0", Words(0, &[0x42c7])),
-    ("cmn r8, r0", Fault(Register(1))),
-    ("cmn r0, r8", Fault(Register(1))),
-    ("orrs r0, r7", Words(0, &[0x4338])),
-];
+pub const ARITHMETIC: &str = "\
+    adds r0, r0, r0 = 1800\n\
+    adds r7, r7, r7 = 19ff\n\
+    adds r8, r0, r0 = Register\n\
+    adds r0, r8, r0 = Register\n\
+    adds r0, r0, r8 = Register\n\
+    subs r0, r0, r0 = 1a00\n\
+    subs r7, r7, r7 = 1bff\n\
+    subs r8, r0, r0 = Register\n\
+    subs r0, r8, r0 = Register\n\
+    subs r0, r0, r8 = Register\n\
+    ands r0, r7 = 4038\n\
+    ands r7, r0 = 4007\n\
+    ands r8, r0 = Register\n\
+    ands r0, r8 = Register\n\
+    eors r0, r7 = 4078\n\
+    eors r7, r0 = 4047\n\
+    eors r8, r0 = Register\n\
+    eors r0, r8 = Register\n\
+    lsls r0, r7 = 40b8\n\
+    lsls r7, r0 = 4087\n\
+    lsls r8, r0 = Register\n\
+    lsls r0, r8 = Register\n\
+    lsrs r0, r7 = 40f8\n\
+    lsrs r7, r0 = 40c7\n\
+    lsrs r8, r0 = Register\n\
+    lsrs r0, r8 = Register\n\
+    asrs r0, r7 = 4138\n\
+    asrs r7, r0 = 4107\n\
+    asrs r8, r0 = Register\n\
+    asrs r0, r8 = Register\n\
+    adcs r0, r7 = 4178\n\
+    adcs r7, r0 = 4147\n\
+    adcs r8, r0 = Register\n\
+    adcs r0, r8 = Register\n\
+    sbcs r0, r7 = 41b8\n\
+    sbcs r7, r0 = 4187\n\
+    sbcs r8, r0 = Register\n\
+    sbcs r0, r8 = Register\n\
+    rors r0, r7 = 41f8\n\
+    rors r7, r0 = 41c7\n\
+    rors r8, r0 = Register\n\
+    rors r0, r8 = Register\n\
+    tst r0, r7 = 4238\n\
+    tst r7, r0 = 4207\n\
+    tst r8, r0 = Register\n\
+    tst r0, r8 = Register\n\
+    rsbs r0, r7 = 4278\n\
+    rsbs r7, r0 = 4247\n\
+    rsbs r8, r0 = Register\n\
+    rsbs r0, r8 = Register\n\
+    cmn r0, r7 = 42f8\n\
+    cmn r7, r0 = 42c7\n\
+    cmn r8, r0 = Register\n\
+    cmn r0, r8 = Register\n\
+    orrs r0, r7 = 4338\
+";
 
 /// More of them, extensions, and instructions on any registers.
-pub const EXTENSIONS: [Row; 61] = [
-    ("orrs r7, r0", Words(0, &[0x4307])),
-    ("orrs r8, r0", Fault(Register(1))),
-    ("orrs r0, r8", Fault(Register(1))),
-    ("muls r0, r7", Words(0, &[0x4378])),
-    ("muls r7, r0", Words(0, &[0x4347])),
-    ("muls r8, r0", Fault(Register(1))),
-    ("muls r0, r8", Fault(Register(1))),
-    ("bics r0, r7", Words(0, &[0x43b8])),
-    ("bics r7, r0", Words(0, &[0x4387])),
-    ("bics r8, r0", Fault(Register(1))),
-    ("bics r0, r8", Fault(Register(1))),
-    ("mvns r0, r7", Words(0, &[0x43f8])),
-    ("mvns r7, r0", Words(0, &[0x43c7])),
-    ("mvns r8, r0", Fault(Register(1))),
-    ("mvns r0, r8", Fault(Register(1))),
-    ("sxth r0, r7", Words(0, &[0xb238])),
-    ("sxth r7, r0", Words(0, &[0xb207])),
-    ("sxth r8, r0", Fault(Register(1))),
-    ("sxth r0, r8", Fault(Register(1))),
-    ("sxtb r0, r7", Words(0, &[0xb278])),
-    ("sxtb r7, r0", Words(0, &[0xb247])),
-    ("sxtb r8, r0", Fault(Register(1))),
-    ("sxtb r0, r8", Fault(Register(1))),
-    ("uxth r0, r7", Words(0, &[0xb2b8])),
-    ("uxth r7, r0", Words(0, &[0xb287])),
-    ("uxth r8, r0", Fault(Register(1))),
-    ("uxth r0, r8", Fault(Register(1))),
-    ("uxtb r0, r7", Words(0, &[0xb2f8])),
-    ("uxtb r7, r0", Words(0, &[0xb2c7])),
-    ("uxtb r8, r0", Fault(Register(1))),
-    ("uxtb r0, r8", Fault(Register(1))),
-    ("rev r0, r7", Words(0, &[0xba38])),
-    ("rev r7, r0", Words(0, &[0xba07])),
-    ("rev r8, r0", Fault(Register(1))),
-    ("rev r0, r8", Fault(Register(1))),
-    ("rev16 r0, r7", Words(0, &[0xba78])),
-    ("rev16 r7, r0", Words(0, &[0xba47])),
-    ("rev16 r8, r0", Fault(Register(1))),
-    ("rev16 r0, r8", Fault(Register(1))),
-    ("revsh r0, r7", Words(0, &[0xbaf8])),
-    ("revsh r7, r0", Words(0, &[0xbac7])),
-    ("revsh r8, r0", Fault(Register(1))),
-    ("revsh r0, r8", Fault(Register(1))),
-    ("cmp r0, r7", Words(0, &[0x42b8])),
-    ("cmp r7, r0", Words(0, &[0x4287])),
-    ("cmp r0, r8", Words(0, &[0x4540])),
-    ("cmp r8, r0", Words(0, &[0x4580])),
-    ("cmp pc, pc", Words(0, &[0x45ff])),
-    ("add r0, r0", Words(0, &[0x4400])),
-    ("add pc, pc", Words(0, &[0x44ff])),
-    ("mov r0, r0", Words(0, &[0x4600])),
-    ("mov pc, pc", Words(0, &[0x46ff])),
-    ("add r16, r0", Fault(Syntax(1))),
-    ("add r0, r16", Fault(Syntax(1))),
-    ("cmp r16, r0", Fault(Syntax(1))),
-    ("cmp r0, r16", Fault(Syntax(1))),
-    ("mov r16, r0", Fault(Syntax(1))),
-    ("mov r0, r16", Fault(Syntax(1))),
-    ("bx r0", Words(0, &[0x4700])),
-    ("bx pc", Words(0, &[0x4778])),
-    ("bx r16", Fault(Syntax(1))),
-];
+pub const EXTENSIONS: &str = "\
+    orrs r7, r0 = 4307\n\
+    orrs r8, r0 = Register\n\
+    orrs r0, r8 = Register\n\
+    muls r0, r7 = 4378\n\
+    muls r7, r0 = 4347\n\
+    muls r8, r0 = Register\n\
+    muls r0, r8 = Register\n\
+    bics r0, r7 = 43b8\n\
+    bics r7, r0 = 4387\n\
+    bics r8, r0 = Register\n\
+    bics r0, r8 = Register\n\
+    mvns r0, r7 = 43f8\n\
+    mvns r7, r0 = 43c7\n\
+    mvns r8, r0 = Register\n\
+    mvns r0, r8 = Register\n\
+    sxth r0, r7 = b238\n\
+    sxth r7, r0 = b207\n\
+    sxth r8, r0 = Register\n\
+    sxth r0, r8 = Register\n\
+    sxtb r0, r7 = b278\n\
+    sxtb r7, r0 = b247\n\
+    sxtb r8, r0 = Register\n\
+    sxtb r0, r8 = Register\n\
+    uxth r0, r7 = b2b8\n\
+    uxth r7, r0 = b287\n\
+    uxth r8, r0 = Register\n\
+    uxth r0, r8 = Register\n\
+    uxtb r0, r7 = b2f8\n\
+    uxtb r7, r0 = b2c7\n\
+    uxtb r8, r0 = Register\n\
+    uxtb r0, r8 = Register\n\
+    rev r0, r7 = ba38\n\
+    rev r7, r0 = ba07\n\
+    rev r8, r0 = Register\n\
+    rev r0, r8 = Register\n\
+    rev16 r0, r7 = ba78\n\
+    rev16 r7, r0 = ba47\n\
+    rev16 r8, r0 = Register\n\
+    rev16 r0, r8 = Register\n\
+    revsh r0, r7 = baf8\n\
+    revsh r7, r0 = bac7\n\
+    revsh r8, r0 = Register\n\
+    revsh r0, r8 = Register\n\
+    cmp r0, r7 = 42b8\n\
+    cmp r7, r0 = 4287\n\
+    cmp r0, r8 = 4540\n\
+    cmp r8, r0 = 4580\n\
+    cmp pc, pc = 45ff\n\
+    add r0, r0 = 4400\n\
+    add pc, pc = 44ff\n\
+    mov r0, r0 = 4600\n\
+    mov pc, pc = 46ff\n\
+    add r16, r0 = Syntax\n\
+    add r0, r16 = Syntax\n\
+    cmp r16, r0 = Syntax\n\
+    cmp r0, r16 = Syntax\n\
+    mov r16, r0 = Syntax\n\
+    mov r0, r16 = Syntax\n\
+    bx r0 = 4700\n\
+    bx pc = 4778\n\
+    bx r16 = Syntax\
+";
 
 /// A branch, loads and stores by two registers, and instructions on nothing.
-pub const REGISTERS: [Row; 55] = [
-    ("blx r0", Words(0, &[0x4780])),
-    ("blx pc", Words(0, &[0x47f8])),
-    ("blx r16", Fault(Syntax(1))),
-    ("str r0, [r7, r0]", Words(0, &[0x5038])),
-    ("str r7, [r0, r7]", Words(0, &[0x51c7])),
-    ("str r8, [r0, r0]", Fault(Register(1))),
-    ("str r0, [r8, r0]", Fault(Register(1))),
-    ("str r0, [r0, r8]", Fault(Register(1))),
-    ("strh r0, [r7, r0]", Words(0, &[0x5238])),
-    ("strh r7, [r0, r7]", Words(0, &[0x53c7])),
-    ("strh r8, [r0, r0]", Fault(Register(1))),
-    ("strh r0, [r8, r0]", Fault(Register(1))),
-    ("strh r0, [r0, r8]", Fault(Register(1))),
-    ("strb r0, [r7, r0]", Words(0, &[0x5438])),
-    ("strb r7, [r0, r7]", Words(0, &[0x55c7])),
-    ("strb r8, [r0, r0]", Fault(Register(1))),
-    ("strb r0, [r8, r0]", Fault(Register(1))),
-    ("strb r0, [r0, r8]", Fault(Register(1))),
-    ("ldrsb r0, [r7, r0]", Words(0, &[0x5638])),
-    ("ldrsb r7, [r0, r7]", Words(0, &[0x57c7])),
-    ("ldrsb r8, [r0, r0]", Fault(Register(1))),
-    ("ldrsb r0, [r8, r0]", Fault(Register(1))),
-    ("ldrsb r0, [r0, r8]", Fault(Register(1))),
-    ("ldr r0, [r7, r0]", Words(0, &[0x5838])),
-    ("ldr r7, [r0, r7]", Words(0, &[0x59c7])),
-    ("ldr r8, [r0, r0]", Fault(Register(1))),
-    ("ldr r0, [r8, r0]", Fault(Register(1))),
-    ("ldr r0, [r0, r8]", Fault(Register(1))),
-    ("ldrh r0, [r7, r0]", Words(0, &[0x5a38])),
-    ("ldrh r7, [r0, r7]", Words(0, &[0x5bc7])),
-    ("ldrh r8, [r0, r0]", Fault(Register(1))),
-    ("ldrh r0, [r8, r0]", Fault(Register(1))),
-    ("ldrh r0, [r0, r8]", Fault(Register(1))),
-    ("ldrb r0, [r7, r0]", Words(0, &[0x5c38])),
-    ("ldrb r7, [r0, r7]", Words(0, &[0x5dc7])),
-    ("ldrb r8, [r0, r0]", Fault(Register(1))),
-    ("ldrb r0, [r8, r0]", Fault(Register(1))),
-    ("ldrb r0, [r0, r8]", Fault(Register(1))),
-    ("ldrsh r0, [r7, r0]", Words(0, &[0x5e38])),
-    ("ldrsh r7, [r0, r7]", Words(0, &[0x5fc7])),
-    ("ldrsh r8, [r0, r0]", Fault(Register(1))),
-    ("ldrsh r0, [r8, r0]", Fault(Register(1))),
-    ("ldrsh r0, [r0, r8]", Fault(Register(1))),
-    ("nop", Words(0, &[0xbf00])),
-    ("yield", Words(0, &[0xbf10])),
-    ("wfe", Words(0, &[0xbf20])),
-    ("wfi", Words(0, &[0xbf30])),
-    ("sev", Words(0, &[0xbf40])),
-    ("dsb", Words(0, &[0xf3bf, 0x8f4f])),
-    ("dmb", Words(0, &[0xf3bf, 0x8f5f])),
-    ("isb", Words(0, &[0xf3bf, 0x8f6f])),
-    ("cpsie i", Words(0, &[0xb662])),
-    ("cpsid i", Words(0, &[0xb672])),
-    ("cpsie f", Fault(Syntax(1))),
-    ("cpsid f", Fault(Syntax(1))),
-];
+pub const REGISTERS: &str = "\
+    blx r0 = 4780\n\
+    blx pc = 47f8\n\
+    blx r16 = Syntax\n\
+    str r0, [r7, r0] = 5038\n\
+    str r7, [r0, r7] = 51c7\n\
+    str r8, [r0, r0] = Register\n\
+    str r0, [r8, r0] = Register\n\
+    str r0, [r0, r8] = Register\n\
+    strh r0, [r7, r0] = 5238\n\
+    strh r7, [r0, r7] = 53c7\n\
+    strh r8, [r0, r0] = Register\n\
+    strh r0, [r8, r0] = Register\n\
+    strh r0, [r0, r8] = Register\n\
+    strb r0, [r7, r0] = 5438\n\
+    strb r7, [r0, r7] = 55c7\n\
+    strb r8, [r0, r0] = Register\n\
+    strb r0, [r8, r0] = Register\n\
+    strb r0, [r0, r8] = Register\n\
+    ldrsb r0, [r7, r0] = 5638\n\
+    ldrsb r7, [r0, r7] = 57c7\n\
+    ldrsb r8, [r0, r0] = Register\n\
+    ldrsb r0, [r8, r0] = Register\n\
+    ldrsb r0, [r0, r8] = Register\n\
+    ldr r0, [r7, r0] = 5838\n\
+    ldr r7, [r0, r7] = 59c7\n\
+    ldr r8, [r0, r0] = Register\n\
+    ldr r0, [r8, r0] = Register\n\
+    ldr r0, [r0, r8] = Register\n\
+    ldrh r0, [r7, r0] = 5a38\n\
+    ldrh r7, [r0, r7] = 5bc7\n\
+    ldrh r8, [r0, r0] = Register\n\
+    ldrh r0, [r8, r0] = Register\n\
+    ldrh r0, [r0, r8] = Register\n\
+    ldrb r0, [r7, r0] = 5c38\n\
+    ldrb r7, [r0, r7] = 5dc7\n\
+    ldrb r8, [r0, r0] = Register\n\
+    ldrb r0, [r8, r0] = Register\n\
+    ldrb r0, [r0, r8] = Register\n\
+    ldrsh r0, [r7, r0] = 5e38\n\
+    ldrsh r7, [r0, r7] = 5fc7\n\
+    ldrsh r8, [r0, r0] = Register\n\
+    ldrsh r0, [r8, r0] = Register\n\
+    ldrsh r0, [r0, r8] = Register\n\
+    nop = bf00\n\
+    yield = bf10\n\
+    wfe = bf20\n\
+    wfi = bf30\n\
+    sev = bf40\n\
+    dsb = f3bf 8f4f\n\
+    dmb = f3bf 8f5f\n\
+    isb = f3bf 8f6f\n\
+    cpsie i = b662\n\
+    cpsid i = b672\n\
+    cpsie f = Syntax\n\
+    cpsid f = Syntax\
+";
 
 /// Loads and stores behind a register, and sums with SP.
-pub const OFFSETS: [Row; 70] = [
-    ("str r0, [r7, #0]", Words(0, &[0x6038])),
-    ("str r7, [r0, #124]", Words(0, &[0x67c7])),
-    ("str r0, [r0, #128]", Fault(Range(1))),
-    ("str r0, [r0, #-4]", Fault(Range(1))),
-    ("str r0, [r0, #1]", Fault(Range(1))),
-    ("str r8, [r0, #0]", Fault(Register(1))),
-    ("str r0, [r8, #0]", Fault(Register(1))),
-    ("ldr r0, [r7, #0]", Words(0, &[0x6838])),
-    ("ldr r7, [r0, #124]", Words(0, &[0x6fc7])),
-    ("ldr r0, [r0, #128]", Fault(Range(1))),
-    ("ldr r0, [r0, #-4]", Fault(Range(1))),
-    ("ldr r0, [r0, #1]", Fault(Range(1))),
-    ("ldr r8, [r0, #0]", Fault(Register(1))),
-    ("ldr r0, [r8, #0]", Fault(Register(1))),
-    ("strb r0, [r7, #0]", Words(0, &[0x7038])),
-    ("strb r7, [r0, #31]", Words(0, &[0x77c7])),
-    ("strb r0, [r0, #32]", Fault(Range(1))),
-    ("strb r0, [r0, #-1]", Fault(Range(1))),
-    ("strb r8, [r0, #0]", Fault(Register(1))),
-    ("strb r0, [r8, #0]", Fault(Register(1))),
-    ("ldrb r0, [r7, #0]", Words(0, &[0x7838])),
-    ("ldrb r7, [r0, #31]", Words(0, &[0x7fc7])),
-    ("ldrb r0, [r0, #32]", Fault(Range(1))),
-    ("ldrb r0, [r0, #-1]", Fault(Range(1))),
-    ("ldrb r8, [r0, #0]", Fault(Register(1))),
-    ("ldrb r0, [r8, #0]", Fault(Register(1))),
-    ("strh r0, [r7, #0]", Words(0, &[0x8038])),
-    ("strh r7, [r0, #62]", Words(0, &[0x87c7])),
-    ("strh r0, [r0, #64]", Fault(Range(1))),
-    ("strh r0, [r0, #-2]", Fault(Range(1))),
-    ("strh r0, [r0, #1]", Fault(Range(1))),
-    ("strh r8, [r0, #0]", Fault(Register(1))),
-    ("strh r0, [r8, #0]", Fault(Register(1))),
-    ("ldrh r0, [r7, #0]", Words(0, &[0x8838])),
-    ("ldrh r7, [r0, #62]", Words(0, &[0x8fc7])),
-    ("ldrh r0, [r0, #64]", Fault(Range(1))),
-    ("ldrh r0, [r0, #-2]", Fault(Range(1))),
-    ("ldrh r0, [r0, #1]", Fault(Range(1))),
-    ("ldrh r8, [r0, #0]", Fault(Register(1))),
-    ("ldrh r0, [r8, #0]", Fault(Register(1))),
-    ("ldrsb r0, [r0, #0]", Fault(Syntax(1))),
-    ("ldrsh r0, [r0, #0]", Fault(Syntax(1))),
-    ("str r0, [sp, #0]", Words(0, &[0x9000])),
-    ("str r7, [sp, #1020]", Words(0, &[0x97ff])),
-    ("str r0, [sp, #1024]", Fault(Range(1))),
-    ("str r0, [sp, #-4]", Fault(Range(1))),
-    ("str r0, [sp, #2]", Fault(Range(1))),
-    ("str r8, [sp, #0]", Fault(Register(1))),
-    ("ldr r0, [sp, #0]", Words(0, &[0x9800])),
-    ("ldr r7, [sp, #1020]", Words(0, &[0x9fff])),
-    ("ldr r0, [sp, #1024]", Fault(Range(1))),
-    ("ldr r0, [sp, #-4]", Fault(Range(1))),
-    ("ldr r0, [sp, #2]", Fault(Range(1))),
-    ("ldr r8, [sp, #0]", Fault(Register(1))),
-    ("add r0, sp, #0", Words(0, &[0xa800])),
-    ("add r7, sp, #1020", Words(0, &[0xafff])),
-    ("add r0, sp, #1024", Fault(Range(1))),
-    ("add r0, sp, #-4", Fault(Range(1))),
-    ("add r0, sp, #2", Fault(Range(1))),
-    ("add r8, sp, #0", Fault(Register(1))),
-    ("add sp, #0", Words(0, &[0xb000])),
-    ("add sp, #508", Words(0, &[0xb07f])),
-    ("add sp, #512", Fault(Range(1))),
-    ("add sp, #-4", Fault(Range(1))),
-    ("add sp, #2", Fault(Range(1))),
-    ("sub sp, #0", Words(0, &[0xb080])),
-    ("sub sp, #508", Words(0, &[0xb0ff])),
-    ("sub sp, #512", Fault(Range(1))),
-    ("sub sp, #-4", Fault(Range(1))),
-    ("sub sp, #2", Fault(Range(1))),
-];
+pub const OFFSETS: &str = "\
+    str r0, [r7, #0] = 6038\n\
+    str r7, [r0, #124] = 67c7\n\
+    str r0, [r0, #128] = Range\n\
+    str r0, [r0, #-4] = Range\n\
+    str r0, [r0, #1] = Range\n\
+    str r8, [r0, #0] = Register\n\
+    str r0, [r8, #0] = Register\n\
+    ldr r0, [r7, #0] = 6838\n\
+    ldr r7, [r0, #124] = 6fc7\n\
+    ldr r0, [r0, #128] = Range\n\
+    ldr r0, [r0, #-4] = Range\n\
+    ldr r0, [r0, #1] = Range\n\
+    ldr r8, [r0, #0] = Register\n\
+    ldr r0, [r8, #0] = Register\n\
+    strb r0, [r7, #0] = 7038\n\
+    strb r7, [r0, #31] = 77c7\n\
+    strb r0, [r0, #32] = Range\n\
+    strb r0, [r0, #-1] = Range\n\
+    strb r8, [r0, #0] = Register\n\
+    strb r0, [r8, #0] = Register\n\
+    ldrb r0, [r7, #0] = 7838\n\
+    ldrb r7, [r0, #31] = 7fc7\n\
+    ldrb r0, [r0, #32] = Range\n\
+    ldrb r0, [r0, #-1] = Range\n\
+    ldrb r8, [r0, #0] = Register\n\
+    ldrb r0, [r8, #0] = Register\n\
+    strh r0, [r7, #0] = 8038\n\
+    strh r7, [r0, #62] = 87c7\n\
+    strh r0, [r0, #64] = Range\n\
+    strh r0, [r0, #-2] = Range\n\
+    strh r0, [r0, #1] = Range\n\
+    strh r8, [r0, #0] = Register\n\
+    strh r0, [r8, #0] = Register\n\
+    ldrh r0, [r7, #0] = 8838\n\
+    ldrh r7, [r0, #62] = 8fc7\n\
+    ldrh r0, [r0, #64] = Range\n\
+    ldrh r0, [r0, #-2] = Range\n\
+    ldrh r0, [r0, #1] = Range\n\
+    ldrh r8, [r0, #0] = Register\n\
+    ldrh r0, [r8, #0] = Register\n\
+    ldrsb r0, [r0, #0] = Syntax\n\
+    ldrsh r0, [r0, #0] = Syntax\n\
+    str r0, [sp, #0] = 9000\n\
+    str r7, [sp, #1020] = 97ff\n\
+    str r0, [sp, #1024] = Range\n\
+    str r0, [sp, #-4] = Range\n\
+    str r0, [sp, #2] = Range\n\
+    str r8, [sp, #0] = Register\n\
+    ldr r0, [sp, #0] = 9800\n\
+    ldr r7, [sp, #1020] = 9fff\n\
+    ldr r0, [sp, #1024] = Range\n\
+    ldr r0, [sp, #-4] = Range\n\
+    ldr r0, [sp, #2] = Range\n\
+    ldr r8, [sp, #0] = Register\n\
+    add r0, sp, #0 = a800\n\
+    add r7, sp, #1020 = afff\n\
+    add r0, sp, #1024 = Range\n\
+    add r0, sp, #-4 = Range\n\
+    add r0, sp, #2 = Range\n\
+    add r8, sp, #0 = Register\n\
+    add sp, #0 = b000\n\
+    add sp, #508 = b07f\n\
+    add sp, #512 = Range\n\
+    add sp, #-4 = Range\n\
+    add sp, #2 = Range\n\
+    sub sp, #0 = b080\n\
+    sub sp, #508 = b0ff\n\
+    sub sp, #512 = Range\n\
+    sub sp, #-4 = Range\n\
+    sub sp, #2 = Range\
+";
 
 /// Lists of registers.
-pub const LISTS: [Row; 41] = [
-    ("push {r0}", Words(0, &[0xb401])),
-    ("push {lr}", Words(0, &[0xb500])),
-    ("push {r0-r7, lr}", Words(0, &[0xb5ff])),
-    ("push {r0, r2-r3, r7}", Words(0, &[0xb48d])),
-    ("push {r8}", Fault(Register(1))),
-    ("push {r1, r0}", Fault(Register(1))),
-    ("push {r0, r0}", Fault(Register(1))),
-    ("push {pc}", Fault(Register(1))),
-    ("push {lr, r0}", Fault(Register(1))),
-    ("push {r3-r1}", Fault(Register(1))),
-    ("push {r0-r8}", Fault(Register(1))),
-    ("push {sp}", Fault(Register(1))),
-    ("push {}", Fault(Syntax(1))),
-    ("pop {r0}", Words(0, &[0xbc01])),
-    ("pop {pc}", Words(0, &[0xbd00])),
-    ("pop {r0-r7, pc}", Words(0, &[0xbdff])),
-    ("pop {lr}", Fault(Register(1))),
-    ("pop {r8}", Fault(Register(1))),
-    ("pop {r1, r0}", Fault(Register(1))),
-    ("pop {pc, r0}", Fault(Register(1))),
-    ("pop {r0-r8}", Fault(Register(1))),
-    ("pop {sp}", Fault(Register(1))),
-    ("pop {}", Fault(Syntax(1))),
-    ("stm r0!, {r7}", Words(0, &[0xc080])),
-    ("stm r7!, {r0-r7}", Words(0, &[0xc7ff])),
-    ("stm r8!, {r0}", Fault(Register(1))),
-    ("stm r0!, {r8}", Fault(Register(1))),
-    ("stm r0!, {r2, r1}", Fault(Register(1))),
-    ("stm r0, {r1}", Fault(Syntax(1))),
-    ("ldm r0!, {r7}", Words(0, &[0xc880])),
-    ("ldm r7!, {r0-r6}", Words(0, &[0xcf7f])),
-    ("ldm r0!, {r0}", Fault(Register(1))),
-    ("ldm r8!, {r0}", Fault(Register(1))),
-    ("ldm r0!, {r8}", Fault(Register(1))),
-    ("ldm r0!, {r2, r1}", Fault(Register(1))),
-    ("ldm r0, {r0}", Words(0, &[0xc801])),
-    ("ldm r7, {r0-r7}", Words(0, &[0xcfff])),
-    ("ldm r0, {r1}", Fault(Register(1))),
-    ("ldm r8, {r8}", Fault(Register(1))),
-    ("ldm r0, {r0, r8}", Fault(Register(1))),
-    ("ldm r0, {r1, r0}", Fault(Register(1))),
-];
+pub const LISTS: &str = "\
+    push {r0} = b401\n\
+    push {lr} = b500\n\
+    push {r0-r7, lr} = b5ff\n\
+    push {r0, r2-r3, r7} = b48d\n\
+    push {r8} = Register\n\
+    push {r1, r0} = Register\n\
+    push {r0, r0} = Register\n\
+    push {pc} = Register\n\
+    push {lr, r0} = Register\n\
+    push {r3-r1} = Register\n\
+    push {r0-r8} = Register\n\
+    push {sp} = Register\n\
+    push {} = Syntax\n\
+    pop {r0} = bc01\n\
+    pop {pc} = bd00\n\
+    pop {r0-r7, pc} = bdff\n\
+    pop {lr} = Register\n\
+    pop {r8} = Register\n\
+    pop {r1, r0} = Register\n\
+    pop {pc, r0} = Register\n\
+    pop {r0-r8} = Register\n\
+    pop {sp} = Register\n\
+    pop {} = Syntax\n\
+    stm r0!, {r7} = c080\n\
+    stm r7!, {r0-r7} = c7ff\n\
+    stm r8!, {r0} = Register\n\
+    stm r0!, {r8} = Register\n\
+    stm r0!, {r2, r1} = Register\n\
+    stm r0, {r1} = Syntax\n\
+    ldm r0!, {r7} = c880\n\
+    ldm r7!, {r0-r6} = cf7f\n\
+    ldm r0!, {r0} = Register\n\
+    ldm r8!, {r0} = Register\n\
+    ldm r0!, {r8} = Register\n\
+    ldm r0!, {r2, r1} = Register\n\
+    ldm r0, {r0} = c801\n\
+    ldm r7, {r0-r7} = cfff\n\
+    ldm r0, {r1} = Register\n\
+    ldm r8, {r8} = Register\n\
+    ldm r0, {r0, r8} = Register\n\
+    ldm r0, {r1, r0} = Register\
+";
 
 /// Literals and branches without a condition.
 pub const DISTANCES: [Row; 24] = [

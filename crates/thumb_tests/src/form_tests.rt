@@ -4,9 +4,10 @@ use crate::fault_tests::{fault_of, with_run};
 use crate::form_rows::{
     ARITHMETIC, DIRECTIVES, DISTANCES, EXTENSIONS, LISTS, NUMBERS, OFFSETS, REGISTERS,
 };
-use crate::outcome::{assembled, first_wrong, has_words};
+use crate::outcome::{first_wrong, first_wrong_line, gives};
+use std::alloc::{AllocError, Global};
 use std::test::Fail;
-use thumb_asm::ThumbFault;
+use thumb_asm::ThumbFault::{Range, TooLong};
 
 #[test]
 fn forms_of_directives(rt: HostRuntime) -> Result<(), Fail> {
@@ -16,37 +17,37 @@ fn forms_of_directives(rt: HostRuntime) -> Result<(), Fail> {
 
 #[test]
 fn forms_with_a_number(rt: HostRuntime) -> Result<(), Fail> {
-    assert_eq!(rt; first_wrong(rt.alloc(), &NUMBERS)?, None);
+    assert_eq!(rt; first_wrong_line(rt.alloc(), NUMBERS)?, None);
     Ok(())
 }
 
 #[test]
 fn forms_of_arithmetic(rt: HostRuntime) -> Result<(), Fail> {
-    assert_eq!(rt; first_wrong(rt.alloc(), &ARITHMETIC)?, None);
+    assert_eq!(rt; first_wrong_line(rt.alloc(), ARITHMETIC)?, None);
     Ok(())
 }
 
 #[test]
 fn forms_of_extensions(rt: HostRuntime) -> Result<(), Fail> {
-    assert_eq!(rt; first_wrong(rt.alloc(), &EXTENSIONS)?, None);
+    assert_eq!(rt; first_wrong_line(rt.alloc(), EXTENSIONS)?, None);
     Ok(())
 }
 
 #[test]
 fn forms_of_registers(rt: HostRuntime) -> Result<(), Fail> {
-    assert_eq!(rt; first_wrong(rt.alloc(), &REGISTERS)?, None);
+    assert_eq!(rt; first_wrong_line(rt.alloc(), REGISTERS)?, None);
     Ok(())
 }
 
 #[test]
 fn forms_with_an_offset(rt: HostRuntime) -> Result<(), Fail> {
-    assert_eq!(rt; first_wrong(rt.alloc(), &OFFSETS)?, None);
+    assert_eq!(rt; first_wrong_line(rt.alloc(), OFFSETS)?, None);
     Ok(())
 }
 
 #[test]
 fn forms_with_a_list(rt: HostRuntime) -> Result<(), Fail> {
-    assert_eq!(rt; first_wrong(rt.alloc(), &LISTS)?, None);
+    assert_eq!(rt; first_wrong_line(rt.alloc(), LISTS)?, None);
     Ok(())
 }
 
@@ -74,19 +75,25 @@ const CONDITIONS: [(&[u8], u16); 14] = [
     (b"ble a\n", 0xdd00),
 ];
 
-/// A conditional branch reaches from 256 bytes back to 254 ahead.
+/// A conditional branch reaches 256 bytes back.
+fn reaches_back(alloc: Global, branch: &[u8], word: u16) -> Result<bool, AllocError> {
+    let near = with_run(alloc, b"a: .space 252\n", branch, 1, b"")?;
+    let far = with_run(alloc, b"a: .space 254\n", branch, 1, b"")?;
+    Ok(gives(alloc, &near, 252, &[word | 0x80])? && fault_of(alloc, &far) == Some(Range(2)))
+}
+
+/// A conditional branch reaches 254 bytes ahead.
+fn reaches_ahead(alloc: Global, branch: &[u8], word: u16) -> Result<bool, AllocError> {
+    let near = with_run(alloc, b"", branch, 1, b".space 256\na: nop")?;
+    let far = with_run(alloc, b"", branch, 1, b".space 258\na: nop")?;
+    Ok(gives(alloc, &near, 0, &[word | 0x7f])? && fault_of(alloc, &far) == Some(Range(1)))
+}
+
 #[test]
 fn forms_with_a_condition(rt: HostRuntime) -> Result<(), Fail> {
-    let alloc = rt.alloc();
     for (branch, word) in CONDITIONS {
-        let back = assembled(alloc, &with_run(alloc, b"a: .space 252\n", branch, 1, b"")?)?;
-        assert!(rt; has_words(alloc, &back, 252, &[word | 0x80])?);
-        let far = with_run(alloc, b"a: .space 254\n", branch, 1, b"")?;
-        assert!(rt; fault_of(alloc, &far) == Some(ThumbFault::Range(2)));
-        let ahead = with_run(alloc, b"", branch, 1, b".space 256\na: nop")?;
-        assert!(rt; has_words(alloc, &assembled(alloc, &ahead)?, 0, &[word | 0x7f])?);
-        let far = with_run(alloc, b"", branch, 1, b".space 258\na: nop")?;
-        assert!(rt; fault_of(alloc, &far) == Some(ThumbFault::Range(1)));
+        assert!(rt; reaches_back(rt.alloc(), branch, word)?);
+        assert!(rt; reaches_ahead(rt.alloc(), branch, word)?);
     }
     Ok(())
 }
@@ -96,8 +103,8 @@ fn forms_with_a_condition(rt: HostRuntime) -> Result<(), Fail> {
 fn the_farthest_call(rt: HostRuntime) -> Result<(), Fail> {
     let alloc = rt.alloc();
     let near = with_run(alloc, b"bl a\n", b".space 4096\n", 4095, b".space 4094\na:")?;
-    assert!(rt; fault_of(alloc, &near) == Some(ThumbFault::TooLong(67)));
+    assert!(rt; fault_of(alloc, &near) == Some(TooLong(67)));
     let far = with_run(alloc, b"bl a\n", b".space 4096\n", 4096, b"a:")?;
-    assert!(rt; fault_of(alloc, &far) == Some(ThumbFault::Range(1)));
+    assert!(rt; fault_of(alloc, &far) == Some(Range(1)));
     Ok(())
 }

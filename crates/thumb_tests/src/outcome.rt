@@ -74,6 +74,63 @@ fn is_right(alloc: Global, row: &Row) -> Result<bool, AllocError> {
     }
 }
 
+/// The halfwords that a text names, each by its hexadecimal digits.
+fn words_named(alloc: Global, text: &str) -> Result<Option<Vec<u16>>, AllocError> {
+    let mut words = Vec::new(alloc);
+    for word in text.split(' ') {
+        match u16::from_str_radix(word, 16) {
+            Ok(word) => words.push(word)?,
+            Err(_) => return Ok(None),
+        }
+    }
+    Ok(Some(words))
+}
+
+/// Whether the first line has the fault of that name.
+fn is_named(fault: ThumbFault, name: &str) -> bool {
+    match fault {
+        ThumbFault::Range(1) => name == "Range",
+        ThumbFault::Register(1) => name == "Register",
+        ThumbFault::Syntax(1) => name == "Syntax",
+        _ => false,
+    }
+}
+
+/// Whether a line of a table, a source, ` = `, and its halfwords or the name of its fault, is right.
+fn is_right_line(alloc: Global, line: &str) -> Result<bool, AllocError> {
+    let Some((source, wanted)) = line.split_once(" = ") else {
+        return Ok(false);
+    };
+    match assembled(alloc, source.as_bytes()) {
+        Ok(image) => match words_named(alloc, wanted)? {
+            Some(words) => has_words(alloc, &image, 0, words.as_slice()),
+            None => Ok(false),
+        },
+        Err(found) => Ok(is_named(found, wanted)),
+    }
+}
+
+/// The first line of a table that is not right.
+pub fn first_wrong_line(
+    alloc: Global,
+    table: &'static str,
+) -> Result<Option<&'static str>, AllocError> {
+    for line in table.split('\n') {
+        if !is_right_line(alloc, line)? {
+            return Ok(Some(line));
+        }
+    }
+    Ok(None)
+}
+
+/// Whether a source gives these halfwords at a place.
+pub fn gives(alloc: Global, text: &[u8], at: usize, words: &[u16]) -> Result<bool, AllocError> {
+    match assembled(alloc, text) {
+        Ok(image) => has_words(alloc, &image, at, words),
+        Err(_) => Ok(false),
+    }
+}
+
 /// The first source that gives something else.
 pub fn first_wrong(alloc: Global, rows: &[Row]) -> Result<Option<&'static str>, AllocError> {
     for row in rows {
