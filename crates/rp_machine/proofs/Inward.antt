@@ -169,12 +169,15 @@ onward w p q o s h alone same inward =
     ∙ inward_same w p q o s (begun s).core0 (begun (with_beside p o s)).outer (core0_want s) h same.sio inward
 
 -- no master stops it
+abbrev outside_unless : Bool → ℕ → Option Why
+outside_unless opened address = if opened then None else Some (why.Outside master.Core0 address)
+
 no_cause : (w : Setting) (seen : SeenOutputs) (s : State) (granted : Bool) (x : Want) → is_inward granted x ≡ true → cause_of w seen s (wanted_by master.Core0 x) ≡ None
 unfolding cause_of
 no_cause w seen s granted want.Nothing e = refl
 no_cause w seen s granted (want.Ram request) e = refl
 no_cause w seen s granted (want.Outward request) e =
-    ap (λ (opened : Bool). if opened then (None {A = Why}) else Some (why.Outside master.Core0 request.address)) (has_word w seen master.Core0 request (place_of request.address) granted s e)
+    ap (λ opened. outside_unless opened request.address) (has_word w seen master.Core0 request (place_of request.address) granted s e)
 no_cause w seen s granted want.Signal e = cc
 no_cause w seen s granted (want.Stopped cause) e = cc
 
