@@ -37,10 +37,6 @@ way_first w s steps le = record {
 
 -- ---- one cycle more
 
--- where it led
-pub goes_one : (w : Setting) (s t : State) (found : Option Why) → found ≡ None → t ≡ next w s → t ≡ unless_stopped found s (next w s)
-goes_one w s t found none e = rw none e
-
 pub way_on : (w : Setting) (first s t : State) (before now after : ℕ) → OnItsWay w first s before now → stop w s ≡ None → t ≡ next w s
     → after + s.cycle ≡ now + t.cycle → OnItsWay w first t before after
 way_on w first s t before now after r runs same count =
@@ -101,8 +97,3 @@ way_on_run w first s before now r = record {
   within = subst (λ (t : State). s.cycle ≤ t.cycle) r.last (last_later w s);
   state = own_number w first s r.way;
 }
-
-pub same_steps : (s t : State) (first before now after : ℕ) → t ≡ s → after + s.cycle ≡ now + t.cycle → now + first ≡ before + s.cycle → after + first ≡ before + t.cycle
-same_steps s t first before now after e count so_far =
-    let same : t.cycle ≡ s.cycle = ap (λ (x : State). x.cycle) e in
-    omega (arith, count, so_far)
