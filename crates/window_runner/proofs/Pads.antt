@@ -1,5 +1,5 @@
 -- The levels that a cycle marks are those of the pads after it: what is done in the cycle leaves them.
-use Rattle.std.proofs.Common.{◌≡◌, ◌-◌, ◌^◌, ℕ, refl, ◌∙◌}
+use Rattle.std.proofs.Common.{◌≡◌, ℕ, refl, ◌∙◌}
 use Rattle.bus_fabric.specs.Masters.{masters}
 use Rattle.outer_lane.specs.Setting.{Setting}
 use Rattle.outer_lane.specs.Step as outer
