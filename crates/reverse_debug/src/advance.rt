@@ -11,7 +11,7 @@ ghost use Rattle.reverse_debug.specs.Reply.{ends_by, seen};
 use crate::sight::Sight;
 use crate::watch::{Watched, ends_by, seen};
 use lane_look::{Device, Marks};
-use quiet_run::{pass_quiet, pass_waiting, pass_watched};
+use quiet_run::{Pace, pass_paced, pass_quiet, pass_waiting, pass_watched};
 use rp_base::Why;
 use rp_machine::{Machine, Steps, World};
 use std::sync::ledger::Ledger;
@@ -45,11 +45,14 @@ pub(crate) fn advance<X: Device, L: Ledger>(
     ensures steps { CountsMove machine.old machine.new steps.old steps.new }
 {
     let most = passable(machine.number(), to, world.limit);
+    let mut pace = Pace::default();
     'cycles: while machine.number() < to {
-        pass_quiet(machine, world, most, marks, steps);
         match machine.cycle(world, marks, steps) {
             Some(why) => return Some(why),
-            None => continue 'cycles,
+            None => {}
+        }
+        if pace.is_due(machine) {
+            pass_paced(machine, world, most, &mut pace, marks, steps);
         }
     }
     None

@@ -1,6 +1,6 @@
-use Rattle.std.proofs.Common.{◌<◌, ◌≤◌, sym, arith}
+use Rattle.std.proofs.Common.{◌+◌, ◌<◌, ◌≡◌, ◌≤◌, ◌∙◌, ap, sym, arith}
 use Rattle.outer_lane.specs.Setting.{setting_of}
-use Rattle.reverse_debug.proofs.Paths.{way_here, way_on, way_stopped, way_there, way_counts, way_passed, still_below, nearer_passed}
+use Rattle.reverse_debug.proofs.Paths.{next_at, way_here, way_on, way_stopped, way_there, way_counts, way_passed}
 use Rattle.reverse_debug.proofs.advance.advance.Goals as goal
 
 pub cycles-init : goal.cycles-init
@@ -10,37 +10,43 @@ pub cycles-smaller : goal.cycles-smaller
 cycles-smaller g c =
     let w = setting_of c.args.world.now.script.now (g.X.Device.meaning c.args.world.now.device.now) c.args.world.now.limit in
     let lt : c.cycles.machine.cycle < c.args.to = omega arith in
-    let q = c.pass_quiet.ensures in
-    let below = still_below w c.cycles.machine c.pass_quiet.new.machine c.args.to _ _ q.state q.quiet q.within c.passable-most.ensures.before lt in
-    nearer_passed w c.cycles.machine c.pass_quiet.new.machine c.cycle.new.self c.args.to _ q.state q.quiet c.in-None.ensures.state below
+    let one = next_at w c.cycles.machine c.cycle.new.self c.in-None.ensures.state in
+    omega (arith, one, lt)
+
+pub cycles-smaller-then-is_due : goal.cycles-smaller-then-is_due
+cycles-smaller-then-is_due g c =
+    let w = setting_of c.args.world.now.script.now (g.X.Device.meaning c.args.world.now.device.now) c.args.world.now.limit in
+    let lt : c.cycles.machine.cycle < c.args.to = omega arith in
+    let one = next_at w c.cycles.machine c.cycle.new.self c.in-None.ensures.state in
+    let q = c.pass_paced.ensures in
+    let number : c.pass_paced.new.machine.cycle ≡ c.cycle.new.self.cycle + c.pass_paced.result = ap (λ s. s.cycle) q.state ∙ q.quiet.cycle _ (omega arith) in
+    omega (arith, one, lt, number)
 
 pub cycles-preserved : goal.cycles-preserved
 cycles-preserved g c =
     let w = setting_of c.args.world.now.script.now (g.X.Device.meaning c.args.world.now.device.now) c.args.world.now.limit in
     let lt : c.cycles.machine.cycle < c.args.to = omega arith in
-    let q = c.pass_quiet.ensures in
-    let below = still_below w c.cycles.machine c.pass_quiet.new.machine c.args.to _ _ q.state q.quiet q.within c.passable-most.ensures.before lt in
+    way_on w _ c.cycles.machine c.cycle.new.self c.args.to _ _ _ c.cycles.invariant (sym c.in-None.ensures.cause) c.in-None.ensures.state lt c.in-None.ensures.steps
+
+pub cycles-preserved-then-is_due : goal.cycles-preserved-then-is_due
+cycles-preserved-then-is_due g c =
+    let w = setting_of c.args.world.now.script.now (g.X.Device.meaning c.args.world.now.device.now) c.args.world.now.limit in
+    let lt : c.cycles.machine.cycle < c.args.to = omega arith in
+    let on = way_on w _ c.cycles.machine c.cycle.new.self c.args.to _ _ _ c.cycles.invariant (sym c.in-None.ensures.cause) c.in-None.ensures.state lt c.in-None.ensures.steps in
+    let q = c.pass_paced.ensures in
     let near : c.passable-most.result ≤ c.args.to = omega (arith, c.passable-most.ensures.before) in
-    let on = way_passed w _ c.cycles.machine c.pass_quiet.new.machine c.args.to _ _ _ _ _ c.cycles.invariant q.state q.quiet q.within near c.passable-most.ensures.limit q.steps in
-    way_on w _ c.pass_quiet.new.machine c.cycle.new.self c.args.to _ _ _ on (sym c.in-None.ensures.cause) c.in-None.ensures.state below c.in-None.ensures.steps
+    way_passed w _ c.cycle.new.self c.pass_paced.new.machine c.args.to _ _ _ _ _ on q.state q.quiet q.within near c.passable-most.ensures.limit q.steps
 
 pub returns-in-Some-clause-way : goal.returns-in-Some-clause-way
 returns-in-Some-clause-way g c =
     let w = setting_of c.args.world.now.script.now (g.X.Device.meaning c.args.world.now.device.now) c.args.world.now.limit in
     let lt : c.cycles.machine.cycle < c.args.to = omega arith in
-    let q = c.pass_quiet.ensures in
-    let below = still_below w c.cycles.machine c.pass_quiet.new.machine c.args.to _ _ q.state q.quiet q.within c.passable-most.ensures.before lt in
-    let near : c.passable-most.result ≤ c.args.to = omega (arith, c.passable-most.ensures.before) in
-    let on = way_passed w _ c.cycles.machine c.pass_quiet.new.machine c.args.to _ _ _ _ _ c.cycles.invariant q.state q.quiet q.within near c.passable-most.ensures.limit q.steps in
-    way_stopped w _ c.pass_quiet.new.machine _ c.args.to _ _ _ on (sym c.in-Some.ensures.cause) below c.in-Some.ensures.state
+    way_stopped w _ c.cycles.machine _ c.args.to _ _ _ c.cycles.invariant (sym c.in-Some.ensures.cause) lt c.in-Some.ensures.state
 
 pub returns-in-Some-clause-steps : goal.returns-in-Some-clause-steps
 returns-in-Some-clause-steps g c =
     let w = setting_of c.args.world.now.script.now (g.X.Device.meaning c.args.world.now.device.now) c.args.world.now.limit in
-    let q = c.pass_quiet.ensures in
-    let near : c.passable-most.result ≤ c.args.to = omega (arith, c.passable-most.ensures.before) in
-    let on = way_passed w _ c.cycles.machine c.pass_quiet.new.machine c.args.to _ _ _ _ _ c.cycles.invariant q.state q.quiet q.within near c.passable-most.ensures.limit q.steps in
-    way_counts w _ c.pass_quiet.new.machine _ c.args.to _ _ _ on c.in-Some.ensures.state c.in-Some.ensures.steps
+    way_counts w _ c.cycles.machine _ c.args.to _ _ _ c.cycles.invariant c.in-Some.ensures.state c.in-Some.ensures.steps
 
 pub returns-clause-way : goal.returns-clause-way
 returns-clause-way g c = way_there _ _ _ _ _ _ c.cycles.invariant
@@ -52,8 +58,4 @@ pub returns-clause-steps : goal.returns-clause-steps
 returns-clause-steps g c = c.cycles.invariant.count
 
 pub cycle-requires : goal.cycle-requires
-cycle-requires g c =
-    let w = setting_of c.args.world.now.script.now (g.X.Device.meaning c.args.world.now.device.now) c.args.world.now.limit in
-    let q = c.pass_quiet.ensures in
-    let near : c.passable-most.result ≤ c.args.to = omega (arith, c.passable-most.ensures.before) in
-    (c.type_bounds.sync-X, (way_passed w _ c.cycles.machine c.pass_quiet.new.machine c.args.to _ _ _ _ _ c.cycles.invariant q.state q.quiet q.within near c.passable-most.ensures.limit q.steps).low)
+cycle-requires g c = (c.type_bounds.sync-X, c.cycles.invariant.low)
