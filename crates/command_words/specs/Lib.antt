@@ -5,7 +5,6 @@ pub mod Read
 pub mod Words
 pub mod Line
 pub mod Table
-pub mod Rows
 pub mod Lists
 pub mod Refusals
 pub mod Meant

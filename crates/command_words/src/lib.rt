@@ -2,8 +2,6 @@
 #![tactic(auto)]
 
 mod dis;
-mod entries;
-mod entry;
 pub mod line;
 mod lists;
 mod number;
@@ -12,11 +10,8 @@ mod reading;
 pub mod refusal;
 mod rows;
 mod table;
-mod targets;
-mod wirings;
 mod words;
 mod write;
 
-pub use entry::PioEntry;
-pub use reading::{DisWords, GenWords, Reading, RunWords, WordsFault};
+pub use reading::{DisWords, GenWords, PioEntry, Reading, RunWords, WordsFault};
 pub use words::read_words;

@@ -7,7 +7,6 @@ ghost use Rattle.std.specs.Str.{bytes_eq};
 ghost use Rattle.std.specs.String.{string_bytes};
 ghost use Rattle.command_words.specs.Numbers.{begins_with};
 ghost use Rattle.command_words.specs.Table.{dashed};
-ghost use Rattle.command_words.specs.Rows.{way_in};
 ghost use Rattle.command_words.specs.Options.{is_command, is_alone, settings_of, setting_for, is_given, value_for, fits, is_of, are_options, is_normal, number_for};
 ghost use Rattle.command_words.specs.Read.{IsFirst};
 
@@ -101,7 +100,7 @@ pub fn is_given(name: &str, options: &[String]) -> bool
 
 /// Whether this may follow an option: a value that does not begin with a dash, or nothing.
 fn fits(way: Way, value: Option<&str>) -> bool
-    ensures { result ≡ fits (way_in way) (option_map (λ text. text.now) value.entry) }
+    ensures { result ≡ fits way (option_map (λ text. text.now) value.entry) }
 {
     match (way, value) {
         (Way::Alone, None) => true,

@@ -3,7 +3,6 @@
 ghost use Rattle.std.specs.Prelude.{◌≡◌, false, IfOk};
 ghost use Rattle.clap.specs.Words.{app_of};
 ghost use Rattle.clap.specs.Walk.{rule_of};
-ghost use Rattle.command_words.specs.Rows.{way_in};
 ghost use Rattle.command_words.specs.Line.{argument, rule_for, app_for, table};
 
 use crate::rows::{Way, commands, options};
@@ -20,7 +19,7 @@ fn argument<'a>(alloc: Global) -> Arg<'a>
 
 /// An option.
 fn option<'a>(alloc: Global, name: &'a str, way: Way) -> Arg<'a>
-    ensures rule { rule_of result ≡ rule_for (way_in way) name.now }
+    ensures rule { rule_of result ≡ rule_for way name.now }
     ensures local { result.global ≡ false }
 {
     let option = Arg::new(alloc, name).long(name);

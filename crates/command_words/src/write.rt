@@ -4,7 +4,6 @@ ghost use Rattle.std.specs.Prelude.{◌≡◌, ◌++◌, map, IfOk};
 ghost use Rattle.std.specs.Option.{option_map};
 ghost use Rattle.std.specs.String.{string_bytes};
 ghost use Rattle.clap.specs.Matches.{found_of, first_value};
-ghost use Rattle.command_words.specs.Rows.{way_in};
 ghost use Rattle.command_words.specs.Table.{dashed};
 ghost use Rattle.command_words.specs.Line.{normal_line, option_words};
 
@@ -30,7 +29,7 @@ fn push_option(
     line: &mut Vec<String>,
 ) -> Result<(), AllocError>
     ensures { IfOk result (λ done. map string_bytes line.new.items ≡ map string_bytes line.old.items
-        ++ option_words (way_in way) name.now (option_map (λ text. text.now) value.entry)) }
+        ++ option_words way name.now (option_map (λ text. text.now) value.entry)) }
 {
     match (way, value) {
         (_, None) => {}

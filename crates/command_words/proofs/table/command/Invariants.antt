@@ -1,7 +1,7 @@
 use Rattle.std.proofs.Common.{◌≡◌, map, drop}
 use Rattle.std.specs.List.{fold}
 use Rattle.clap.specs.Words.{app_of}
-use Rattle.command_words.specs.Rows.{row_in}
+use Rattle.command_words.specs.Table.{row_in}
 use Rattle.command_words.specs.Line.{with_row, app_for}
 use Rattle.command_words.proofs.table.command.Given as goal
 

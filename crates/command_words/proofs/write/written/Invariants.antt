@@ -2,7 +2,7 @@ use Rattle.std.proofs.Common.{◌≡◌, ◌++◌, map, drop, Some}
 use Rattle.std.specs.Prelude.{flat_map}
 use Rattle.std.specs.String.{string_bytes}
 use Rattle.clap.specs.Matches.{found_of, first_value}
-use Rattle.command_words.specs.Rows.{row_in}
+use Rattle.command_words.specs.Table.{row_in}
 use Rattle.command_words.specs.Line.{normal_line, row_words}
 use Rattle.command_words.proofs.write.written.Given as goal
 

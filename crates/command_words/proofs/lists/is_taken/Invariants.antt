@@ -2,7 +2,7 @@ use Rattle.std.proofs.Common.{◌≡◌, map, drop}
 use Rattle.std.specs.List.{list_any}
 use Rattle.command_words.specs.Lists.{share_machine}
 use Rattle.command_words.specs.Read.{entry_in}
-use Rattle.command_words.proofs.entries.is_taken.Given as goal
+use Rattle.command_words.proofs.lists.is_taken.Given as goal
 
 -- none of the entries so far has the machine
 abbrev pub invariant-loop-other : goal.invariant-loop-other
