@@ -13,8 +13,7 @@ use Rattle.command_words.specs.Lists.{given, cut, items_from, pieces, is_same_pi
 use Rattle.command_words.specs.Numbers.{below, within, number_below, number_within, number_of}
 use Rattle.command_words.specs.Line.{line_in}
 use Rattle.command_words.specs.Options.{Setting, settings_of, is_normal, value_for}
-use Rattle.command_words.specs.Dis.{words_of, side_of}
-use Rattle.command_words.specs.Words.{Run, Command, IsRead, parts_in, cycles_in, workers_in, list_in, run_reading, dis_reading, gen_reading, written, reading}
+use Rattle.command_words.specs.Words.{words_of, side_of, Run, Command, IsRead, parts_in, cycles_in, workers_in, list_in, run_reading, dis_reading, gen_reading, written, reading}
 
 -- what holds of each value that the next step gives holds of what both give
 given_all : {X Y : Type 0} (P : Y → Type 0) (o : Option X) (next : X → Option Y) → ((x : X) → o ≡ Some x → IfSome (next x) P)

@@ -1,4 +1,3 @@
-pub mod Dis
 pub mod Numbers
 pub mod Options
 pub mod Read
@@ -7,4 +6,3 @@ pub mod Line
 pub mod Table
 pub mod Lists
 pub mod Refusals
-pub mod Meant

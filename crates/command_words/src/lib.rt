@@ -1,7 +1,6 @@
 //! The words of a command line, what they ask for, and what is refused with its line and status.
 #![tactic(auto)]
 
-mod dis;
 pub mod line;
 mod lists;
 mod number;
@@ -9,9 +8,7 @@ mod options;
 mod reading;
 pub mod refusal;
 mod rows;
-mod table;
 mod words;
-mod write;
 
 pub use reading::{DisWords, GenWords, PioEntry, Reading, RunWords, WordsFault};
 pub use words::read_words;

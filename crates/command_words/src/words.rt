@@ -4,16 +4,64 @@ ghost use Rattle.std.specs.Prelude.{◌≡◌, ◌≤◌, map, codes, IfOk, IfSo
 ghost use Rattle.std.specs.Option.{option_map};
 ghost use Rattle.std.specs.String.{string_bytes};
 ghost use Rattle.command_words.specs.Options.{settings_of, value_for};
-ghost use Rattle.command_words.specs.Words.{cycles_in, workers_in, run_reading, dis_reading, gen_reading, written, reading};
+ghost use Rattle.command_words.specs.Words.{halves, words_of, side_of, cycles_in, workers_in, run_reading, dis_reading, gen_reading, written, reading};
 ghost use Rattle.command_words.specs.Read.{Reads, run_in, command_in};
 
-use crate::dis::{instruction_words, side_config};
 use crate::line::line_in;
 use crate::lists::{entries_in, targets_in, wirings_in};
 use crate::number::number_within;
 use crate::options::{is_given, is_normal, number_for, value_for};
 use crate::reading::{DisWords, GenWords, Reading, RunWords, WordsFault};
+use hex::FromHexError;
+use pio_words::SideConfig;
 use std::alloc::{AllocError, Global};
+
+/// Two bytes are a word, the high one first.
+fn halves_in(alloc: Global, bytes: &[u8]) -> Result<Vec<u16>, AllocError>
+    ensures { IfOk result (λ words. words.items ≡ halves bytes.now) }
+{
+    let mut words = Vec::new(alloc);
+    let mut left = bytes;
+    while let [high, low, rest @ ..] = left {
+        words.push(u16::from(*high) * 256 + u16::from(*low))?;
+        left = rest;
+    }
+    Ok(words)
+}
+
+/// The words of 4 to 128 hexadecimal digits, four digits each.
+#[tactic(auto, unfolding(crate::specs::Words::words_of))]
+fn instruction_words(alloc: Global, text: &str) -> Result<Vec<u16>, WordsFault>
+    ensures { Reads (λ words. words.items) (words_of text.now) result }
+{
+    let digits = text.as_bytes();
+    if digits.len() < 4 || digits.len() > 128 || digits.len() % 4 != 0 {
+        return Err(WordsFault::Words);
+    }
+    match hex::decode(alloc, digits) {
+        Ok(bytes) => Ok(halves_in(alloc, &bytes)?),
+        Err(FromHexError::OutOfMemory) => Err(WordsFault::Memory),
+        Err(_) => Err(WordsFault::Words),
+    }
+}
+
+/// The side-set configuration that the options give, of at most five bits.
+#[tactic(auto, unfolding(crate::specs::Words::side_of))]
+fn side_config(options: &[String]) -> Option<SideConfig>
+    ensures { result ≡ side_of (settings_of (map string_bytes options.now)) }
+{
+    let count = number_for("--side", 5, options)?;
+    let opt = number_for("--opt", 1, options)?;
+    if count + opt <= 5 {
+        Some(SideConfig {
+            count: count as u8,
+            opt: opt == 1,
+            pindirs: false,
+        })
+    } else {
+        None
+    }
+}
 
 /// The limit of cycles among the options of a run.
 fn cycles_in(options: &[String]) -> Option<u64>

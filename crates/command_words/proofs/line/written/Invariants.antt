@@ -4,7 +4,7 @@ use Rattle.std.specs.String.{string_bytes}
 use Rattle.clap.specs.Matches.{found_of, first_value}
 use Rattle.command_words.specs.Table.{row_in}
 use Rattle.command_words.specs.Line.{normal_line, row_words}
-use Rattle.command_words.proofs.write.written.Given as goal
+use Rattle.command_words.proofs.line.written.Given as goal
 
 -- the line so far, and the options of the rows that are left, are the line
 abbrev pub invariant-loop-of : goal.invariant-loop-of

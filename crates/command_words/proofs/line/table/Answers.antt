@@ -4,7 +4,7 @@ use Rattle.clap.specs.Walk.{Text}
 use Rattle.clap.specs.Simple.{app_of, app_of_fields, on_top}
 use Rattle.command_words.specs.Line.{table, top, with_command}
 use Rattle.command_words.proofs.Parsed.{command_added, next_word, texts_of}
-use Rattle.command_words.proofs.table.table.Goals as goal
+use Rattle.command_words.proofs.line.table.Goals as goal
 
 pub loop-word-init : goal.loop-word-init
 unfolding table

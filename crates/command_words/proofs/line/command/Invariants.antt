@@ -3,7 +3,7 @@ use Rattle.std.specs.List.{fold}
 use Rattle.clap.specs.Words.{app_of}
 use Rattle.command_words.specs.Table.{row_in}
 use Rattle.command_words.specs.Line.{with_row, app_for}
-use Rattle.command_words.proofs.table.command.Given as goal
+use Rattle.command_words.proofs.line.command.Given as goal
 
 -- the rows that are left make the command whole
 abbrev pub invariant-loop-of : goal.invariant-loop-of
