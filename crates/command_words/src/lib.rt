@@ -3,7 +3,6 @@
 
 pub mod line;
 mod lists;
-mod number;
 mod options;
 mod reading;
 pub mod refusal;

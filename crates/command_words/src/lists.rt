@@ -8,7 +8,7 @@ ghost use Rattle.command_words.specs.Lists.{cut, pieces, entry_of, share_machine
 ghost use Rattle.command_words.specs.Words.{list_in};
 ghost use Rattle.command_words.specs.Read.{Reads, entry_in};
 
-use crate::number::{number_below, number_within};
+use crate::options::{number_below, number_within};
 use crate::reading::{PioEntry, WordsFault};
 use board_parts::target::Target;
 use board_parts::wiring::Wiring;

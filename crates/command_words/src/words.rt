@@ -9,8 +9,7 @@ ghost use Rattle.command_words.specs.Read.{Reads, run_in, command_in};
 
 use crate::line::line_in;
 use crate::lists::{entries_in, targets_in, wirings_in};
-use crate::number::number_within;
-use crate::options::{is_given, is_normal, number_for, value_for};
+use crate::options::{is_given, is_normal, number_for, number_within, value_for};
 use crate::reading::{DisWords, GenWords, Reading, RunWords, WordsFault};
 use hex::FromHexError;
 use pio_words::SideConfig;
