@@ -8,7 +8,7 @@ pub use Rattle.command_words.specs.Refusals.{Refusal, line_of, status_of}
 pub use Rattle.command_words.specs.Refusals.Refusal.{BadImage, BadScript, BadSource, BadStart, BadThumb, BadWords, Lost, TooLarge}
 pub use Rattle.command_words.specs.Words.{Command, Run, reading}
 pub use Rattle.command_words.specs.Words.Command.{Assemble, AssembleThumb, DebugImage, Disassemble, Generate, RunImage}
-pub use Rattle.command_words.specs.declared.entry.PioEntry.{PioEntry}
+pub use Rattle.command_words.specs.declared.reading.PioEntry.{PioEntry}
 pub use Rattle.lane_look.specs.Device.{DeviceMeaning, paired}
 pub use Rattle.outer_lane.specs.Setting.{Setting, setting_of}
 pub use Rattle.pico_top.specs.Answer.{Converses, ConversesFor, ConversesIn, Counts, Ends, IsCounted, Puts, RunsOut, Takes, Writes, memory_line, sent_status}

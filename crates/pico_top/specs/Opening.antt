@@ -5,7 +5,7 @@ use Rattle.rp_ports.specs.Shelf.{Files, Answers}
 use Rattle.rp_ports.specs.declared.shelf.Loaded.TheVariants.{Done}
 use Rattle.command_words.specs.Words.{Command}
 use Rattle.command_words.specs.Refusals.{Refusal, line_of, status_of}
-use Rattle.command_words.specs.Meant.{meant}
+use Rattle.command_words.specs.Refusals.{meant}
 use Rattle.command_words.specs.Refusals.Refusal.{BadSource}
 use Rattle.pico_top.specs.Call.{Drawn, Sunk}
 use Rattle.pico_top.specs.Answer.{Puts, RunsOut, Takes, Ends, Counts}
