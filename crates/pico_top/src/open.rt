@@ -271,16 +271,10 @@ fn open_run<F: Shelf, X: Device>(
 }
 
 /// Loads a source and lists its programs.
-fn open_source<F: Shelf, X: Device>(
-    alloc: Global,
-    name: &str,
-    files: &mut F,
-    device: &X,
-) -> Result<Opened, Unopened>
+fn open_source<F: Shelf>(alloc: Global, name: &str, files: &mut F) -> Result<Opened, Unopened>
     ensures kept { F.files files.new ≡ F.files files.old }
-    ensures answer { OpensFor (F.files files.old) (F.failed files.old) (F.failed files.new)
-        (X.meaning device.now)
-        (Assemble name.now) result }
+    ensures answer { (device : DeviceMeaning) → OpensFor (F.files files.old) (F.failed files.old)
+        (F.failed files.new) device (Assemble name.now) result }
 {
     let bytes = load(alloc, name, SOURCE_LIMIT, files)?;
     match programs_in(alloc, &bytes) {
@@ -291,15 +285,10 @@ fn open_source<F: Shelf, X: Device>(
 }
 
 /// Loads a Thumb source and makes the file of its image.
-fn open_thumb<F: Shelf, X: Device>(
-    alloc: Global,
-    name: &str,
-    files: &mut F,
-    device: &X,
-) -> Result<Opened, Unopened>
+fn open_thumb<F: Shelf>(alloc: Global, name: &str, files: &mut F) -> Result<Opened, Unopened>
     ensures kept { F.files files.new ≡ F.files files.old }
-    ensures answer { OpensFor (F.files files.old) (F.failed files.old) (F.failed files.new)
-        (X.meaning device.now) (AssembleThumb name.now) result }
+    ensures answer { (device : DeviceMeaning) → OpensFor (F.files files.old) (F.failed files.old)
+        (F.failed files.new) device (AssembleThumb name.now) result }
 {
     let bytes = load(alloc, name, SOURCE_LIMIT, files)?;
     match assemble_thumb(alloc, &bytes) {
@@ -351,8 +340,8 @@ pub fn open_reading<F: Shelf, X: Device>(
         Reading::Run(run) => open_run(alloc, Purpose::Run(run.stats), run, files, device),
         Reading::Debug(run) => open_run(alloc, Purpose::Debug, run, files, device),
         Reading::Dis(asked) => open_text(alloc, asked),
-        Reading::Asm(name) => open_source(alloc, name.as_str(), files, device),
-        Reading::Thumb(name) => open_thumb(alloc, name.as_str(), files, device),
+        Reading::Asm(name) => open_source(alloc, name.as_str(), files),
+        Reading::Thumb(name) => open_thumb(alloc, name.as_str(), files),
         Reading::Gen(asked) => open_generated(alloc, asked, device),
     }
 }
