@@ -13,8 +13,7 @@ use Rattle.command_words.specs.Lists.{given, cut, items_from, pieces, is_same_pi
 use Rattle.command_words.specs.Numbers.{below, within, number_below, number_within, number_of}
 use Rattle.command_words.specs.Line.{line_in}
 use Rattle.command_words.specs.Options.{Setting, settings_of, is_normal, value_for}
-use Rattle.command_words.specs.Dis.{words_of, side_of}
-use Rattle.command_words.specs.Words.{Run, Command, IsRead, parts_in, cycles_in, workers_in, list_in, run_reading, dis_reading, gen_reading, written, reading}
+use Rattle.command_words.specs.Words.{words_of, side_of, Run, Command, IsRead, parts_in, cycles_in, workers_in, list_in, run_reading, dis_reading, gen_reading, written, reading}
 
 -- what holds of each value that the next step gives holds of what both give
 given_all : {X Y : Type 0} (P : Y → Type 0) (o : Option X) (next : X → Option Y) → ((x : X) → o ≡ Some x → IfSome (next x) P)
@@ -26,14 +25,10 @@ given_all P (Some x) next h = h x refl
 of_some : {X : Type 0} (P : X → Type 0) (o : Option X) (x : X) → IfSome o P → o ≡ Some x → P x
 of_some {X} P o x h e = subst (λ (o : Option X). IfSome o P) e h
 
--- what holds of a value that is given under a condition
-where_it : {X : Type 0} (P : X → Type 0) (b : Bool) (x : Option X) → (b ≡ true → IfSome x P) → IfSome (if b then x else None) P
-where_it P true x h = h refl
-where_it P false x h = tt
-
-where_not : {X : Type 0} (P : X → Type 0) (b : Bool) (x : Option X) → (b ≡ false → IfSome x P) → IfSome (if b then None else x) P
-where_not P true x h = tt
-where_not P false x h = h refl
+-- what holds of a choice
+either : {X : Type 0} (P : X → Type 0) (b : Bool) (x y : Option X) → (b ≡ true → IfSome x P) → (b ≡ false → IfSome y P) → IfSome (if b then x else y) P
+either P true x y h k = h refl
+either P false x y h k = k refl
 
 -- what holds of some items, and with them of one more that clashes with none, holds of all that are read
 items_keep : {X : Type 0} (read : List ℕ → Option X) (clash : X → X → Bool) (P : List X → Type 0)
@@ -41,7 +36,7 @@ items_keep : {X : Type 0} (read : List ℕ → Option X) (clash : X → X → Bo
     → (items : List X) (texts : List (List ℕ)) → P items → IfSome (items_from read clash items texts) P
 items_keep read clash P more items [] h = h
 items_keep read clash P more items (text ∷ texts) h = given_all P (read text) _ (λ item is.
-    where_not P (list_any (clash item) items) (items_from read clash (items ++ item ∷ []) texts) (λ apart.
+    either P (list_any (clash item) items) None (items_from read clash (items ++ item ∷ []) texts) (λ _. tt) (λ apart.
     items_keep read clash P more (items ++ item ∷ []) texts (more items text item is apart h)))
 
 -- a number within a range is at most its end
@@ -101,9 +96,9 @@ wiring_fits parts text =
     given_all (IsFit parts) (number_below (length parts) sides.0) _ (λ index is.
     given_all (IsFit parts) (pins_of sides.1) _ (λ pins listed.
     let apart : AreApart pins = of_some AreApart (pins_of sides.1) pins (pins_apart sides.1) listed in
-    where_it (IsFit parts) (length pins == slice_index parts index) _ (λ long.
+    either (IsFit parts) (length pins == slice_index parts index) _ None (λ long.
     and_from (nat_lt index (length parts)) (are_pins (slice_index parts index) pins) (below_low (length parts) (number_of sides.0) index is)
-    (and_from (length pins == slice_index parts index) (list_all (λ pin. nat_le pin 29) pins && all_different pins) long apart)))))
+    (and_from (length pins == slice_index parts index) (list_all (λ pin. nat_le pin 29) pins && all_different pins) long apart)) (λ _. tt))))
 
 abbrev AllFit : List ℕ → List Wired → Type 0
 AllFit parts wirings = all_fit parts wirings ≡ true
@@ -136,37 +131,23 @@ run_fits probes parts image settings =
     given_all P (list_in (wirings_of parts) (value_for (codes "--part") settings)) _ (λ wirings listed.
     given_all P (workers_in settings) _ (λ k _. list_fits parts (value_for (codes "--part") settings) wirings listed)))))
 
-dis_fits : (parts hex : List ℕ) (settings : List Setting) → IfSome (dis_reading hex settings) (IsFitting parts)
-unfolding dis_reading
-dis_fits parts hex settings = given_all (IsFitting parts) (words_of hex) _ (λ words _. given_all (IsFitting parts) (side_of settings) _ (λ side _. refl))
-
-gen_fits : (parts number : List ℕ) (settings : List Setting) → IfSome (gen_reading number settings) (IsFitting parts)
-unfolding gen_reading
-gen_fits parts number settings =
-    given_all (IsFitting parts) (number_within 0 (2 ^ 64 - 1) number) _ (λ m _. given_all (IsFitting parts) (cycles_in settings) _ (λ n _.
-    given_all (IsFitting parts) (workers_in settings) _ (λ k _. refl)))
-
-either : (P : Command → Type 0) (b : Bool) (x y : Option Command) → IfSome x P → IfSome y P → IfSome (if b then x else y) P
-either P true x y h k = h
-either P false x y h k = k
-
 written_fits : (probes : ℕ) (parts : List ℕ) (words : List (List ℕ)) → IfSome (written probes parts words) (IsFitting parts)
-unfolding written
+unfolding written dis_reading gen_reading
 written_fits probes parts [] = tt
 written_fits probes parts (command ∷ []) = tt
 written_fits probes parts (command ∷ argument ∷ options) =
     let s = settings_of options in
     let P = IsFitting parts in
     let of_run = λ (run : Run). λ (e : run_reading probes parts argument s ≡ Some run). of_some (λ r. all_fit parts r.parts ≡ true) _ run (run_fits probes parts argument s) e in
-    either P (bytes_eq command (codes "run")) _ _ (given_all P (run_reading probes parts argument s) _ of_run)
-    (either P (bytes_eq command (codes "debug")) _ _ (given_all P (run_reading probes parts argument s) _ of_run)
-    (either P (bytes_eq command (codes "dis")) _ _ (dis_fits parts argument s)
-    (either P (bytes_eq command (codes "asm")) _ _ refl
-    (either P (bytes_eq command (codes "thumb")) _ _ refl
-    (either P (bytes_eq command (codes "gen")) _ _ (gen_fits parts argument s) tt)))))
+    either P (bytes_eq command (codes "run")) _ _ (λ _. given_all P (run_reading probes parts argument s) _ of_run) (λ _.
+    either P (bytes_eq command (codes "debug")) _ _ (λ _. given_all P (run_reading probes parts argument s) _ of_run) (λ _.
+    either P (bytes_eq command (codes "dis")) _ _ (λ _. given_all P (words_of argument) _ (λ words _. given_all P (side_of s) _ (λ side _. refl))) (λ _.
+    either P (bytes_eq command (codes "asm")) _ _ (λ _. refl) (λ _. either P (bytes_eq command (codes "thumb")) _ _ (λ _. refl) (λ _.
+    either P (bytes_eq command (codes "gen")) _ _
+    (λ _. given_all P (number_within 0 (2 ^ 64 - 1) argument) _ (λ m _. given_all P (cycles_in s) _ (λ n _. given_all P (workers_in s) _ (λ k _. refl)))) (λ _. tt))))))
 
 -- the parts of the command that is read fit those that are handed in
 pub read_parts_fit : (probes : ℕ) (parts : List ℕ) (command : Command) → IsRead probes parts command → all_fit parts (parts_in command) ≡ true
 unfolding reading
 read_parts_fit probes parts command h = of_some (IsFitting parts) (reading probes parts h.0) command
-    (either (IsFitting parts) (is_normal h.0) _ _ (written_fits probes parts h.0) (given_all (IsFitting parts) (line_in h.0) _ (λ line _. written_fits probes parts line))) h.1
+    (either (IsFitting parts) (is_normal h.0) _ _ (λ _. written_fits probes parts h.0) (λ _. given_all (IsFitting parts) (line_in h.0) _ (λ line _. written_fits probes parts line))) h.1

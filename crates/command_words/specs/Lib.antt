@@ -1,11 +1,8 @@
-pub mod Dis
 pub mod Numbers
 pub mod Options
 pub mod Read
 pub mod Words
 pub mod Line
 pub mod Table
-pub mod Rows
 pub mod Lists
 pub mod Refusals
-pub mod Meant

@@ -4,7 +4,7 @@ use Rattle.std.specs.Global.{Global}
 use Rattle.std.specs.Option.{option_map}
 use Rattle.std.specs.String.{string_bytes}
 use Rattle.board_parts.specs.Wiring.{wired_in}
-use Rattle.command_words.specs.declared.entry.PioEntry.{PioEntry}
+use Rattle.command_words.specs.declared.reading.PioEntry.{PioEntry}
 use Rattle.command_words.specs.declared.reading.RunWords.{RunWords}
 use Rattle.command_words.specs.declared.reading.Reading.{Reading}
 use Rattle.command_words.specs.declared.reading.Reading.TheVariants as readings

@@ -1,5 +1,6 @@
 -- What a call may refuse, and the line and status of each refusal: the project's own.
 use Rattle.std.specs.Prelude.{ℕ, List, ◌++◌, codes, decimal}
+use Rattle.std.specs.String.{string_bytes}
 use Rattle.trace_text.specs.Line.{hex_word}
 use Rattle.uf2_image.specs.declared.fault.ImageFault.{ImageFault}
 use Rattle.uf2_image.specs.declared.fault.ImageFault.TheVariants.{Empty, Ragged, Magic, Payload, Count, Number, Repeat, Flash, Address, Overlap, Missing, Nothing, Memory}
@@ -11,6 +12,8 @@ use Rattle.thumb_asm.specs.declared.fault.ThumbFault.{ThumbFault}
 use Rattle.thumb_asm.specs.declared.fault.ThumbFault.TheVariants as thumb
 use Rattle.startup_blocks.specs.declared.fault.StartFault.{StartFault}
 use Rattle.startup_blocks.specs.declared.fault.StartFault.TheVariants as start
+use Rattle.command_words.specs.declared.refusal.Refusal.{Refusal as Written}
+use Rattle.command_words.specs.declared.refusal.Refusal.TheVariants as written
 
 -- what is refused: the words, a file that could not be loaded, a file of this length, which is above its limit, an image, a
 -- script, a PIO source and a Thumb source by their first fault (a program that finds no room is a fault of its source), and an image
@@ -24,6 +27,17 @@ pub data Refusal : Type 0 where
   BadSource : (fault : PioFault) → Refusal
   BadThumb : (fault : ThumbFault) → Refusal
   BadStart : (fault : StartFault) → Refusal
+
+-- the refusal that a value of the code stands for
+abbrev pub meant : Written → Refusal
+meant written.Words = BadWords
+meant (written.File name) = Lost (string_bytes name)
+meant (written.Large name long) = TooLarge (string_bytes name) long
+meant (written.Image fault) = BadImage fault
+meant (written.Script fault) = BadScript fault
+meant (written.Source fault) = BadSource fault
+meant (written.Thumb fault) = BadThumb fault
+meant (written.Start fault) = BadStart fault
 
 -- a number after a space, and an address
 abbrev pub then_number : ℕ → List ℕ

@@ -2,12 +2,9 @@
 -- and the way back from what it finds are made of these rows.
 use Rattle.std.specs.Prelude.{ℕ, Bool, true, false, List, [], ◌∷◌, ◌++◌, codes}
 use Prim.Native.String.{String}
-
--- how an option is written: with a value, where it must be given or may be, or alone
-pub data Way : Type 0 where
-  Needed : Way
-  Valued : Way
-  Alone : Way
+use Rattle.std.specs.Borrow.{Bor}
+pub use Rattle.command_words.specs.declared.rows.Way.{Way}
+pub use Rattle.command_words.specs.declared.rows.Way.TheVariants.{Needed, Valued, Alone}
 
 -- the word behind the option is not its value
 abbrev pub stands_alone : Way → Bool
@@ -19,6 +16,10 @@ pub record Row : Type 0 where
   pub command : List ℕ
   pub name : List ℕ
   pub way : Way
+
+-- a row as the code has it
+abbrev pub row_in : Bor (List ℕ) × Bor (List ℕ) × Way → Row
+row_in r = record { command = r.0.now; name = r.1.now; way = r.2 }
 
 abbrev pub row : String → String → Way → Row
 row command name way = record { command = codes command; name = codes name; way = way }

@@ -3,8 +3,10 @@
 -- `dis <hex> [--side S] [--opt T]`, `asm <file>`, `thumb <file>` or `gen <number> --cycles N [--workers K] [--stats]`. Where probes
 -- are spoken of as a number, it is how many are handed in; where parts are spoken of as a list of numbers, it is how many pins each
 -- part has that is handed in. The project's own.
-use Rattle.std.specs.Prelude.{◌≡◌, ℕ, Bool, ◌-◌, ◌^◌, if◌then◌else◌, List, [], ◌∷◌, Option, Some, None, codes}
+use Rattle.std.specs.Prelude.{◌≡◌, ℕ, Bool, false, nat_le, ◌==◌, ◌&&◌, ◌+◌, ◌-◌, ◌*◌, ◌%◌, ◌^◌, if◌then◌else◌, List, [], ◌∷◌, length, Option, Some, None, Result, Ok, Err, codes}
 use Rattle.std.specs.Str.{bytes_eq}
+use Rattle.hex.specs.Hex.{decode_of}
+use Rattle.hex.specs.declared.error.FromHexError.{FromHexError}
 use Rattle.pio_words.specs.declared.side.SideConfig.{SideConfig}
 use Rattle.board_parts.specs.declared.target.Target.{Target}
 use Rattle.board_parts.specs.Wiring.{Wired}
@@ -12,7 +14,6 @@ use Rattle.command_words.specs.Line.{line_in}
 use Rattle.command_words.specs.Lists.{given, Entry, entries_of, targets_of, wirings_of}
 use Rattle.command_words.specs.Numbers.{number_within}
 use Rattle.command_words.specs.Options.{Setting, settings_of, is_given, value_for, is_normal, number_for}
-use Rattle.command_words.specs.Dis.{words_of, side_of}
 
 -- a run: the image's name, how many cycles it may have, the script's name, the programs for machines, the probes that are aimed, the
 -- parts that are attached, how many workers run its lanes, whether it ends with the line of its windows, and whether the image is
@@ -69,6 +70,27 @@ run_reading probes parts image settings =
       stats = is_given (codes "--stats") settings;
       table = is_given (codes "--table") settings;
     }))))))
+
+-- two bytes are a word, the high one first
+abbrev pub halves : List ℕ → List ℕ
+halves [] = []
+halves (high ∷ []) = []
+halves (high ∷ low ∷ bytes) = (high * 256 + low) ∷ halves bytes
+
+abbrev pub halves_of : Result (List ℕ) FromHexError → Option (List ℕ)
+halves_of (Ok bytes) = Some (halves bytes)
+halves_of (Err fault) = None
+
+-- the words of 4 to 128 hexadecimal digits, four digits each
+unfoldable pub words_of : List ℕ → Option (List ℕ)
+words_of hex =
+    if nat_le 4 (length hex) && nat_le (length hex) 128 && (length hex % 4 == 0) then halves_of (decode_of hex) else None
+
+-- `--side S` and `--opt T`, both 0 where they are not given, at most five bits together
+unfoldable pub side_of : List Setting → Option SideConfig
+side_of settings =
+    given (number_for (codes "--side") 5 settings) (λ count. given (number_for (codes "--opt") 1 settings) (λ opt.
+    if nat_le (count + opt) 5 then Some (record { count = count; opt = opt == 1; pindirs = false }) else None))
 
 -- `dis <hex> [--side S] [--opt T]`
 unfoldable pub dis_reading : List ℕ → List Setting → Option Command

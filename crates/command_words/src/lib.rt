@@ -1,22 +1,13 @@
 //! The words of a command line, what they ask for, and what is refused with its line and status.
 #![tactic(auto)]
 
-mod dis;
-mod entries;
-mod entry;
 pub mod line;
 mod lists;
-mod number;
 mod options;
 mod reading;
 pub mod refusal;
 mod rows;
-mod table;
-mod targets;
-mod wirings;
 mod words;
-mod write;
 
-pub use entry::PioEntry;
-pub use reading::{DisWords, GenWords, Reading, RunWords, WordsFault};
+pub use reading::{DisWords, GenWords, PioEntry, Reading, RunWords, WordsFault};
 pub use words::read_words;

@@ -1,18 +1,71 @@
-//! The normal form of a command line: a command, its argument, and its options in any order, each a name with its value or a name
-//! alone.
+//! Numbers among the words; and the normal form of a command line: a command, its argument, and its options in any order, each a name
+//! with its value or a name alone.
 
-ghost use Rattle.std.specs.Prelude.{◌≡◌, ◌≤◌, [], map, IfSome, MatchOption};
+ghost use Rattle.std.specs.Prelude.{◌≡◌, ◌<◌, ◌≤◌, [], length, map, IfSome, MatchOption};
 ghost use Rattle.std.specs.Option.{option_map};
 ghost use Rattle.std.specs.Str.{bytes_eq};
 ghost use Rattle.std.specs.String.{string_bytes};
-ghost use Rattle.command_words.specs.Numbers.{begins_with};
+ghost use Rattle.command_words.specs.Numbers.{begins_with, digits_from, number_of, number_within, number_below};
 ghost use Rattle.command_words.specs.Table.{dashed};
-ghost use Rattle.command_words.specs.Rows.{way_in};
 ghost use Rattle.command_words.specs.Options.{is_command, is_alone, settings_of, setting_for, is_given, value_for, fits, is_of, are_options, is_normal, number_for};
 ghost use Rattle.command_words.specs.Read.{IsFirst};
 
-use crate::number::number_within;
 use crate::rows::{Way, commands, options};
+
+/// The number of at most 20 decimal digits.
+fn value_of(digits: &[u8]) -> Option<u128>
+    requires { length digits.now ≤ 20 }
+    ensures { result ≡ digits_from 0 digits.now }
+{
+    let mut value: u128 = 0;
+    for digit in digits {
+        if !digit.is_ascii_digit() {
+            return None;
+        }
+        value = 10 * value + u128::from(*digit - b'0');
+    }
+    Some(value)
+}
+
+/// A number of 1 to 20 decimal digits, and no 0 before other digits.
+fn number(word: &str) -> Option<u128>
+    ensures { result ≡ number_of word.now }
+{
+    let digits = word.as_bytes();
+    let [first, rest @ ..] = digits else {
+        return None;
+    };
+    if rest.len() > 19 || (*first == b'0' && !rest.is_empty()) {
+        return None;
+    }
+    value_of(digits)
+}
+
+/// A number from `low` to `high`.
+pub fn number_within(low: u64, high: u64, word: &str) -> Option<u64>
+    ensures value { result ≡ number_within low high word.now }
+    ensures within { IfSome result (λ number. number ≤ high) }
+{
+    let number = number(word)?;
+    if u128::from(low) <= number && number <= u128::from(high) {
+        Some(number as u64)
+    } else {
+        None
+    }
+}
+
+/// A number below a count.
+pub fn number_below(count: usize, word: &str) -> Option<u64>
+    ensures value { result ≡ number_below count word.now }
+    ensures below { IfSome result (λ number. number < count) }
+{
+    let number = number(word)?;
+    if number < count as u128 {
+        Some(number as u64)
+    } else {
+        None
+    }
+}
 
 /// Whether a word is a command.
 fn is_command(word: &str) -> bool
@@ -101,7 +154,7 @@ pub fn is_given(name: &str, options: &[String]) -> bool
 
 /// Whether this may follow an option: a value that does not begin with a dash, or nothing.
 fn fits(way: Way, value: Option<&str>) -> bool
-    ensures { result ≡ fits (way_in way) (option_map (λ text. text.now) value.entry) }
+    ensures { result ≡ fits way (option_map (λ text. text.now) value.entry) }
 {
     match (way, value) {
         (Way::Alone, None) => true,

@@ -3,11 +3,23 @@
 ghost use Rattle.std.specs.Prelude.{◌≡◌, ◌≤◌};
 ghost use Rattle.command_words.specs.declared.reading.WordsFault.TheVariants.{Memory};
 
-use crate::entry::PioEntry;
 use board_parts::target::Target;
 use board_parts::wiring::Wiring;
 use pio_words::SideConfig;
 use std::alloc::{AllocError, AllocFailed};
+
+/// A program for a machine.
+#[derive(Drop)]
+pub struct PioEntry {
+    /// The PIO block, 0 or 1.
+    pub block: u8,
+    /// The machine of the block, 0 to 3.
+    pub machine: u8,
+    /// The name of the source file.
+    pub file: String,
+    pub ghost block_within: { block ≤ 1 },
+    pub ghost machine_within: { machine ≤ 3 },
+}
 
 /// The words of a run.
 #[derive(Drop)]

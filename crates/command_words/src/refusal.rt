@@ -1,9 +1,8 @@
 //! What is refused: the causes, and the line and the status of each.
 
 ghost use Rattle.std.specs.Prelude.{◌≡◌, ◌++◌, codes, decimal, IfOk};
-ghost use Rattle.command_words.specs.Refusals.{then_address, line_of, status_of};
+ghost use Rattle.command_words.specs.Refusals.{meant, then_address, line_of, status_of};
 ghost use Rattle.command_words.specs.Refusals.Refusal.{BadImage, BadScript, BadSource, BadThumb, BadStart};
-ghost use Rattle.command_words.specs.Meant.{meant};
 
 use arrayvec::ArrayVec;
 use itoa::Buffer;

@@ -1,8 +1,7 @@
 //! The commands and their options, row by row.
 
 ghost use Rattle.std.specs.Prelude.{◌≡◌, map};
-ghost use Rattle.command_words.specs.Table.{commands, options};
-ghost use Rattle.command_words.specs.Rows.{row_in};
+ghost use Rattle.command_words.specs.Table.{commands, options, row_in};
 
 /// How an option is written.
 #[derive(Clone, Copy, Debug, PartialEq, Eq)]
@@ -46,6 +45,7 @@ const OPTIONS: [OptionRow<'static>; 18] = [
 ];
 
 /// The words of the commands.
+#[tactic(auto, unfolding(crate::specs::Table::commands))]
 pub fn commands<'a>() -> &'a [&'a str]
     ensures { map (λ word. word.now) result.now ≡ commands }
 {
@@ -53,6 +53,7 @@ pub fn commands<'a>() -> &'a [&'a str]
 }
 
 /// The options of the commands.
+#[tactic(auto, unfolding(crate::specs::Table::options))]
 pub fn options<'a>() -> &'a [OptionRow<'a>]
     ensures { map row_in result.now ≡ options }
 {

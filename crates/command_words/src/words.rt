@@ -3,24 +3,64 @@
 ghost use Rattle.std.specs.Prelude.{◌≡◌, ◌≤◌, map, codes, IfOk, IfSome};
 ghost use Rattle.std.specs.Option.{option_map};
 ghost use Rattle.std.specs.String.{string_bytes};
-ghost use Rattle.command_words.specs.Lists.{entries_of, targets_of, wirings_of};
-ghost use Rattle.board_parts.specs.Wiring.{wired_in};
 ghost use Rattle.command_words.specs.Options.{settings_of, value_for};
-ghost use Rattle.command_words.specs.Words.{cycles_in, workers_in, list_in, run_reading, dis_reading, gen_reading, written, reading};
-ghost use Rattle.command_words.specs.Read.{Reads, entry_in, run_in, command_in};
+ghost use Rattle.command_words.specs.Words.{halves, words_of, side_of, cycles_in, workers_in, run_reading, dis_reading, gen_reading, written, reading};
+ghost use Rattle.command_words.specs.Read.{Reads, run_in, command_in};
 
-use crate::dis::{instruction_words, side_config};
-use crate::entries::entries_in;
-use crate::entry::PioEntry;
 use crate::line::line_in;
-use crate::number::number_within;
-use crate::options::{is_given, is_normal, number_for, value_for};
+use crate::lists::{entries_in, targets_in, wirings_in};
+use crate::options::{is_given, is_normal, number_for, number_within, value_for};
 use crate::reading::{DisWords, GenWords, Reading, RunWords, WordsFault};
-use crate::targets::targets_in;
-use crate::wirings::wirings_in;
-use board_parts::target::Target;
-use board_parts::wiring::Wiring;
+use hex::FromHexError;
+use pio_words::SideConfig;
 use std::alloc::{AllocError, Global};
+
+/// Two bytes are a word, the high one first.
+fn halves_in(alloc: Global, bytes: &[u8]) -> Result<Vec<u16>, AllocError>
+    ensures { IfOk result (λ words. words.items ≡ halves bytes.now) }
+{
+    let mut words = Vec::new(alloc);
+    let mut left = bytes;
+    while let [high, low, rest @ ..] = left {
+        words.push(u16::from(*high) * 256 + u16::from(*low))?;
+        left = rest;
+    }
+    Ok(words)
+}
+
+/// The words of 4 to 128 hexadecimal digits, four digits each.
+#[tactic(auto, unfolding(crate::specs::Words::words_of))]
+fn instruction_words(alloc: Global, text: &str) -> Result<Vec<u16>, WordsFault>
+    ensures { Reads (λ words. words.items) (words_of text.now) result }
+{
+    let digits = text.as_bytes();
+    if digits.len() < 4 || digits.len() > 128 || digits.len() % 4 != 0 {
+        return Err(WordsFault::Words);
+    }
+    match hex::decode(alloc, digits) {
+        Ok(bytes) => Ok(halves_in(alloc, &bytes)?),
+        Err(FromHexError::OutOfMemory) => Err(WordsFault::Memory),
+        Err(_) => Err(WordsFault::Words),
+    }
+}
+
+/// The side-set configuration that the options give, of at most five bits.
+#[tactic(auto, unfolding(crate::specs::Words::side_of))]
+fn side_config(options: &[String]) -> Option<SideConfig>
+    ensures { result ≡ side_of (settings_of (map string_bytes options.now)) }
+{
+    let count = number_for("--side", 5, options)?;
+    let opt = number_for("--opt", 1, options)?;
+    if count + opt <= 5 {
+        Some(SideConfig {
+            count: count as u8,
+            opt: opt == 1,
+            pindirs: false,
+        })
+    } else {
+        None
+    }
+}
 
 /// The limit of cycles among the options of a run.
 fn cycles_in(options: &[String]) -> Option<u64>
@@ -35,8 +75,7 @@ fn workers_in(options: &[String]) -> Option<u8>
     ensures value { result ≡ workers_in (settings_of (map string_bytes options.now)) }
     ensures within { IfSome result (λ workers. workers ≤ 8) }
 {
-    let workers = number_for("--workers", 8, options)?;
-    Some(workers as u8)
+    Some(number_for("--workers", 8, options)? as u8)
 }
 
 /// A copy of the script's name among the options of a run.
@@ -47,40 +86,6 @@ fn script_in(alloc: Global, options: &[String]) -> Result<Option<String>, AllocE
     match value_for("--script", options) {
         None => Ok(None),
         Some(name) => Ok(Some(String::from_str(alloc, name)?)),
-    }
-}
-
-/// The entries of `--pio` among the options of a run.
-fn pio_in(alloc: Global, options: &[String]) -> Result<Vec<PioEntry>, WordsFault>
-    ensures { Reads (λ found. map entry_in found.items)
-        (list_in entries_of (value_for (codes "--pio") (settings_of (map string_bytes options.now))))
-        result }
-{
-    match value_for("--pio", options) {
-        None => Ok(Vec::new(alloc)),
-        Some(list) => entries_in(alloc, list),
-    }
-}
-
-/// The targets of `--probe` among the options of a run.
-fn probes_in(alloc: Global, probes: usize, options: &[String]) -> Result<Vec<Target>, WordsFault>
-    ensures { Reads (λ found. found.items) (list_in (targets_of probes)
-        (value_for (codes "--probe") (settings_of (map string_bytes options.now)))) result }
-{
-    match value_for("--probe", options) {
-        None => Ok(Vec::new(alloc)),
-        Some(list) => targets_in(alloc, probes, list),
-    }
-}
-
-/// The entries of `--part` among the options of a run.
-fn parts_in(alloc: Global, parts: &[usize], options: &[String]) -> Result<Vec<Wiring>, WordsFault>
-    ensures { Reads (λ found. map wired_in found.items) (list_in (wirings_of parts.now)
-        (value_for (codes "--part") (settings_of (map string_bytes options.now)))) result }
-{
-    match value_for("--part", options) {
-        None => Ok(Vec::new(alloc)),
-        Some(list) => wirings_in(alloc, parts, list),
     }
 }
 
@@ -97,9 +102,9 @@ fn run_words(
         (settings_of (map string_bytes options.now))) result }
 {
     let cycles = cycles_in(options).ok_or(WordsFault::Words)?;
-    let pio = pio_in(alloc, options)?;
-    let probes = probes_in(alloc, probes, options)?;
-    let parts = parts_in(alloc, parts, options)?;
+    let pio = entries_in(alloc, value_for("--pio", options))?;
+    let probes = targets_in(alloc, probes, value_for("--probe", options))?;
+    let parts = wirings_in(alloc, parts, value_for("--part", options))?;
     let workers = workers_in(options).ok_or(WordsFault::Words)?;
     Ok(RunWords {
         image: String::from_str(alloc, image)?,

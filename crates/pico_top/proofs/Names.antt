@@ -8,17 +8,15 @@ pub use Rattle.command_words.specs.Refusals.{Refusal, line_of, status_of}
 pub use Rattle.command_words.specs.Refusals.Refusal.{BadImage, BadScript, BadSource, BadStart, BadThumb, BadWords, Lost, TooLarge}
 pub use Rattle.command_words.specs.Words.{Command, Run, reading}
 pub use Rattle.command_words.specs.Words.Command.{Assemble, AssembleThumb, DebugImage, Disassemble, Generate, RunImage}
-pub use Rattle.command_words.specs.declared.entry.PioEntry.{PioEntry}
+pub use Rattle.command_words.specs.declared.reading.PioEntry.{PioEntry}
 pub use Rattle.lane_look.specs.Device.{DeviceMeaning, paired}
 pub use Rattle.outer_lane.specs.Setting.{Setting, setting_of}
-pub use Rattle.pico_top.specs.Answer.{Converses, ConversesFor, ConversesIn, Counts, Ends, IsCounted, Puts, RunsOut, Takes, Writes, memory_line, sent_status}
-pub use Rattle.pico_top.specs.Call.{Board, Drawn, Outside, Sunk, board, sunk}
-pub use Rattle.pico_top.specs.Dialogue.{Dialogue, Reply, Use, aims_in, behind_image, behind_script, beside, device_in, dialogue_from, dialogue_of, hear, hear_run, image_limit, input_limit, judge, plain, run_reply, say, say_run, script_limit, session_reply, source_limit, with_first, with_image, with_linked, with_program, with_programs, with_run, with_script}
+pub use Rattle.pico_top.specs.Answer.{Converses, ConversesFor, ConversesIn, Counts, Ends, IsCounted, Puts, RunsOut, Takes, Writes, memory_line, sent_status, AfterLoad, Ending, IsHeard, Verdict, Walks, failed_names, heard_as, on_held, status_over, verdict}
+pub use Rattle.pico_top.specs.Dialogue.{Board, Drawn, Outside, Sunk, board, sunk, Dialogue, Reply, Use, aims_in, behind_image, behind_script, beside, device_in, dialogue_from, dialogue_of, hear, hear_run, image_limit, input_limit, judge, plain, run_reply, say, say_run, script_limit, session_reply, source_limit, with_first, with_image, with_linked, with_program, with_programs, with_run, with_script}
 pub use Rattle.pico_top.specs.Dialogue.Dialogue.{Hear, Load, Refuse, Say}
 pub use Rattle.pico_top.specs.Opening.{Adds, AddsBehind, ArePlaced, Boots, Concludes, EndsAs, EndsUnopened, IsPlaced, Judges, LoadsAll, LoadsAs, Opens, OpensFor, Passes, PutsRefusal, offset_part, opened_dialogue, setting_by, setting_in, source_part, taken_by, use_for}
-pub use Rattle.pico_top.specs.Walk.{AfterLoad, Ending, IsHeard, Verdict, Walks, failed_names, heard_as, on_held, status_over, verdict}
-pub use Rattle.pico_top.specs.Walk.Ending.{Heard, NoMemory, Refused, Said}
-pub use Rattle.pico_top.specs.Walk.Verdict.{Hears, Refuses, Says}
+pub use Rattle.pico_top.specs.Answer.Ending.{Heard, NoMemory, Refused, Said}
+pub use Rattle.pico_top.specs.Answer.Verdict.{Hears, Refuses, Says}
 pub use Rattle.pico_top.specs.declared.open.Opened.{Opened}
 pub use Rattle.pico_top.specs.declared.open.Unopened.{Unopened}
 pub use Rattle.pico_top.specs.declared.open.Unopened.TheVariants.{Memory, Refusing}

@@ -18,9 +18,8 @@ use Rattle.window_runner.specs.Told.{run_shown}
 use Rattle.window_runner.specs.Windows.{answered, OnMemory}
 use Rattle.reverse_debug.specs.Talk.{text_from, Hears}
 use Rattle.pico_top.specs.Dialogue.Cost.{Exactly}
-use Rattle.pico_top.specs.Running.{IsRanFor, RunsTo}
+use Rattle.pico_top.specs.Teller.{IsRanFor, RunsTo, HasTold, lines_both, one_line}
 use Rattle.pico_top.specs.RunText.{event_lines, after_events, counts_text, stats_text, run_text, run_cycles, end_text}
-use Rattle.pico_top.specs.Teller.{HasTold, lines_both, one_line}
 use Rattle.pico_top.proofs.Walking.{no_memory}
 use Rattle.pico_top.proofs.Writing.{writes_then, writes_part}
 

@@ -7,8 +7,8 @@ use Rattle.pin_script.specs.declared.entry.Entry.{Entry as ScriptEntry}
 use Rattle.pio_asm.specs.Assembly.{Plan, ArePrograms, IsProgram}
 use Rattle.pio_program.specs.declared.program.Program.{Program}
 use Rattle.command_words.specs.Lists.{Entry}
-use Rattle.command_words.specs.Meant.{meant}
-use Rattle.pico_top.specs.Loads.{Placed, offset_of, loads_of, plans_in, placed_as, taken_from}
+use Rattle.command_words.specs.Refusals.{meant}
+use Rattle.pico_top.specs.Dialogue.{Placed, offset_of, loads_of, plans_in, placed_as, taken_from}
 use Rattle.std.specs.List.{AllByRecursion}
 use Rattle.uf2_image.specs.declared.parts.Part.{Part}
 use Rattle.uf2_image.specs.Writing.{IsSized}

@@ -9,12 +9,10 @@ use Rattle.command_words.specs.Refusals.{Refusal, status_of}
 use Rattle.reverse_debug.specs.declared.way.Way.{Way}
 use Rattle.reverse_debug.specs.declared.way.Way.TheVariants.{Closed, Ended, Broken, Full}
 use Rattle.reverse_debug.specs.Hear.{IsTaken}
-use Rattle.pico_top.specs.Call.{Board, Outside}
-use Rattle.pico_top.specs.Dialogue.{Dialogue, Reply, dialogue_from}
-use Rattle.pico_top.specs.Answer.{ConversesFor, ConversesIn, memory_line}
-use Rattle.pico_top.specs.Walk.{Verdict, Walks, verdict, status_over, failed_names}
-use Rattle.pico_top.specs.Walk.Verdict.{Refuses, Says, Hears}
-use Rattle.pico_top.specs.Walk.Ending.{Said, Heard, Refused}
+use Rattle.pico_top.specs.Dialogue.{Board, Outside, Dialogue, Reply, dialogue_from}
+use Rattle.pico_top.specs.Answer.{ConversesFor, ConversesIn, memory_line, Verdict, Walks, verdict, status_over, failed_names}
+use Rattle.pico_top.specs.Answer.Verdict.{Refuses, Says, Hears}
+use Rattle.pico_top.specs.Answer.Ending.{Said, Heard, Refused}
 
 -- ---- causes
 

@@ -1,11 +1,22 @@
--- What a call does for its words: it loads files and judges each, one after another, and says a text, or hears lines and answers
--- them. The project's own.
-use Rattle.std.specs.Prelude.{ℕ, Bool, if◌then◌else◌, List, [], ◌∷◌, ◌++◌, Option, None, Some, Result, Ok, Err}
+-- What a call is handed and meets outside, and what it does for its words: it loads files and judges each, one after another, and says
+-- a text, or hears lines and answers them. The project's own.
+use Rattle.std.specs.Prelude.{ℕ, List, length, Option, ◌==◌, if◌then◌else◌, [], ◌∷◌, map, Result, Bool, ◌++◌, None, Some, Ok, Err}
 use Rattle.lane_look.specs.Device.{DeviceMeaning, paired}
-use Rattle.board_parts.specs.Probe.{ProbeMeaning}
-use Rattle.board_parts.specs.Parts.{parts_device}
+use Rattle.rp_ports.specs.Shelf.{Files}
+use Rattle.rp_ports.specs.declared.shelf.Shelf.{Ghosts as ShelfMeaning}
+use Rattle.rp_ports.specs.declared.source.Source.{Ghosts as SourceMeaning}
+use Rattle.rp_ports.specs.declared.sink.Sink.{Ghosts as SinkMeaning}
 use Rattle.board_parts.specs.Part.{PartMeaning}
-use Rattle.board_parts.specs.Wiring.{Wired, placed_by}
+use Rattle.board_parts.specs.Probe.{ProbeMeaning}
+use Rattle.board_parts.specs.Wiring.{counts_of, Wired, placed_by}
+use Rattle.command_words.specs.Words.{Command, reading, Run, parts_in}
+use Rattle.pio_parse.specs.declared.fault.PioFault.{PioFault}
+use Rattle.pio_asm.specs.Assembly.{Plan}
+use Rattle.pio_program.specs.declared.program.Program.{Program}
+use Rattle.pio_asm.specs.Placing.{placed, with_addresses}
+use Rattle.rp_machine.specs.declared.load.PioLoad.{PioLoad}
+use Rattle.command_words.specs.Lists.{Entry}
+use Rattle.board_parts.specs.Parts.{parts_device}
 use Rattle.board_parts.specs.Hearing.{Aim}
 use Rattle.board_parts.specs.Aiming.{aims_of}
 use Rattle.board_parts.specs.declared.target.Target.{Target}
@@ -17,23 +28,99 @@ use Rattle.startup_blocks.specs.Table.{linked}
 use Rattle.thumb_asm.specs.Source.{image_of_source}
 use Rattle.pin_script.specs.Script.{script_of}
 use Rattle.pin_script.specs.declared.entry.Entry.{Entry as ScriptEntry}
-use Rattle.pio_asm.specs.Assembly.{Plan}
-use Rattle.pio_program.specs.declared.program.Program.{Program}
 use Rattle.pio_disasm.specs.Text.{source_text}
 use Rattle.pio_asm.specs.Listing.{plans_of, listing}
 use Rattle.outer_lane.specs.Setting.{Setting, setting_of}
 use Rattle.rp_machine.specs.State.{State}
 use Rattle.rp_machine.specs.Boot.{start}
-use Rattle.command_words.specs.Lists.{Entry}
 use Rattle.command_words.specs.Refusals.{Refusal}
 use Rattle.command_words.specs.Refusals.Refusal.{BadWords, BadImage, BadScript, BadSource, BadThumb, BadStart}
-use Rattle.command_words.specs.Words.{Run, Command, parts_in}
 use Rattle.command_words.specs.Words.Command.{RunImage, DebugImage, Disassemble, Assemble, AssembleThumb, Generate}
 use Rattle.reverse_debug.specs.Talk.{text_from, cost_from}
 use Rattle.reverse_debug.specs.Debugger.{quits, talk_of}
-use Rattle.pico_top.specs.Call.{Board}
-use Rattle.pico_top.specs.Loads.{Placed, placed_as, offset_of, loads_of, plans_in}
 use Rattle.pico_top.specs.RunText.{run_text, run_cycles}
+
+-- what is handed in for the board: the device at the pads, the probes that may be aimed, and the parts that may be attached
+pub record Board : Type 0 where
+  pub device : DeviceMeaning
+  pub probes : List ProbeMeaning
+  pub parts : List PartMeaning
+
+abbrev pub board : DeviceMeaning → List ProbeMeaning → List PartMeaning → Board
+board device probes parts = record { device = device; probes = probes; parts = parts }
+
+-- what words ask for, or none where they are refused
+abbrev pub asked_by : Board → List (List ℕ) → Option Command
+asked_by b words = reading (length b.probes) (counts_of b.parts) words
+
+-- the bytes that a source has left, where it tells them, and its count of faults
+pub record Drawn : Type 0 where
+  pub left : Option (List ℕ)
+  pub faults : ℕ
+
+-- the bytes that a sink has written, where it tells them, and its count of faults
+pub record Sunk : Type 0 where
+  pub written : Option (List ℕ)
+  pub faults : ℕ
+
+-- the files of the shelf by name, where it tells them, and the names whose loads failed; the source, the sink, and the steps that
+-- were counted
+pub record Outside : Type 0 where
+  pub files : Option Files
+  pub failed : List (List ℕ)
+  pub source : Drawn
+  pub sink : Sunk
+  pub steps : ℕ
+
+abbrev pub drawn : {I : Type 0} → SourceMeaning I → I → Drawn
+drawn source input = record { left = source.left input; faults = source.faults input }
+
+abbrev pub sunk : {O : Type 0} → SinkMeaning O → O → Sunk
+sunk sink out = record { written = sink.written out; faults = sink.faults out }
+
+-- what a shelf, a source, a sink and a count of steps are now
+abbrev pub outside : {F I O : Type 0} → ShelfMeaning F → SourceMeaning I → SinkMeaning O → F → I → O → ℕ → Outside
+outside shelf source sink files input out steps = record {
+  files = shelf.files files;
+  failed = shelf.failed files;
+  source = drawn source input;
+  sink = sunk sink out;
+  steps = steps;
+}
+
+-- ---- the programs that a run loads before its first cycle, and their offsets (RP2040 Datasheet, 3.2.1; the list is the project's own)
+
+-- a placed program: the block, the machine that runs it, the offset, and the program
+pub record Placed : Type 0 where
+  pub block : ℕ
+  pub machine : ℕ
+  pub offset : ℕ
+  pub plan : Plan
+
+abbrev pub placed_as : Entry → Plan → ℕ → Placed
+placed_as entry plan offset = record { block = entry.block; machine = entry.machine; offset = offset; plan = plan }
+
+-- the addresses of a block that are taken, one bit each, behind some that are
+abbrev pub taken_from : ℕ → ℕ → List Placed → ℕ
+taken_from used block [] = used
+taken_from used block (p ∷ ps) =
+    taken_from (if p.block == block then with_addresses used p.offset (length p.plan.members) else used) block ps
+
+-- the offset of a program behind others
+abbrev pub offset_of : Entry → List Placed → Plan → Result ℕ PioFault
+offset_of entry others plan = placed (taken_from 0 entry.block others) plan.origin (length plan.members)
+
+-- the programs with their words, each at its offset
+abbrev pub loads_of : List Placed → List Program → List PioLoad
+loads_of [] programs = []
+loads_of (p ∷ ps) [] = []
+loads_of (p ∷ ps) (program ∷ programs) =
+    record { block = p.block; machine = p.machine; offset = p.offset; program = program } ∷ loads_of ps programs
+
+abbrev pub plans_in : List Placed → List Plan
+plans_in ps = map (λ p. p.plan) ps
+
+-- ---- the dialogue
 
 -- how many machine cycles a text costs: exactly so many, or at most so many
 pub data Cost : Type 0 where

@@ -1,10 +1,6 @@
 pub mod Answer
-pub mod Call
 pub mod Causes
 pub mod Dialogue
-pub mod Loads
 pub mod Opening
 pub mod RunText
-pub mod Running
 pub mod Teller
-pub mod Walk

@@ -4,11 +4,10 @@ use Rattle.std.specs.Global.{Global}
 use Rattle.rp_ports.specs.Shelf.{Files, Answers}
 use Rattle.rp_ports.specs.declared.shelf.Loaded.TheVariants.{Done}
 use Rattle.command_words.specs.Words.{Command}
-use Rattle.command_words.specs.Refusals.{Refusal, line_of, status_of}
-use Rattle.command_words.specs.Meant.{meant}
+use Rattle.command_words.specs.Refusals.{Refusal, line_of, status_of, meant}
 use Rattle.command_words.specs.Refusals.Refusal.{BadSource}
-use Rattle.pico_top.specs.Call.{Drawn, Sunk}
-use Rattle.pico_top.specs.Answer.{Puts, RunsOut, Takes, Ends, Counts}
+use Rattle.pico_top.specs.Dialogue.{Drawn, Sunk, Placed, placed_as, offset_of, Use, Dialogue, judge, say, hear, plain, dialogue_of, run_reply, say_run, hear_run, input_limit, session_reply, with_first, with_programs}
+use Rattle.pico_top.specs.Answer.{Puts, RunsOut, Takes, Ends, Counts, Ending, Walks, failed_names}
 use Rattle.lane_look.specs.Device.{DeviceMeaning}
 use Rattle.board_parts.specs.Hearing.{Aim}
 use Rattle.outer_lane.specs.Setting.{Setting, setting_of}
@@ -30,11 +29,8 @@ use Rattle.pico_top.specs.declared.open.Unopened.TheVariants.{Refusing, Memory}
 use Rattle.pio_asm.specs.Assembly.{Plan, IsProgram}
 use Rattle.pio_asm.specs.Listing.{plans_of}
 use Rattle.reverse_debug.specs.Debugger.{quits}
-use Rattle.pico_top.specs.Loads.{Placed, placed_as, offset_of}
-use Rattle.pico_top.specs.Dialogue.{Use, Dialogue, judge, say, hear, plain, dialogue_of, run_reply, say_run, hear_run, input_limit, session_reply, with_first, with_programs}
 use Rattle.pico_top.specs.Dialogue.Dialogue.{Load}
-use Rattle.pico_top.specs.Walk.{Ending, Walks, failed_names}
-use Rattle.pico_top.specs.Walk.Ending.{Said, Heard, Refused}
+use Rattle.pico_top.specs.Answer.Ending.{Said, Heard, Refused}
 
 -- what the run of a machine is given
 abbrev pub setting_in : DeviceMeaning → Started → Setting

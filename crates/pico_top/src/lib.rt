@@ -4,11 +4,8 @@
 
 pub mod laws;
 mod open;
-mod programs;
 mod runner;
-mod send;
 mod tell;
-mod teller;
 
 ghost use Rattle.std.specs.Prelude.{◌≡◌, ◌+◌, ◌≤◌, Some, length, map, true, IfOk};
 ghost use Rattle.std.specs.String.{string_bytes};
@@ -16,9 +13,8 @@ ghost use Rattle.board_parts.specs.Wiring.{all_fit, all_words, counts_of, wired_
 ghost use Rattle.command_words.specs.Words.{parts_in, workers_of, IsRead};
 ghost use Rattle.command_words.specs.Read.{command_in};
 ghost use Rattle.pico_top.specs.Answer.{Converses, ConversesFor, ConversesIn};
-ghost use Rattle.pico_top.specs.Call.{asked_by, board, outside};
+ghost use Rattle.pico_top.specs.Dialogue.{asked_by, board, outside, aims_in, dialogue_of, targets_in};
 ghost use Rattle.pico_top.specs.Causes.{HasCause, IsComplete};
-ghost use Rattle.pico_top.specs.Dialogue.{aims_in, dialogue_of, targets_in};
 
 use board_parts::aiming::aim_all;
 use board_parts::attaching::attach_all;
@@ -115,7 +111,7 @@ fn serve_with<F: Shelf, I: Source, O: Sink, X: Device, L: Ledger>(
 }
 
 /// The same, where workers run the lanes of a run.
-fn serve_with_by<F, I, O, G, X, L, R>(
+fn serve_with_by<F: Shelf, I: Source, O: Sink, G: Gate, X: Device, L: Ledger, R>(
     alloc: Global,
     workers: &Workers<'_, G, R>,
     reading: &Reading,
@@ -127,12 +123,6 @@ fn serve_with_by<F, I, O, G, X, L, R>(
     steps: &mut Steps<L>,
 ) -> u8
 where
-    F: Shelf,
-    I: Source,
-    O: Sink,
-    G: Gate,
-    X: Device,
-    L: Ledger,
     R: Threads + Wait + Sync,
     ensures { ConversesIn (dialogue_of (X.meaning device.now)
         (aims_in (map (λ p. (Probe-box p).meaning p.value) probes.items) (command_in reading.now)) (command_in reading.now))
@@ -190,7 +180,7 @@ fn serve<F: Shelf, I: Source, O: Sink, P: Part + Sync, X: Device, L: Ledger>(
 }
 
 /// The same, where workers run the lanes of a run.
-fn serve_by<F, I, O, G, P, X, L, R>(
+fn serve_by<F: Shelf, I: Source, O: Sink, G: Gate, P: Part + Sync, X: Device, L: Ledger, R>(
     alloc: Global,
     workers: &Workers<'_, G, R>,
     reading: &Reading,
@@ -203,13 +193,6 @@ fn serve_by<F, I, O, G, P, X, L, R>(
     steps: &mut Steps<L>,
 ) -> u8
 where
-    F: Shelf,
-    I: Source,
-    O: Sink,
-    G: Gate,
-    P: Part + Sync,
-    X: Device,
-    L: Ledger,
     R: Threads + Wait + Sync,
     requires fit { all_fit (counts_of (map P.meaning parts.items))
         (parts_in (command_in reading.now)) ≡ true }
@@ -279,7 +262,7 @@ pub fn pico_alone<F: Shelf, I: Source, O: Sink, X: Device, L: Ledger>(
 }
 
 /// Reads the words, and does what they say.
-fn converse<F, I, O, G, P, X, L, R>(
+fn converse<F: Shelf, I: Source, O: Sink, G: Gate, P: Part + Sync, X: Device, L: Ledger, R>(
     rt: &R,
     alloc: Global,
     words: &[String],
@@ -293,13 +276,6 @@ fn converse<F, I, O, G, P, X, L, R>(
     steps: &mut Steps<L>,
 ) -> u8
 where
-    F: Shelf,
-    I: Source,
-    O: Sink,
-    G: Gate,
-    P: Part + Sync,
-    X: Device,
-    L: Ledger,
     R: Threads + Wait + Sync,
     requires room { all_words (map P.meaning parts.items) + (X.meaning device).count ≤ 128 }
     ensures { Converses (board (X.meaning device) (map (λ p. (Probe-box p).meaning p.value) probes.items)
@@ -346,7 +322,7 @@ where
 /// Where the words name workers, so many threads run the lanes of a run beside this one, and the `gate` is entered and left round
 /// each piece of a lane; the call then waits for them and for the gate, and what is said here holds if it returns. The text is the
 /// same for each number of workers. Without workers nobody is waited for.
-pub fn pico<F, I, O, G, X, L, R>(
+pub fn pico<F: Shelf, I: Source, O: Sink, G: Gate, X: Device, L: Ledger, R>(
     rt: &R,
     alloc: Global,
     words: &[String],
@@ -360,12 +336,6 @@ pub fn pico<F, I, O, G, X, L, R>(
     steps: &mut Steps<L>,
 ) -> u8
 where
-    F: Shelf,
-    I: Source,
-    O: Sink,
-    G: Gate,
-    X: Device,
-    L: Ledger,
     R: Threads + Wait + Sync,
     requires room { all_words (map (λ p. (Part-box p).meaning p.value) parts.items)
         + (X.meaning device).count ≤ 128 }

@@ -1,6 +1,6 @@
 //! From the words to a machine that can run, or to what is refused.
 
-ghost use Rattle.std.specs.Prelude.{◌≡◌, ◌≤◌, ℕ, List, Option, Some, length, IfOk};
+ghost use Rattle.std.specs.Prelude.{◌≡◌, ◌≤◌, ℕ, List, Option, Some, length, IfOk, [], ◌∷◌, ◌++◌, Ok, Err, map, IfErr};
 ghost use Rattle.std.specs.Option.{option_map};
 ghost use Rattle.std.specs.String.{string_bytes};
 ghost use Rattle.lane_look.specs.Device.{DeviceMeaning};
@@ -8,21 +8,24 @@ ghost use Rattle.rp_ports.specs.Shelf.{Files};
 ghost use Rattle.uf2_image.specs.Uf2.{FitsSram, image_of};
 ghost use Rattle.pin_script.specs.Script.{script_of};
 ghost use Rattle.startup_blocks.specs.Table.{HaveBytes};
-ghost use Rattle.rp_machine.specs.Boot.{AreLoads, start};
+ghost use Rattle.rp_machine.specs.Boot.{AreLoads, start, IsLoad};
 ghost use Rattle.board_parts.specs.Hearing.{Aim};
 ghost use Rattle.command_words.specs.Refusals.Refusal.{BadImage, BadScript};
 ghost use Rattle.command_words.specs.Words.Command.{Assemble, AssembleThumb, Disassemble, Generate};
-ghost use Rattle.command_words.specs.Read.{run_in, command_in};
-ghost use Rattle.pico_top.specs.Dialogue.{with_image, with_linked, with_run, with_script};
+ghost use Rattle.command_words.specs.Read.{run_in, command_in, entry_in};
+ghost use Rattle.pico_top.specs.Dialogue.{with_image, with_linked, with_run, with_script, with_program, Placed};
 ghost use Rattle.pico_top.specs.declared.open.Unopened.TheVariants.{Memory};
-ghost use Rattle.pico_top.specs.Opening.{Opens, OpensFor, LoadsAs, Passes, Judges, Boots, use_for};
+ghost use Rattle.pico_top.specs.Opening.{Opens, OpensFor, LoadsAs, Passes, Judges, Boots, use_for, taken_by, ArePlaced, Adds, AddsBehind, LoadsAll, offset_part, source_part};
+ghost use Rattle.pio_asm.specs.Fitting.{IsRunnable};
+ghost use Rattle.pio_asm.specs.Placing.{placed};
+ghost use Rattle.pio_asm.specs.Assembly.{Plan, IsProgram};
 
-use crate::programs::open_programs;
 use command_words::refusal::Refusal;
-use command_words::{DisWords, GenWords, Reading, RunWords};
+use command_words::{DisWords, GenWords, PioEntry, Reading, RunWords};
 use lane_look::Device;
 use pin_script::{Script, ScriptFault, read_script};
-use pio_asm::listing::{listing, programs_in};
+use pio_asm::Program;
+use pio_asm::listing::{first_program, listing, offset_for, programs_in, with_addresses};
 use pio_disasm::write_source;
 use pio_parse::PioFault;
 use reverse_debug::Session;
@@ -87,11 +90,8 @@ pub struct Debugging {
 /// What a machine is booted for.
 #[derive(Clone, Copy, Debug, PartialEq, Eq)]
 pub enum Purpose {
-    /// It runs up to its first stop.
-    Run {
-        /// Whether the counts of its windows are asked for.
-        stats: bool,
-    },
+    /// It runs up to its first stop; whether the counts of its windows are asked for.
+    Run(bool),
     /// The debugger goes to and fro in its run.
     Debug,
 }
@@ -235,7 +235,7 @@ fn boot<X: Device>(
     };
     let machine = Machine::boot(alloc, image, loads, &world)?;
     match purpose {
-        Purpose::Run { stats } => Ok(Opened::Machine(Started {
+        Purpose::Run(stats) => Ok(Opened::Machine(Started {
             machine,
             script,
             limit,
@@ -271,16 +271,10 @@ fn open_run<F: Shelf, X: Device>(
 }
 
 /// Loads a source and lists its programs.
-fn open_source<F: Shelf, X: Device>(
-    alloc: Global,
-    name: &str,
-    files: &mut F,
-    device: &X,
-) -> Result<Opened, Unopened>
+fn open_source<F: Shelf>(alloc: Global, name: &str, files: &mut F) -> Result<Opened, Unopened>
     ensures kept { F.files files.new ≡ F.files files.old }
-    ensures answer { OpensFor (F.files files.old) (F.failed files.old) (F.failed files.new)
-        (X.meaning device.now)
-        (Assemble name.now) result }
+    ensures answer { (device : DeviceMeaning) → OpensFor (F.files files.old) (F.failed files.old)
+        (F.failed files.new) device (Assemble name.now) result }
 {
     let bytes = load(alloc, name, SOURCE_LIMIT, files)?;
     match programs_in(alloc, &bytes) {
@@ -291,15 +285,10 @@ fn open_source<F: Shelf, X: Device>(
 }
 
 /// Loads a Thumb source and makes the file of its image.
-fn open_thumb<F: Shelf, X: Device>(
-    alloc: Global,
-    name: &str,
-    files: &mut F,
-    device: &X,
-) -> Result<Opened, Unopened>
+fn open_thumb<F: Shelf>(alloc: Global, name: &str, files: &mut F) -> Result<Opened, Unopened>
     ensures kept { F.files files.new ≡ F.files files.old }
-    ensures answer { OpensFor (F.files files.old) (F.failed files.old) (F.failed files.new)
-        (X.meaning device.now) (AssembleThumb name.now) result }
+    ensures answer { (device : DeviceMeaning) → OpensFor (F.files files.old) (F.failed files.old)
+        (F.failed files.new) device (AssembleThumb name.now) result }
 {
     let bytes = load(alloc, name, SOURCE_LIMIT, files)?;
     match assemble_thumb(alloc, &bytes) {
@@ -331,7 +320,7 @@ fn open_generated<X: Device>(
 {
     let image = generated(alloc, asked.number)?;
     let script = Script::new(alloc);
-    let purpose = Purpose::Run { stats: asked.stats };
+    let purpose = Purpose::Run(asked.stats);
     boot(alloc, purpose, &image, script, &[], asked.cycles, device)
 }
 
@@ -348,14 +337,134 @@ pub fn open_reading<F: Shelf, X: Device>(
         (command_in reading.now) result }
 {
     match reading {
-        Reading::Run(run) => {
-            let purpose = Purpose::Run { stats: run.stats };
-            open_run(alloc, purpose, run, files, device)
-        }
+        Reading::Run(run) => open_run(alloc, Purpose::Run(run.stats), run, files, device),
         Reading::Debug(run) => open_run(alloc, Purpose::Debug, run, files, device),
         Reading::Dis(asked) => open_text(alloc, asked),
-        Reading::Asm(name) => open_source(alloc, name.as_str(), files, device),
-        Reading::Thumb(name) => open_thumb(alloc, name.as_str(), files, device),
+        Reading::Asm(name) => open_source(alloc, name.as_str(), files),
+        Reading::Thumb(name) => open_thumb(alloc, name.as_str(), files),
         Reading::Gen(asked) => open_generated(alloc, asked, device),
     }
+}
+
+/// The addresses of a block that are taken, one bit each.
+fn taken(block: u8, loads: &[PioLoad]) -> u32
+    requires { AreLoads loads.now }
+    ensures { result ≡ taken_by 0 block loads.now }
+{
+    let mut used = 0;
+    for load in loads {
+        if load.block == block {
+            used = with_addresses(used, load.offset, load.program.words.len());
+        }
+    }
+    used
+}
+
+/// A program at its offset behind others.
+fn load_of(entry: &PioEntry, program: Program, others: &[PioLoad]) -> Result<PioLoad, PioFault>
+    requires others { AreLoads others.now }
+    requires runs { IsRunnable program }
+    ensures load { IfOk result IsLoad }
+    ensures parts { IfOk result (λ load.
+        load ≡ record {
+          block = entry.now.block;
+          machine = entry.now.machine;
+          offset = load.offset;
+          program = program;
+        }) }
+    ensures ok { IfOk result (λ load. placed (taken_by 0 entry.now.block others.now) program.origin
+        (length program.words.items) ≡ Ok load.offset) }
+    ensures err { IfErr result (λ fault. placed
+        (taken_by 0 entry.now.block others.now) program.origin
+        (length program.words.items) ≡ Err fault) }
+{
+    match offset_for(taken(entry.block, others), &program) {
+        Ok(offset) => Ok(PioLoad {
+            block: entry.block,
+            machine: entry.machine,
+            offset,
+            program,
+        }),
+        Err(fault) => Err(fault),
+    }
+}
+
+/// Adds a load behind others.
+fn add(load: PioLoad, loads: &mut Vec<PioLoad>) -> Result<(), Unopened>
+    ensures ok { IfOk result (λ done. loads.new.items ≡ loads.old.items ++ load ∷ []) }
+    ensures err { IfErr result (λ unopened. unopened ≡ Memory) }
+{
+    match loads.push(load) {
+        Ok(()) => Ok(()),
+        Err(_) => Err(Unopened::Memory),
+    }
+}
+
+/// Adds a program at its offset behind others.
+fn add_load(entry: &PioEntry, program: Program, loads: &mut Vec<PioLoad>) -> Result<(), Unopened>
+    requires loads { AreLoads loads.old.items }
+    requires runs { IsRunnable program }
+    ensures { (before : List Placed) (plan : Plan) → ArePlaced before loads.old.items
+        → IsProgram plan program
+        → AddsBehind (offset_part (entry_in entry.now) before plan) loads.new.items result }
+{
+    match load_of(entry, program, loads) {
+        Ok(load) => add(load, loads),
+        Err(fault) => Err(Unopened::Refusing(Refusal::Source(fault))),
+    }
+}
+
+/// Adds the first program of a source, if it has one, at its offset behind others.
+fn add_first(
+    alloc: Global,
+    entry: &PioEntry,
+    bytes: &[u8],
+    loads: &mut Vec<PioLoad>,
+) -> Result<(), Unopened>
+    requires { AreLoads loads.old.items }
+    ensures { (before : List Placed) → ArePlaced before loads.old.items
+        → AddsBehind (source_part (entry_in entry.now) before bytes.now) loads.new.items result }
+{
+    match first_program(alloc, bytes) {
+        Ok(found) => match found {
+            Some(program) => add_load(entry, program, loads),
+            None => Ok(()),
+        },
+        Err(PioFault::Memory) => Err(Unopened::Memory),
+        Err(fault) => Err(Unopened::Refusing(Refusal::Source(fault))),
+    }
+}
+
+/// Loads the source of an entry, and adds its first program behind others.
+fn open_program<F: Shelf>(
+    alloc: Global,
+    entry: &PioEntry,
+    loads: &mut Vec<PioLoad>,
+    files: &mut F,
+) -> Result<(), Unopened>
+    requires { AreLoads loads.old.items }
+    ensures kept { F.files files.new ≡ F.files files.old }
+    ensures answer { (before : List Placed) → ArePlaced before loads.old.items
+        → Adds (F.files files.old) (F.failed files.old) (F.failed files.new)
+        (with_program (entry_in entry.now) before) loads.new.items result }
+{
+    let bytes = load(alloc, entry.file.as_str(), SOURCE_LIMIT, files)?;
+    add_first(alloc, entry, &bytes, loads)
+}
+
+/// Loads the programs of all entries, each behind those before it.
+pub fn open_programs<F: Shelf>(
+    alloc: Global,
+    entries: &[PioEntry],
+    files: &mut F,
+) -> Result<Vec<PioLoad>, Unopened>
+    ensures kept { F.files files.new ≡ F.files files.old }
+    ensures answer { LoadsAll (F.files files.old) (F.failed files.old) (F.failed files.new)
+        (map entry_in entries.now) result }
+{
+    let mut loads = Vec::new(alloc);
+    for entry in entries {
+        open_program(alloc, entry, &mut loads, files)?;
+    }
+    Ok(loads)
 }

@@ -1,18 +1,25 @@
-//! A run up to the first state that has a stop: cycle by cycle, or by windows where these are counted or have workers.
+//! A run up to the first state that has a stop, cycle by cycle, or by windows where these are counted or have workers; and where its
+//! events go: each leaves its line in the sink, and each change of a pin is heard by the probes.
 
-ghost use Rattle.std.specs.Prelude.{◌≡◌, ◌+◌, ◌≤◌, IfOk, IfSome};
+ghost use Rattle.std.specs.Prelude.{◌≡◌, ◌∷◌, ◌<◌, [], ◌+◌, ◌≤◌, IfOk, IfSome};
+ghost use Rattle.trace_text.specs.declared.event.Event.TheVariants.{Pin};
+ghost use Rattle.trace_text.specs.Line.{event_text};
+ghost use Rattle.board_parts.specs.Hearing.{aim_of, seen};
+ghost use Rattle.pico_top.specs.Dialogue.{sunk};
+ghost use Rattle.pico_top.specs.Answer.{Writes};
+ghost use Rattle.pico_top.specs.RunText.{after_events};
 ghost use Rattle.outer_lane.specs.Setting.{setting};
 ghost use Rattle.trace_text.specs.Tape.{Tells};
 ghost use Rattle.rp_machine.specs.Run.{last_state};
 ghost use Rattle.window_runner.specs.Told.{run_shown};
 ghost use Rattle.window_runner.specs.Alone.{IsOnRun};
 ghost use Rattle.window_runner.specs.Windows.{answered, OnMemory};
-ghost use Rattle.board_parts.specs.Hearing.{aim_of, seen};
-ghost use Rattle.pico_top.specs.Call.{sunk};
-ghost use Rattle.pico_top.specs.Running.{IsRanFor, RunsTo};
+ghost use Rattle.pico_top.specs.Teller.{IsRanFor, RunsTo};
 
-use crate::teller::Teller;
-use board_parts::aimed::Aimed;
+use crate::tell::put_line;
+use arrayvec::ArrayVec;
+use board_parts::aimed::{Aimed, hear_all};
+use board_parts::change::PinChange;
 use board_parts::probe::Probe;
 use lane_look::Device;
 use rp_machine::{Machine, Steps, World};
@@ -23,11 +30,94 @@ use std::marker::PhantomData;
 use std::sync::Wait;
 use std::sync::ledger::Ledger;
 use std::thread::Threads;
+use trace_text::event::Event;
+use trace_text::line::event_line;
 use trace_text::tape::Tape;
+use trace_text::writer::SinkFault;
 use window_merge::Crew;
 use window_runner::alone::{Ran, run_alone};
 use window_runner::cycles::run_cycles;
 use window_runner::windows::{RunFault, run_windows};
+
+/// Puts the line of an event.
+fn send_event<O: Sink>(event: &Event, out: &mut O) -> Result<(), SinkFault>
+    ensures { Writes (sunk ⟦<O as Sink>⟧ out.old) (sunk ⟦<O as Sink>⟧ out.new) (event_text event.now) result }
+{
+    let mut line = ArrayVec::<u8, 192>::new();
+    event_line(event, &mut line);
+    put_line(&line, out)
+}
+
+/// All probes hear of a change of a pin.
+fn hear_change(cycle: u64, pin: u8, level: bool, probes: &mut [Aimed])
+    requires { pin < 256 }
+    ensures { seen probes.new (λ a. aim_of a.index a.pin (⟦<dyn Probe as Probe>⟧ a.probe.vtable) a.probe.value)
+        ≡ after_events (Pin cycle pin level ∷ [])
+        (seen probes.old (λ a. aim_of a.index a.pin (⟦<dyn Probe as Probe>⟧ a.probe.vtable) a.probe.value)) }
+{
+    hear_all(probes, &PinChange { cycle, pin, level });
+}
+
+/// All probes hear of a pin, if the event is its change.
+fn hear_event(event: &Event, probes: &mut [Aimed])
+    ensures { seen probes.new (λ a. aim_of a.index a.pin (⟦<dyn Probe as Probe>⟧ a.probe.vtable) a.probe.value)
+        ≡ after_events (event.now ∷ [])
+        (seen probes.old (λ a. aim_of a.index a.pin (⟦<dyn Probe as Probe>⟧ a.probe.vtable) a.probe.value)) }
+{
+    if let Event::Pin { cycle, pin, level } = *event {
+        hear_change(cycle, pin, level, probes);
+    }
+}
+
+/// Tells the events of a run to a sink and to probes.
+#[derive(Drop)]
+pub struct Teller<'a, O: Sink> {
+    /// Has the lines.
+    pub out: &'a mut O,
+    /// Hear the changes of pins.
+    pub probes: &'a mut [Aimed],
+    /// A probe is known by what is behind its box.
+    pub boxed: PhantomData<Box<dyn Probe>>,
+}
+
+impl<'a, O: Sink> Tape for Teller<'a, O> {
+    ghost use Rattle.std.specs.Prelude.{◌≡◌};
+    ghost use Rattle.std.proofs.Common.{refl, ◌∙◌};
+    ghost use Rattle.trace_text.specs.Line.{event_text};
+    ghost use Rattle.trace_text.specs.Sent.{AppendsPart};
+    ghost use Rattle.board_parts.specs.Hearing.{aim_of, seen};
+    ghost use Rattle.pico_top.specs.Dialogue.{sunk};
+    ghost use Rattle.pico_top.specs.Teller.{HasTold, told_none, told_both};
+
+    ghost faults = { λ teller. O.faults teller.out.now };
+
+    ghost took = { λ old events new.
+        HasTold (sunk ⟦<O as Sink>⟧ old.out.now) (sunk ⟦<O as Sink>⟧ new.out.now)
+        (seen old.probes.now (λ a. aim_of a.index a.pin (Probe-box a.probe) a.probe.value))
+        (seen new.probes.now (λ a. aim_of a.index a.pin (Probe-box a.probe) a.probe.value)) events
+        × (new.out.ghost_name ≡ old.out.ghost_name)
+        × (new.probes.ghost_name ≡ old.probes.ghost_name) };
+
+    ghost missed = { λ old event new.
+        AppendsPart (O.written old.out.now) (O.written new.out.now) (event_text event)
+        × (new.out.ghost_name ≡ old.out.ghost_name)
+        × (new.probes.ghost_name ≡ old.probes.ghost_name) };
+
+    fn event(&mut self, event: &Event) -> Result<(), SinkFault> {
+        match send_event(event, self.out) {
+            Ok(()) => {
+                hear_event(event, self.probes);
+                Ok(())
+            }
+            Err(fault) => Err(fault),
+        }
+    }
+
+    ghost takes_none = { λ teller. (told_none _ _, refl, refl) };
+
+    ghost takes_in_turn = { λ a b c first second h k.
+        (told_both _ _ _ _ _ _ first second h.0 k.0, k.1 ∙ h.1, k.2 ∙ h.2) };
+}
 
 /// How many threads run the lanes of a run's windows beside the calling one, what starts them, and what is entered and left round each
 /// piece.

@@ -1,7 +1,6 @@
 use Rattle.std.proofs.Common.{◌≡◌, ◌&&◌, map, drop}
 use Rattle.std.specs.List.{list_any}
-use Rattle.command_words.specs.Table.{stands_alone}
-use Rattle.command_words.specs.Rows.{row_in}
+use Rattle.command_words.specs.Table.{row_in, stands_alone}
 use Rattle.command_words.specs.Options.{names, is_alone}
 use Rattle.command_words.proofs.options.is_alone.Given as goal
 

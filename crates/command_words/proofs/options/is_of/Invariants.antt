@@ -1,7 +1,7 @@
 use Rattle.std.proofs.Common.{◌≡◌, map, drop}
 use Rattle.std.specs.Option.{option_map}
 use Rattle.std.specs.List.{list_any}
-use Rattle.command_words.specs.Rows.{row_in}
+use Rattle.command_words.specs.Table.{row_in}
 use Rattle.command_words.specs.Options.{Setting, suits, is_of}
 use Rattle.command_words.proofs.options.is_of.Given as goal
 

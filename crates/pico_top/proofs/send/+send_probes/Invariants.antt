@@ -1,6 +1,0 @@
-use Rattle.pico_top.proofs.Names.{length}
-use Rattle.pico_top.proofs.send.+send_probes.Given as goal
-
--- fewer probes are left
-abbrev pub decreases-send_probes : goal.decreases-send_probes
-decreases-send_probes g l = length l.probes.now
