@@ -44,7 +44,8 @@ impl Part for Loop {
     fn start(&self, _state: &mut [u32]) {}
 
     fn step(&self, _state: &mut [u32], _cycle: u64, pads: u32) -> Drive {
-        at_level(self.pins[1], level_of(self.pins[0], pads))
+        let level = level_of(self.pins[0], pads);
+        at_level(self.pins[1], level)
     }
 
     fn drives(&self, _state: &[u32], _cycle: u64, pads: u32) -> Drive {
