@@ -5,6 +5,7 @@ A library is kept in the folder STORE once for each text of the crate's files an
 already. It holds what other crates can cite, without the proofs, so that a proof above it reads little. tools/build.py and .ci/quick go by it.
 Status 0: the library is in the store.
 """
+import argparse
 import fcntl
 import hashlib
 import os
@@ -75,6 +76,8 @@ def is_kept(store, crate):
 
 def kit():
     """The folder of the kit."""
+    if not shutil.which("rt"):
+        sys.exit("libraries: the command rt of the Rattle kit is not on the PATH")
     page = subprocess.run(["rt", "doc"], stdout=subprocess.PIPE, text=True, check=True).stdout.strip()
     return os.path.dirname(page)
 
@@ -124,14 +127,13 @@ def forget(store, crates):
 
 
 def main():
-    words = sys.argv[1:]
-    if len(words) < 2 or words[0] in ("-h", "--help"):
-        print(__doc__.strip())
-        return 0 if words and words[0] in ("-h", "--help") else 2
-    store, crate = os.path.abspath(words[0]), words[1]
-    jobs = words[words.index("--jobs") + 1] if "--jobs" in words else "1"
+    parser = argparse.ArgumentParser(description=__doc__.strip(), formatter_class=argparse.RawDescriptionHelpFormatter)
+    parser.add_argument("store", metavar="STORE", type=os.path.abspath)
+    parser.add_argument("crate", metavar="CRATE", choices=USED)
+    parser.add_argument("--jobs", metavar="N", default="1")
+    words = parser.parse_args()
     signal.signal(signal.SIGTERM, lambda *_: sys.exit(1))
-    status, text = keep(kit(), store, crate, jobs)
+    status, text = keep(kit(), words.store, words.crate, words.jobs)
     print(text, end="")
     return status
 
