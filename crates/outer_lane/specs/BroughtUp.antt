@@ -1,5 +1,5 @@
--- The timer and the UARTs, which lie behind: what they are after so many cycles, in which of these they are quiet, and what an access does. Nothing of
--- it is told outside.
+-- The timer and the UARTs, which lie behind: what they are after so many cycles, in which of these they are quiet, and what an access does.
+-- No public contract names it.
 use Rattle.std.specs.Prelude.{ℕ, Bool, true, List, [], Option}
 use Rattle.rp_base.specs.declared.map.Block.{Block}
 use Rattle.rp_base.specs.Resettable.{let_go, with_held}

@@ -62,7 +62,7 @@ impl Behind {
         }
     }
 
-    /// One cycle, where they are quiet in it; whether they were.
+    /// One cycle, where they are known to be quiet in it; whether they are.
     #[inline(always)]
     pub(crate) fn go_on(&mut self, cycle: u64) -> bool
         ensures after { result ≡ true → self.new ≡ told_step cycle self.old }
@@ -93,7 +93,7 @@ impl Behind {
         bytes
     }
 
-    /// So many cycles from one on. Whether they were quiet in these.
+    /// So many cycles from one on. Whether they were known to be quiet in these.
     #[tactic(auto, unfolding(lane_look::specs::Times::times))]
     pub(crate) fn pass(&mut self, cycle: u64, n: u64) -> bool
         requires { cycle + n < 2 ^ 64 }

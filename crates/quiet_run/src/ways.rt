@@ -2,6 +2,7 @@
 
 ghost use Rattle.std.specs.Prelude.{◌≡◌, ℕ, ◌+◌, ◌<◌, ◌≤◌, false};
 ghost use Rattle.outer_lane.specs.Setting.{setting};
+ghost use Rattle.quiet_run.specs.Pacing.{paced};
 ghost use Rattle.rp_machine.specs.Quiet.{IsQuiet};
 ghost use Rattle.rp_machine.specs.Run.{states};
 
@@ -23,6 +24,7 @@ pub struct Pace {
 impl Pace {
     ghost use Rattle.std.specs.Prelude.{◌≡◌, ◌&&◌, nat_le, not};
     ghost use Rattle.bus_fabric.specs.State.{has_hold};
+    ghost use Rattle.quiet_run.specs.Pacing.{paced};
 
     /// A try is due: so many cycles are over since the last one, and no access lasts.
     #[inline(always)]
@@ -30,6 +32,19 @@ impl Pace {
         ensures { result ≡ (nat_le self.now.next machine.now.cycle && not (has_hold machine.now.fabric)) }
     {
         self.next <= machine.number() && !machine.fabric.holds()
+    }
+
+    /// A try at a cycle went over so many: where that is none the next one is due later, else at once.
+    #[inline(always)]
+    pub fn note(&mut self, at: u64, done: u64)
+        ensures { self.new ≡ paced at done self.old }
+    {
+        if done == 0 {
+            self.apart = self.apart % 8 * 2 + 1;
+            self.next = at.saturating_add(self.apart);
+        } else {
+            self.apart = 0;
+        }
     }
 }
 
@@ -82,7 +97,7 @@ pub fn pass_quiet<X: Device, L: Ledger>(
     pass_watched(machine, world, to, &Unwatched, marks, steps)
 }
 
-/// The same, and the pace knows what came of it: where no cycle was gone over the next try is due later.
+/// The same, and the pace knows what came of it.
 #[inline(always)]
 pub fn pass_paced<X: Device, L: Ledger>(
     machine: &mut Machine,
@@ -97,15 +112,11 @@ pub fn pass_paced<X: Device, L: Ledger>(
     ensures quiet { IsQuiet (setting X.meaning world.now) machine.old result }
     ensures within { 0 < result → machine.old.cycle + result ≤ to }
     ensures marks { marks.new ≡ marks.old }
+    ensures pace { pace.new ≡ paced machine.old.cycle result pace.old }
     ensures steps { steps.new ≡ steps.old + result }
 {
     let at = machine.number();
     let done = pass_quiet(machine, world, to, marks, steps);
-    if done == 0 {
-        pace.apart = (pace.apart << 1 | 1) & 15;
-        pace.next = at.saturating_add(pace.apart);
-    } else {
-        pace.apart = 0;
-    }
+    pace.note(at, done);
     done
 }

@@ -24,7 +24,7 @@ CountsMove old new before after = after + old.cycle ≡ before + new.cycle
 abbrev pub NoneEnds : Setting → Watched → State → ℕ → Type 0
 NoneEnds w watched s n = (k : ℕ) → k < n → ends w s watched k ≡ false
 
--- on the way from one state to another it ends behind no cycle, but for the last one where it has come to no stop
+-- on the way from one state to another it ends behind no cycle, but maybe behind the last one where it has come to no stop
 abbrev pub EndsAtLast : Setting → Watched → State → State → Option Why → Type 0
 EndsAtLast w watched old new None = NoneEnds w watched old (new.cycle - old.cycle - 1)
 EndsAtLast w watched old new (Some why) = NoneEnds w watched old (new.cycle - old.cycle)

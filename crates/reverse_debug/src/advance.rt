@@ -30,7 +30,7 @@ fn passable(at: u64, to: u64, limit: u64) -> u64
 }
 
 /// Steps a machine up to a cycle. None where it stands there, also where it would stop there; else the cause of the stop below
-/// that cycle at which it stands. Quiet times are passed at once. The marks of its last cycle are left.
+/// that cycle at which it stands. Quiet times are passed at once.
 pub(crate) fn advance<X: Device, L: Ledger>(
     machine: &mut Machine,
     world: &World<'_, X>,
@@ -122,18 +122,21 @@ pub(crate) fn seek<X: Device, L: Ledger>(
 {
     let before = seen(machine, watched);
     let most = passable(machine.number(), to, world.limit);
+    let mut pace = Pace::default();
     'cycles: while machine.number() < to {
-        let passed = pass_seeking(machine, world, watched, before, most, marks, steps);
-        if has_ended(passed, watched, before, machine) {
-            return None;
-        }
         match machine.cycle(world, marks, steps) {
             Some(why) => return Some(why),
-            None => {
-                if has_ended(1, watched, before, machine) {
-                    return None;
-                }
-                continue 'cycles;
+            None => {}
+        }
+        if ends_by(watched, before, seen(machine, watched)) {
+            return None;
+        }
+        if pace.is_due(machine) {
+            let at = machine.number();
+            let passed = pass_seeking(machine, world, watched, before, most, marks, steps);
+            pace.note(at, passed);
+            if has_ended(passed, watched, before, machine) {
+                return None;
             }
         }
     }

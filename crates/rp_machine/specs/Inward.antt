@@ -75,6 +75,10 @@ inward_next b x s =
     record (ended (with_store (inward_deed (granted_alone x s) x)
     (core0_stepped b (inward_turn (granted_alone x s) x) (with_grant x s)))) { cycle = s.cycle + 1 }
 
+-- the same where nothing is wanted, and no access lasts
+unfoldable pub inward_rest : Doing → State → State
+inward_rest b s = record (ended (core0_stepped b turn.Nothing s)) { cycle = s.cycle + 1 }
+
 -- these blocks and peripherals answer core 0 as those of a state do, and the peripherals keep the same of SIO
 pub record TellsSame (p : Blocks) (o : OuterState) (s : State) : Type 0 where
   pub lines : lines_of 0 (with_beside p o s) ≡ lines_of 0 s
@@ -82,10 +86,6 @@ pub record TellsSame (p : Blocks) (o : OuterState) (s : State) : Type 0 where
   pub inputs : outer_inputs o ≡ outer_inputs s.outer
   pub outs : (block : ℕ) → outs_of block (with_beside p o s) ≡ outs_of block s
   pub sio : o.sio ≡ pins_of s.sio
-
--- the same where nothing is wanted, and no access lasts
-unfoldable pub inward_rest : Doing → State → State
-inward_rest b s = record (ended (core0_stepped b turn.Nothing s)) { cycle = s.cycle + 1 }
 
 -- core 1 sleeps, and its launcher has no word for it
 pub record GoesAlone (s : State) : Type 0 where

@@ -101,7 +101,8 @@ impl Machine {
     }
 
     /// One cycle of a machine in which core 0 is alone, whose interrupt lines are these, but for the other lanes, which stay as they
-    /// are. False where core 0 reaches for more than SRAM and does not wait, and then nothing changes.
+    /// are. False where core 0 reaches for more than SRAM and does not wait, and where an access lasts and nothing is wanted; then
+    /// nothing changes.
     #[inline(always)]
     pub(crate) fn cycle_onward(&mut self, lines: u32, core0: &mut Doing, marks: &mut Marks) -> bool
         requires number { self.old.cycle < 2 ^ 64 - 1 }
@@ -120,7 +121,7 @@ impl Machine {
     }
 
     /// Core 0 goes on alone for at most so many cycles, up to the first in which it reaches for more than SRAM and does not wait, and
-    /// the other lanes stay as they are. How many cycles that were.
+    /// the other lanes stay as they are; it may end sooner, as where core 0 waits in WFI or WFE. How many cycles that were.
     pub fn go_onward<L: Ledger>(
         &mut self,
         most: u64,

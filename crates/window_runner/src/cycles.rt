@@ -1,5 +1,5 @@
-//! A run cycle by cycle, which goes over cycles in which nobody has anything to do at once: no window is made of it, and nothing is
-//! counted but its cycles.
+//! A run cycle by cycle, which goes at once over cycles of which nothing is told: no window is made of it, and nothing is counted but
+//! its cycles.
 
 ghost use Rattle.std.specs.Prelude.{◌≡◌, ◌+◌, ◌≤◌, Some, IfOk, OnErr};
 ghost use Rattle.outer_lane.specs.Setting.{setting};
