@@ -89,17 +89,6 @@ pub trait Device: Sync + Drop {
     }
 }
 
-/// So many cycles of a device one by one, for a `pass` that knows nothing shorter.
-pub fn pass_each<X: Device>(device: &X, state: &mut [u32], first: u64, pads: u32, n: u64)
-    requires words { length state.old ≡ (X.meaning device.now).count }
-    requires number { first + n < 2 ^ 64 }
-    ensures { state.new ≡ device_after (X.meaning device.now) pads first n state.old }
-{
-    for k in 0..n {
-        let _ = device.step(state, first + k, pads);
-    }
-}
-
 /// The device that is none: it has no words, owns no address and drives nothing.
 #[derive(Clone, Copy, Debug, PartialEq, Eq, Default)]
 pub struct NoDevice;

@@ -15,7 +15,7 @@ pub mod pair;
 pub mod replay;
 
 pub use alone::{Around, run_alone};
-pub use device::{Device, NoDevice, Wires, pass_each};
+pub use device::{Device, NoDevice, Wires};
 pub use lane::{Ask, Lane, Look, Turn, Want};
 pub use log::{Log, LogLook};
 pub use marks::{Mark, Marks};
