@@ -1,7 +1,8 @@
--- Laws of a block: of each pin the highest machine that wrote it decides (RP2040 Datasheet, 3.5.6), and no FIFO holds more words
--- than it has room for (3.5.3), whatever happens to the block.
+-- Laws of a block: of each pin the highest machine that wrote it decides (RP2040 Datasheet, 3.5.6), a block rests in its reset state
+-- (2.14), and no FIFO holds more words than it has room for (3.5.3), whatever happens to the block.
 use Rattle.std.specs.Prelude.{◌≡◌, ℕ, ◌<◌, List, [], ◌∷◌, length, Option}
 use Rattle.std.specs.Int.{bit_at}
+use Rattle.lane_look.specs.Steps.{IsAtRest}
 use Rattle.pio_machine.specs.declared.machine.Machine1.{Machine1}
 use Rattle.pio_machine.specs.declared.machine.Seen.{Seen}
 use Rattle.pio_machine.specs.declared.machine.Done.{Done}
@@ -10,7 +11,7 @@ use Rattle.pio_machine.specs.Clock.{IsWithin}
 use Rattle.pio_machine.specs.Cycle.{written_in_cycle}
 use Rattle.pio_block.specs.declared.inputs.Inputs.{Inputs}
 use Rattle.pio_block.specs.State.{Block, at_reset, machine_of}
-use Rattle.pio_block.specs.Cycle.{seen_by, after_cycle, next}
+use Rattle.pio_block.specs.Cycle.{seen_by, after_cycle, asks, wanted, next}
 use Rattle.pio_block.specs.Words.{effect_of, counter_set}
 
 -- ---- the pins
@@ -36,6 +37,12 @@ TheHighestMachineDecides =
     → length s.machines ≡ 4
     → pin < 32
     → IsDecided pin (seen_by now second s) s (after_cycle now second s)
+
+-- ---- the reset state
+
+-- in it, and so where it is held, a block asks nothing, wants nothing and stays as it is
+abbrev pub ABlockRestsAtReset : Type 0
+ABlockRestsAtReset = IsAtRest (λ s cycle. asks s) (λ begun. wanted) (λ s begun turns. next begun s) at_reset
 
 -- ---- the FIFOs
 

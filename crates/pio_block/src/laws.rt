@@ -1,8 +1,6 @@
 //! The laws of a block, each the contract of a function without arguments.
 
-ghost use Rattle.pio_block.specs.Laws.{TheHighestMachineDecides, NoFifoHoldsTooMuch};
-ghost use Rattle.pio_block.specs.State.{at_reset};
-ghost use Rattle.pio_block.specs.Cycle.{Rests};
+ghost use Rattle.pio_block.specs.Laws.{TheHighestMachineDecides, ABlockRestsAtReset, NoFifoHoldsTooMuch};
 ghost use Rattle.pio_block.specs.Quiet.{AQuietBlockShowsTheSame};
 ghost use Rattle.pio_block.specs.InstrLaws.{AWrittenWordComesNext};
 ghost use Rattle.pio_block.specs.InterruptLaws.{WhatIsEnabledOrForcedIsShown};
@@ -15,7 +13,7 @@ pub fn the_highest_machine_decides()
 
 /// In its reset state a block asks nothing, wants nothing and stays as it is: so does one that is held.
 pub fn a_block_rests_at_reset()
-    ensures { Rests at_reset }
+    ensures { ABlockRestsAtReset }
 {}
 
 /// A block that is held reads 0, and no access changes it.
