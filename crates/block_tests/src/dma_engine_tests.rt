@@ -7,7 +7,7 @@ use dma_engine::registers::{
 };
 use lane_look::{Ask, Lane, Look, Marks, Turn, Want};
 use rp_base::map::{Spot, place, port};
-use rp_base::{Master, Request, Size, Why};
+use rp_base::{Master, Request, Reset, Size, Why};
 
 /// The first 128 words of SRAM, and the counts by which channels are paced.
 #[derive(Drop)]
@@ -137,8 +137,8 @@ enum Deed {
     Reads(u16, u32),
     /// An offset of no word.
     Missing(u16),
-    /// RESETS holds the engine, or lets it go.
-    Hold(bool),
+    /// The engine gets its reset state.
+    Reset,
     /// The counts by which channels are paced.
     Counts(u128),
     /// A cycle, and the addresses of its read and of its write.
@@ -164,7 +164,7 @@ fn acts(dma: &mut Dma, deed: &Deed) -> bool {
     match *deed {
         Deed::Start(number, registers) => start(dma, number, registers),
         Deed::Write(offset, word) => return dma.effect(offset, Some(word)),
-        Deed::Hold(held) => dma.set_held(held),
+        Deed::Reset => dma.reset(),
         _ => {}
     }
     true
@@ -298,8 +298,8 @@ fn keeps(dma: &mut Dma, row: &(u16, u32, u16, u32)) -> bool {
     dma.effect(offset, Some(written)) && dma.read(other) == Some(read)
 }
 
-/// What is seen after the words. Held, the engine is in its reset state, reads 0 and takes no write.
-const SEEN: [Deed; 15] = [
+/// What is seen after the words, and in the reset state.
+const SEEN: [Deed; 12] = [
     Deed::Missing(0x001),
     Deed::Missing(0x300),
     Deed::Missing(0x410),
@@ -307,10 +307,7 @@ const SEEN: [Deed; 15] = [
     Deed::Missing(0x44c),
     Deed::Lines(true, true),
     Deed::Twin(INTE0, 0xfff),
-    Deed::Hold(true),
-    Deed::Write(INTE0, 1),
-    Deed::Reads(N_CHANNELS, 0),
-    Deed::Hold(false),
+    Deed::Reset,
     Deed::Reads(INTE0, 0),
     Deed::Idle(true),
     Deed::Cycle(0, 0),

@@ -10,6 +10,7 @@ use pio_block::registers::{
     SM_ADDR, SM_BYTES, SM_CLKDIV, SM_EXECCTRL, SM_INSTR, SM_PINCTRL, SM_SHIFTCTRL, SM0_CLKDIV,
     TXF0,
 };
+use rp_base::Reset;
 
 /// Input words, and how often they were asked for.
 #[derive(Drop)]
@@ -43,8 +44,8 @@ enum Deed {
     Missing(u16),
     /// An offset at which OUT_STICKY and INLINE_OUT_EN are refused.
     LeftOut(u16),
-    /// RESETS holds the block, or lets it go.
-    Hold(bool),
+    /// The block gets its reset state.
+    Reset,
     /// The inputs behind the synchronisers.
     Inputs(u32),
     /// A cycle, and the levels and enables of the pins after it.
@@ -104,7 +105,7 @@ fn reads(block: &mut PioBlock, deed: &Deed) -> bool {
 /// What concerns the rest of it.
 fn acts(block: &mut PioBlock, look: &mut Levels, deed: &Deed) -> bool {
     match *deed {
-        Deed::Hold(held) => block.set_held(held),
+        Deed::Reset => block.reset(),
         Deed::Inputs(second) => look.second = second,
         Deed::Cycle(levels, enables) => {
             step(block, look);
@@ -154,7 +155,7 @@ const SM2: u16 = SM1 + SM_BYTES;
 const SM3: u16 = SM2 + SM_BYTES;
 
 /// What each word keeps of a write, and the lines after them.
-const WORDS: [Deed; 28] = [
+const WORDS: [Deed; 24] = [
     Deed::Word(FSTAT, 0xffff_ffff, 0x0f00_0f00),
     Deed::Word(FDEBUG, 0xffff_ffff, 0),
     Deed::Word(FLEVEL, 0xffff_ffff, 0),
@@ -198,11 +199,7 @@ const REFUSED: [Deed; 17] = [
     Deed::LeftOut(SM2 + SM_EXECCTRL),
     Deed::LeftOut(SM3 + SM_EXECCTRL),
     Deed::Write(SM3 + SM_CLKDIV, 0x0100_0000),
-    Deed::Hold(true),
-    Deed::Reads(DBG_CFGINFO, 0),
-    Deed::Write(INPUT_SYNC_BYPASS, 1),
-    Deed::Hold(false),
-    Deed::Reads(INPUT_SYNC_BYPASS, 0),
+    Deed::Reset,
     Deed::Reads(SM3 + SM_CLKDIV, 0x0001_0000),
 ];
 

@@ -140,13 +140,9 @@ parts_at_rest s begun turns r =
 
 -- ---- the cycle
 
-either_same : {A : Type 0} (b : Bool) (x y : A) → y ≡ x → cond b x y ≡ x
-either_same true x y h = refl
-either_same false x y h = h
-
 next-at_rest : (s : Engine) (begun : BegunTransfer) (turns : List Turn) → is_at_rest s ≡ true → next s begun turns ≡ s
 unfolding next
-next-at_rest s begun turns h = either_same s.held s _ (parts_at_rest s begun turns (rests s h))
+next-at_rest s begun turns h = parts_at_rest s begun turns (rests s h)
 
 no_write : (s : Engine) → Rests s → write_begun s ≡ access.Nothing
 unfolding write_begun
@@ -171,7 +167,7 @@ asks-at_rest : (s : Engine) → is_at_rest s ≡ true → asks s ≡ Ready idle_
 unfolding asks
 asks-at_rest s h =
     let r : Rests s = rests s h in
-    either_same s.held (Ready idle_begun) _ (rw (none_waits s.channels r.channels) (reads_nothing s r))
+    rw (none_waits s.channels r.channels) (reads_nothing s r)
 
 stays_at_rest : (s : Engine) → is_at_rest s ≡ true → StaysAtRest s
 stays_at_rest s h = record {

@@ -60,13 +60,12 @@ begun_write memory m r w k j c x v g =
 
 -- ---- a cycle of a busy channel, by its parts
 
-goes : (s t : Engine) (begun : BegunTransfer) (choice : Option ℕ) → s.held ≡ false → after_ends s ≡ s → choice_of begun.counts s ≡ choice →
+goes : (s t : Engine) (begun : BegunTransfer) (choice : Option ℕ) → after_ends s ≡ s → choice_of begun.counts s ≡ choice →
     after_timers (gets_credit s) (after_choice choice (after_write_of begun (Done 0 ∷ Done 0 ∷ []) (after_read_of begun (Done 0 ∷ Done 0 ∷ []) s))) ≡ t →
     next s begun (Done 0 ∷ Done 0 ∷ []) ≡ t
 unfolding next after_transfers
-goes s t begun choice free ends is last =
-    ap (λ b. cond b s (after_timers (gets_credit s) (after_transfers s begun (Done 0 ∷ Done 0 ∷ [])))) free
-    ∙ ap (λ e. after_timers (gets_credit s) (after_choice (choice_of begun.counts s) (after_write_of begun (Done 0 ∷ Done 0 ∷ []) (after_read_of begun (Done 0 ∷ Done 0 ∷ []) e)))) ends
+goes s t begun choice ends is last =
+    ap (λ e. after_timers (gets_credit s) (after_choice (choice_of begun.counts s) (after_write_of begun (Done 0 ∷ Done 0 ∷ []) (after_read_of begun (Done 0 ∷ Done 0 ∷ []) e)))) ends
     ∙ ap (λ ch. after_timers (gets_credit s) (after_choice ch (after_write_of begun (Done 0 ∷ Done 0 ∷ []) (after_read_of begun (Done 0 ∷ Done 0 ∷ []) s)))) is
     ∙ last
 
@@ -213,7 +212,7 @@ one_less k = omega arith
 chooses : (memory : ℕ → ℕ) (m r w k : ℕ) → Steps memory (busy m r w (suc k) None []) (busy m r w k (Some 0) []) []
 chooses memory m r w k =
     steps memory _ _ (begun_with 0 access.Nothing access.Nothing) (begun_none memory m r w (suc k))
-    (goes (busy m r w (suc k) None []) (busy m r w (suc k - 1) (Some 0) []) (begun_with 0 access.Nothing access.Nothing) (Some 0) refl
+    (goes (busy m r w (suc k) None []) (busy m r w (suc k - 1) (Some 0) []) (begun_with 0 access.Nothing access.Nothing) (Some 0)
     (ends_none m r w (suc k) (not_zero k)) (choice_is m r w (suc k) None [] (not_zero k)) (choose_last m r w (suc k))
     ∙ ap (λ c. busy m r w c (Some 0) []) (one_less k))
 
@@ -224,7 +223,7 @@ reads_first memory m r w k h g =
     let d = memory (r / 4 * 4) % 2 ^ 32 in
     steps memory _ _ (begun_with 0 (reading (r / 4 * 4) d) access.Nothing) (begun_read memory m r w (suc k) _ _ (placed r h))
     (goes (busy m r w (suc k) (Some 0) []) (busy m ((r + 4) % 2 ^ 32) ((w + 4) % 2 ^ 32) (suc k - 1) (Some 0) (pending (w / 4 * 4) d ∷ []))
-    (begun_with 0 (reading (r / 4 * 4) d) access.Nothing) (Some 0) refl
+    (begun_with 0 (reading (r / 4 * 4) d) access.Nothing) (Some 0)
     (ends_read m r w (suc k) (not_zero k)) (choice_is m r w (suc k) (Some 0) [] (not_zero k)) (read_last m r w (suc k) (r / 4 * 4) d)
     ∙ ap (λ c. busy m ((r + 4) % 2 ^ 32) ((w + 4) % 2 ^ 32) c (Some 0) (pending (w / 4 * 4) d ∷ [])) (one_less k)
     ∙ state_is m r w k 0 d (word memory r) (Some 0) h g (word_at memory r h))
@@ -243,7 +242,7 @@ does_both memory m r w k x v h g f =
     let d = memory (r / 4 * 4) % 2 ^ 32 in
     steps memory _ _ (begun_with 0 (reading (r / 4 * 4) d) (writing x v)) (begun_both memory m r w (suc k) _ _ _ _ x v (placed r h) (place x f))
     (goes (busy m r w (suc k) (Some 0) (pending x v ∷ [])) (busy m ((r + 4) % 2 ^ 32) ((w + 4) % 2 ^ 32) (suc k - 1) (Some 0) (pending (w / 4 * 4) d ∷ []))
-    (begun_with 0 (reading (r / 4 * 4) d) (writing x v)) (Some 0) refl
+    (begun_with 0 (reading (r / 4 * 4) d) (writing x v)) (Some 0)
     (ends_both m r w (suc k) x v (not_zero k)) (choice_is m r w (suc k) (Some 0) (pending x v ∷ []) (not_zero k)) (both_last m r w (suc k) (r / 4 * 4) d x v)
     ∙ ap (λ c. busy m ((r + 4) % 2 ^ 32) ((w + 4) % 2 ^ 32) c (Some 0) (pending (w / 4 * 4) d ∷ [])) (one_less k)
     ∙ state_is m r w k 0 d (word memory r) (Some 0) h g (word_at memory r h))

@@ -177,8 +177,7 @@ pub next-no_counts : (s : Engine) (begun : BegunTransfer) (turns : List Turn) �
     may_ask_counts (next s begun turns) ≡ false
 unfolding may_ask_counts next
 next-no_counts s begun turns h =
-    either_waits s.held s (after_timers (gets_credit s) (after_transfers s begun turns)) h
-    (timers_wait (gets_credit s) (after_transfers s begun turns) (transfers_wait s begun turns h))
+    timers_wait (gets_credit s) (after_transfers s begun turns) (transfers_wait s begun turns h)
 
 -- ---- what the engine asks
 
@@ -207,10 +206,6 @@ countless_read : (counts : ℕ) (s : Engine) → Countless (asks_read counts s)
 unfolding asks_read
 countless_read counts s = countless_for counts (write_begun s) (next_request s)
 
-held_or : {B : Type 0} (b : Bool) (t u : Asking B) → Countless t → Countless u → Countless (if b then t else u)
-held_or true t u h i = h
-held_or false t u h i = i
-
 told_or : {B : Type 0} (b : Bool) (t u : Asking B) → b ≡ false → Countless u → Countless (if b then t else u)
 told_or true t u e h = absurd (cc e)
 told_or false t u e h = h
@@ -218,8 +213,7 @@ told_or false t u e h = h
 countless : (s : Engine) → may_ask_counts s ≡ false → Countless (asks s)
 unfolding asks may_ask_counts
 countless s h =
-    held_or s.held _ _ (record { none = tt })
-    (told_or (list_any waits_for_counts s.channels) _ _ (none_waits s.channels h) (countless_read 0 s))
+    told_or (list_any waits_for_counts s.channels) _ _ (none_waits s.channels h) (countless_read 0 s)
 
 pub asks-no_counts : (s : Engine) → may_ask_counts s ≡ false → AsksNoCounts (asks s)
 asks-no_counts s h = (countless s h).none

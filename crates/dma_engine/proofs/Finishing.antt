@@ -7,14 +7,10 @@ use Rattle.dma_engine.specs.Timer.{gets_credit, after_timers}
 use Rattle.dma_engine.specs.Cycle.{after_transfers, next}
 use Rattle.dma_engine.proofs.InTurn.{after_timers-same}
 
-pub other_of : {A : Type 0} (b : Bool) (x y : A) → b ≡ false → cond b x y ≡ y
-other_of true x y h = absurd (cc)
-other_of false x y h = refl
-
-pub finished : (s moved new : Engine) (begun : BegunTransfer) (turns : List Turn) (credits : List Bool) → s.held ≡ false →
+pub finished : (s moved new : Engine) (begun : BegunTransfer) (turns : List Turn) (credits : List Bool) →
     ((k : ℕ) → k < 12 → get_or credits k false ≡ gets_credit s k) → moved ≡ after_transfers s begun turns →
     new ≡ after_timers (λ k. get_or credits k false) moved → new ≡ next s begun turns
 unfolding next
-finished s moved new begun turns credits held told is last =
+finished s moved new begun turns credits told is last =
     last ∙ after_timers-same (λ k. get_or credits k false) (gets_credit s) moved told
-    ∙ ap (after_timers (gets_credit s)) is ∙ sym (other_of s.held s (after_timers (gets_credit s) (after_transfers s begun turns)) held)
+    ∙ ap (after_timers (gets_credit s)) is

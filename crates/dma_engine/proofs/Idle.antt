@@ -12,7 +12,6 @@ use Rattle.dma_engine.specs.Cycle.{is_over, word_read, is_written, after_ends, a
 use Rattle.dma_engine.proofs.InTurn.{after_ends-none, in_turn-all_failing}
 use Rattle.dma_engine.proofs.Search.{no_choice}
 use Rattle.dma_engine.proofs.TimersAtRest.{gets_none}
-use Rattle.dma_engine.proofs.Finishing.{other_of}
 
 nothing_of : (word : Option ℕ) → word_read access.Nothing word ≡ None
 nothing_of None = refl
@@ -52,11 +51,10 @@ nothing_moves s begun turns read write choice ends =
     ∙ ap (λ o. after_choice o s) (no_choice begun.counts s choice) ∙ none_chosen s.chosen s
 
 -- and where no timer gives a credit the timers step alone
-pub finished_without : (s moved new : Engine) (begun : BegunTransfer) (turns : List Turn) (given : List Bool) → s.held ≡ false →
+pub finished_without : (s moved new : Engine) (begun : BegunTransfer) (turns : List Turn) (given : List Bool) →
     given ≡ given_by s.timers → list_any (λ b. b) given ≡ false → moved ≡ after_transfers s begun turns →
     new ≡ with_stepped_timers moved → new ≡ next s begun turns
 unfolding next after_timers
-finished_without s moved new begun turns given held is none moves last =
+finished_without s moved new begun turns given is none moves last =
     last ∙ ap with_stepped_timers moves
     ∙ sym (in_turn-all_failing (gets_credit s) with_credit 12 (with_stepped_timers (after_transfers s begun turns)) (λ k low. gets_none s given is none k))
-    ∙ sym (other_of s.held s (after_timers (gets_credit s) (after_transfers s begun turns)) held)

@@ -258,19 +258,18 @@ same_read : (f g : Ask → ℕ) (counts : ℕ) (s : Engine) → (answered f (ask
 unfolding asks_read
 same_read f g counts s h = same_for f g counts (write_begun s) (next_request s) h
 
--- what it asks, by whether it is held and waits for the counts
-abbrev asks_by : Bool → Bool → Engine → Asking BegunTransfer
-asks_by held waits s = if held then Ready idle_begun else if waits then Question Pacing (λ counts. asks_read counts s) else asks_read 0 s
+-- what it asks, by whether it waits for the counts
+abbrev asks_by : Bool → Engine → Asking BegunTransfer
+asks_by waits s = if waits then Question Pacing (λ counts. asks_read counts s) else asks_read 0 s
 
-same_by : (held waits : Bool) (f g : Ask → ℕ) (s : Engine) → g Pacing ≡ f Pacing → (answered f (asks_by held waits s)).read ≡ access.Nothing
-    → answered g (asks_by held waits s) ≡ answered f (asks_by held waits s)
-same_by true waits f g s e h = refl
-same_by false true f g s e h = ap (λ (counts : ℕ). answered g (asks_read counts s)) e ∙ same_read f g (f Pacing) s h
-same_by false false f g s e h = same_read f g 0 s h
+same_by : (waits : Bool) (f g : Ask → ℕ) (s : Engine) → g Pacing ≡ f Pacing → (answered f (asks_by waits s)).read ≡ access.Nothing
+    → answered g (asks_by waits s) ≡ answered f (asks_by waits s)
+same_by true f g s e h = ap (λ (counts : ℕ). answered g (asks_read counts s)) e ∙ same_read f g (f Pacing) s h
+same_by false f g s e h = same_read f g 0 s h
 
 same_begun : (f g : Ask → ℕ) (s : Engine) → g Pacing ≡ f Pacing → (answered f (asks s)).read ≡ access.Nothing → answered g (asks s) ≡ answered f (asks s)
 unfolding asks
-same_begun f g s e h = same_by s.held (list_any waits_for_counts s.channels) f g s e h
+same_begun f g s e h = same_by (list_any waits_for_counts s.channels) f g s e h
 
 pub unmoved_quiet : (s : Engine) (begun : BegunTransfer) (counts n : ℕ) (f : Ask → ℕ) → begun ≡ answered f (asks s) → StaysBy counts s → begun.counts ≡ counts
     → begun.read ≡ access.Nothing → begun.write ≡ access.Nothing → IsQuiet (f Pacing) s n

@@ -21,14 +21,12 @@ use Rattle.dma_engine.specs.Requests.Pace.{Sender, Receiver, Timer, Always, Neve
 use Rattle.dma_engine.specs.Timer.{gives, stepped, given_by, with_stepped_timers}
 use Rattle.dma_engine.specs.Cycle.{uses_credits, is_over, next}
 use Rattle.dma_engine.specs.Paused.{lacks_credit, is_paused_channel, is_paused}
-use Rattle.dma_engine.proofs.Finishing.{other_of}
-use Rattle.dma_engine.proofs.TimersAtRest.{both_left, both_right, not_is}
+use Rattle.dma_engine.proofs.TimersAtRest.{both_left, both_right}
 use Rattle.dma_engine.proofs.Idle.{nothing_moves, finished_without}
 
 -- ---- what a paused engine is
 
 record Pauses (s : Engine) : Type 0 where
-  held : s.held ≡ false
   chosen : s.chosen ≡ None
   waiting : s.waiting ≡ []
   channels : list_all is_paused_channel s.channels ≡ true
@@ -44,13 +42,10 @@ empty_is (w ∷ ws) h = absurd (grind (arith, nat_tests, common_steps))
 pauses : (s : Engine) → is_paused s ≡ true → Pauses s
 unfolding is_paused
 pauses s h =
-    let others : (is_none s.chosen && (nat_eq (length s.waiting) 0 && list_all is_paused_channel s.channels)) ≡ true =
-    both_right (not s.held) _ h in
     let last : (nat_eq (length s.waiting) 0 && list_all is_paused_channel s.channels) ≡ true =
-    both_right (is_none s.chosen) _ others in
+    both_right (is_none s.chosen) _ h in
     record {
-      held = not_is s.held (both_left (not s.held) _ h);
-      chosen = none_is s.chosen (both_left (is_none s.chosen) _ others);
+      chosen = none_is s.chosen (both_left (is_none s.chosen) _ h);
       waiting = empty_is s.waiting (both_left (nat_eq (length s.waiting) 0) _ last);
       channels = both_right (nat_eq (length s.waiting) 0) _ last;
     }
@@ -154,7 +149,7 @@ pub asks-paused : (s : Engine) → is_paused s ≡ true → asks s ≡ Ready idl
 unfolding asks
 asks-paused s h =
     let p : Pauses s = pauses s h in
-    other_of s.held (Ready idle_begun) _ p.held ∙ rw (none_waits s.channels p.channels) (reads_nothing s p)
+    rw (none_waits s.channels p.channels) (reads_nothing s p)
 
 -- ---- its cycle
 
@@ -172,7 +167,7 @@ next-paused : (s new : Engine) (begun : BegunTransfer) (turns : List Turn) → i
     new ≡ with_stepped_timers s → new ≡ next s begun turns
 next-paused s new begun turns h read write none last =
     let p : Pauses s = pauses s h in
-    finished_without s s new begun turns (given_by s.timers) p.held refl (none_given s.timers none)
+    finished_without s s new begun turns (given_by s.timers) refl (none_given s.timers none)
     (sym (nothing_moves s begun turns read write (λ k low. not_candidate s begun.counts k p) (λ k low. not_over s k p))) last
 
 -- the same of an engine that was opened

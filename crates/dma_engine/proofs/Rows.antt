@@ -6,7 +6,7 @@ use Rattle.std.proofs.lemmas.Bool.Decides.{nat_tests}
 use Rattle.rp_base.specs.Rows.{Row, at_row, word_at, effect_at}
 use Rattle.rp_base.proofs.Rows.{listed, cut, in_stride, strided, still}
 use Rattle.dma_engine.specs.State.{Engine}
-use Rattle.dma_engine.specs.Words.{channel_rows, block_rows, dma_rows, listed_word, is_word, after_any}
+use Rattle.dma_engine.specs.Words.{channel_rows, block_rows, dma_rows, word_of, is_word, effect_of}
 
 low : {A : Type 0} (none : A) (found : Row ⊤ Engine → ℕ → A) (at : ℕ) → at < 0x300
     → at_row none found dma_rows at ≡ in_stride 0 none (λ row. found row (at / 64)) channel_rows (at % 64)
@@ -23,28 +23,28 @@ high none found at h =
     ∙ ap (λ b. cond b (at_row none found channel_rows at) (at_row none found block_rows at)) is
 
 pub low_word : (s : Engine) (at : ℕ) → at < 0x300
-    → listed_word at s ≡ in_stride 0 None (λ row. Some (row.reads (at / 64) tt s)) (channel_rows {V = ⊤}) (at % 64)
-unfolding listed_word
+    → word_of at s ≡ in_stride 0 None (λ row. Some (row.reads (at / 64) tt s)) (channel_rows {V = ⊤}) (at % 64)
+unfolding word_of
 low_word s at h = low None (λ row n. Some (row.reads n tt s)) at h
 
-pub high_word : (s : Engine) (at : ℕ) → 0x300 ≤ at → listed_word at s ≡ word_at (block_rows {V = ⊤}) tt at s
-unfolding listed_word
+pub high_word : (s : Engine) (at : ℕ) → 0x300 ≤ at → word_of at s ≡ word_at (block_rows {V = ⊤}) tt at s
+unfolding word_of
 high_word s at h = high None (λ row n. Some (row.reads n tt s)) at h
 
 pub low_write : (at w : ℕ) (s : Engine) → at < 0x300
-    → after_any at (Some w) s ≡ in_stride 0 s (λ row. row.write_does (at / 64) w s) (channel_rows {V = ⊤}) (at % 64)
-unfolding after_any
+    → effect_of at (Some w) s ≡ in_stride 0 s (λ row. row.write_does (at / 64) w s) (channel_rows {V = ⊤}) (at % 64)
+unfolding effect_of
 low_write at w s h = low s (λ row n. row.write_does n w s) at h
 
-pub high_write : (at w : ℕ) (s : Engine) → 0x300 ≤ at → after_any at (Some w) s ≡ effect_at (block_rows {V = ⊤}) at (Some w) s
-unfolding after_any
+pub high_write : (at w : ℕ) (s : Engine) → 0x300 ≤ at → effect_of at (Some w) s ≡ effect_at (block_rows {V = ⊤}) at (Some w) s
+unfolding effect_of
 high_write at w s h = high s (λ row n. row.write_does n w s) at h
 
 -- a read does nothing
-pub reads : (at : ℕ) (s : Engine) → after_any at None s ≡ s
-unfolding after_any
+pub reads : (at : ℕ) (s : Engine) → effect_of at None s ≡ s
+unfolding effect_of
 reads at s = still dma_rows at s (search rules)
 
-pub there : (s : Engine) (at : ℕ) → is_some (listed_word at s) ≡ is_word at
-unfolding listed_word is_word
+pub there : (s : Engine) (at : ℕ) → is_some (word_of at s) ≡ is_word at
+unfolding word_of is_word
 there s at = sym ((listed dma_rows refl).is_word at tt s)

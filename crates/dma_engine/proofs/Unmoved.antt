@@ -21,13 +21,8 @@ stays_by s counts timers choice ends = record {
   stays = λ begun same read write turns.
       let moved : after_transfers s begun turns ≡ s =
       nothing_moves s begun turns read write (subst (λ c. (k : ℕ) → k < 12 → is_candidate false c s k ≡ false) (sym same) choice) ends in
-      ap (λ e. cond s.held s (after_timers (gets_credit s) e)) moved
-      ∙ either_same s.held (after_timers-at_rest s s timers timers);
+      ap (after_timers (gets_credit s)) moved ∙ after_timers-at_rest s s timers timers;
 }
-  where
-    either_same : {x y : Engine} (b : Bool) → x ≡ y → cond b y x ≡ y
-    either_same true h = refl
-    either_same false h = h
 
 pub unmoved_cycle : (s : Engine) (begun : BegunTransfer) (counts : ℕ) → StaysBy counts s → begun.counts ≡ counts → begun.read ≡ access.Nothing
     → begun.write ≡ access.Nothing → (turns : List Turn) → next s begun turns ≡ s

@@ -101,7 +101,6 @@ idle_begun = begun_with 0 access.Nothing access.Nothing
 
 unfoldable pub asks : Engine → Asking BegunTransfer
 asks s =
-    if s.held then Ready idle_begun else
     if list_any waits_for_counts s.channels
     then Question Pacing (λ counts. asks_read counts s)
     else asks_read 0 s

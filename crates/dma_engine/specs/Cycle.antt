@@ -141,7 +141,6 @@ unfoldable pub after_transfers : Engine → BegunTransfer → List Turn → Engi
 after_transfers s begun turns =
     after_choice (choice_of begun.counts s) (after_write_of begun turns (after_read_of begun turns (after_ends s)))
 
--- an engine that is held does not step; which channels are over, which one is ready, and which ones get a credit, is found at
--- the start
+-- which channels are over, which one is ready, and which ones get a credit, is found at the start
 unfoldable pub next : Engine → BegunTransfer → List Turn → Engine
-next s begun turns = if s.held then s else after_timers (gets_credit s) (after_transfers s begun turns)
+next s begun turns = after_timers (gets_credit s) (after_transfers s begun turns)

@@ -15,6 +15,6 @@ lacks_credit c = uses_credits (pace_of (treq_of c)) && (not (nat_lt (treq_of c) 
 abbrev pub is_paused_channel : Channel → Bool
 is_paused_channel c = not c.busy || (not (c.count == 0) && lacks_credit c)
 
--- the engine is not held, no channel is chosen, no write waits, and every channel is idle or lacks a credit
+-- no channel is chosen, no write waits, and every channel is idle or lacks a credit
 unfoldable pub is_paused : Engine → Bool
-is_paused s = not s.held && (is_none s.chosen && (length s.waiting == 0 && list_all is_paused_channel s.channels))
+is_paused s = is_none s.chosen && (length s.waiting == 0 && list_all is_paused_channel s.channels)

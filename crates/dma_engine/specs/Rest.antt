@@ -4,13 +4,14 @@ use Rattle.std.specs.List.{list_all}
 use Rattle.dma_engine.specs.declared.channel.Channel.{Channel}
 use Rattle.dma_engine.specs.declared.timer.PacingTimer.{PacingTimer}
 use Rattle.lane_look.specs.Asking.Asking.{Ready}
+use Rattle.lane_look.specs.Steps.{IsAtRest}
 use Rattle.lane_look.specs.declared.lane.Turn.{Turn}
 use Rattle.lane_look.specs.declared.lane.Want.TheVariants as want
 use Rattle.dma_engine.specs.declared.begun.BegunTransfer.{BegunTransfer}
 use Rattle.dma_engine.specs.Timer.{runs}
 use Rattle.dma_engine.specs.Asks.{asks, idle_begun}
 use Rattle.dma_engine.specs.Cycle.{wanted, next}
-use Rattle.dma_engine.specs.State.{Engine}
+use Rattle.dma_engine.specs.State.{Engine, at_reset}
 use Rattle.dma_engine.specs.Words.{is_silent}
 
 abbrev pub is_idle_channel : Channel → Bool
@@ -34,3 +35,7 @@ pub record StaysAtRest (s : Engine) : Type 0 where
   pub asks_nothing : asks s ≡ Ready idle_begun
   pub wants_nothing : wanted idle_begun ≡ want.Nothing ∷ want.Nothing ∷ []
   pub stays : (begun : BegunTransfer) (turns : List Turn) → next s begun turns ≡ s
+
+-- in its reset state, and so where it is held, the engine asks nothing, wants nothing and stays as it is
+abbrev pub AnEngineRestsAtReset : Type 0
+AnEngineRestsAtReset = IsAtRest (λ s cycle. asks s) wanted next at_reset

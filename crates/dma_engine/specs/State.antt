@@ -1,5 +1,5 @@
 -- The DMA engine between two cycles (RP2040 Datasheet, 2.5 "DMA").
-use Rattle.std.specs.Prelude.{ℕ, Bool, true, false, List, [], replicate, Option, None, slice_index_or}
+use Rattle.std.specs.Prelude.{ℕ, false, List, [], replicate, Option, None, slice_index_or}
 use Rattle.dma_engine.specs.declared.channel.Channel.{Channel}
 use Rattle.dma_engine.specs.declared.waiting.WaitingWrite.{WaitingWrite}
 use Rattle.dma_engine.specs.declared.timer.PacingTimer.{PacingTimer}
@@ -21,8 +21,6 @@ pub record Engine : Type 0 where
   pub line_1 : InterruptLine
   -- the four pacing timers
   pub timers : List PacingTimer
-  -- the engine's bit of RESETS is set
-  pub held : Bool
 
 abbrev pub idle_channel : Channel
 idle_channel =
@@ -43,8 +41,8 @@ silent_line = record { enable = 0; force = 0 }
 
 -- after a reset nothing is in progress and every register is 0; the first channel to be looked at is channel 0, which
 -- follows channel 11
-abbrev pub reset_state : Bool → Engine
-reset_state held =
+abbrev pub at_reset : Engine
+at_reset =
     record {
       channels = replicate 12 idle_channel;
       chosen = None;
@@ -54,10 +52,4 @@ reset_state held =
       line_0 = silent_line;
       line_1 = silent_line;
       timers = replicate 4 stopped_timer;
-      held = held;
     }
-
--- the engine's bit of RESETS: setting it puts the engine in its reset state
-abbrev pub with_hold : Bool → Engine → Engine
-with_hold true s = reset_state true
-with_hold false s = record s { held = false }

@@ -13,7 +13,7 @@ use Rattle.dma_engine.specs.declared.begun.BegunTransfer.{BegunTransfer}
 use Rattle.dma_engine.specs.Asks.{asks}
 use Rattle.dma_engine.specs.Channel.{with_abort}
 use Rattle.dma_engine.specs.Cycle.{want_of, next}
-use Rattle.dma_engine.specs.State.{Engine, idle_channel, reset_state}
+use Rattle.dma_engine.specs.State.{Engine, idle_channel, at_reset}
 use Rattle.dma_engine.specs.Transfer.{advanced}
 
 -- ---- a copy of words
@@ -34,7 +34,7 @@ copier reload read write count busy = record {
 -- channel 0 is such a one, and the others are as after a reset
 abbrev pub alone : Channel → Option ℕ → List WaitingWrite → ℕ → Engine
 alone c chosen waiting raised =
-    record (reset_state false) {
+    record at_reset {
       channels = c ∷ replicate 11 idle_channel;
       chosen = chosen;
       last_chosen = 0;

@@ -1,9 +1,8 @@
 -- The registers of the engine (RP2040 Datasheet, 2.5.7, List of Registers), by their offsets after 50000000.
 use Prim.Native.String.{String}
 use Rattle.std.specs.Prelude.{ℕ, ◌+◌, ◌-◌, ◌*◌, ◌/◌, ◌%◌, ◌^◌, Bool, not, ◌&&◌, ◌==◌, if◌then◌else◌, List, [], ◌∷◌, ◌++◌, Option, bit_and, bit_or, slice_set, ⊤}
-use Rattle.rp_base.specs.Rows.{Row, read_only, write_only, read_write, repeated, word_at, has_row, effect_at, IsListed}
+use Rattle.rp_base.specs.Rows.{Row, read_only, write_only, read_write, repeated, word_at, has_row, effect_at, IsListed, IsHeld}
 use Rattle.rp_base.specs.Word.{has_bit, bit_number}
-use Rattle.rp_base.specs.Held.{unless_held, after_access}
 use Rattle.dma_engine.specs.declared.channel.Channel.{Channel}
 use Rattle.dma_engine.specs.declared.timer.PacingTimer.{PacingTimer}
 use Rattle.dma_engine.specs.declared.line.InterruptLine.{InterruptLine}
@@ -111,25 +110,23 @@ block_rows =
 abbrev pub dma_rows : List (Row ⊤ Engine)
 dma_rows = channel_rows ++ block_rows
 
--- what a word reads as where the engine is not held; None where there is no such word
-unfoldable pub listed_word : ℕ → Engine → Option ℕ
-listed_word offset s = word_at dma_rows tt offset s
-
-abbrev pub word_of : ℕ → Engine → Option ℕ
-word_of offset s = unless_held s.held (listed_word offset s)
+-- what a word reads as; None where there is no such word
+unfoldable pub word_of : ℕ → Engine → Option ℕ
+word_of offset s = word_at dma_rows tt offset s
 
 unfoldable pub is_word : ℕ → Bool
 is_word offset = has_row dma_rows offset
 
-unfoldable pub after_any : ℕ → Option ℕ → Engine → Engine
-after_any offset write s = effect_at dma_rows offset write s
-
-abbrev pub effect_of : ℕ → Option ℕ → Engine → Engine
-effect_of offset write s = after_access (is_word offset) s.held s (after_any offset write s)
+unfoldable pub effect_of : ℕ → Option ℕ → Engine → Engine
+effect_of offset write s = effect_at dma_rows offset write s
 
 -- each register is what stands at its offset, and nothing stands at any other
 abbrev pub EachRegisterIsAtItsOffset : Type 0
 EachRegisterIsAtItsOffset = IsListed dma_rows
+
+-- an engine that is held reads as 0, and stays as it is
+abbrev pub AnEngineThatIsHeldIsStill : Type 0
+AnEngineThatIsHeldIsStill = IsHeld dma_rows
 
 -- ---- interrupt lines
 

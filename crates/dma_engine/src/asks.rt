@@ -161,10 +161,6 @@ impl Engine {
     pub(crate) fn ask<K: Look>(&self, look: &mut K, begun: &mut BegunTransfer)
         ensures { Runs K.answers look.old (asks self.now) begun.new look.new }
     {
-        if self.held {
-            *begun = BegunTransfer::nothing();
-            return;
-        }
         begun.counts = if self.waits_for_counts() {
             look.ask(Ask::Pacing)
         } else {

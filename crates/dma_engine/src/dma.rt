@@ -7,7 +7,7 @@ use crate::begun::BegunTransfer;
 use crate::engine::Engine;
 use crate::finish::is_nothing;
 use lane_look::Turn;
-use rp_base::Registers;
+use rp_base::{Registers, Reset};
 use std::marker::Model;
 
 /// The DMA engine: its channels, pacing timers and interrupts, the transfer that is chosen, and the writes that wait.
@@ -53,14 +53,14 @@ impl Dma {
     ghost use Rattle.dma_engine.specs.Cycle.{next};
     ghost use Rattle.dma_engine.specs.Paused.{is_paused};
     ghost use Rattle.dma_engine.specs.Rest.{is_still, StaysAtRest};
-    ghost use Rattle.dma_engine.specs.State.{reset_state, with_hold};
+    ghost use Rattle.dma_engine.specs.State.{at_reset};
     ghost use Rattle.dma_engine.specs.Words.{word_of, is_word, effect_of, is_silent, lines_of};
 
     /// The engine in its reset state: no channel is busy, and every register is 0.
     pub fn new() -> Dma
-        ensures { result ≡ reset_state false }
+        ensures { result ≡ at_reset }
     {
-        let engine = Engine::new(false);
+        let engine = Engine::new();
         let at_rest = engine.is_still();
         let paused = engine.is_paused();
         let counts = engine.may_ask_counts();
@@ -75,16 +75,15 @@ impl Dma {
         }
     }
 
-    /// The word at an offset of the plain view (RP2040 Datasheet, 2.5.7); 0 where the engine is held. None exactly where
-    /// there is no such word.
+    /// The word at an offset of the plain view (RP2040 Datasheet, 2.5.7). None exactly where there is no such word.
     pub fn read(&self, offset: u16) -> Option<u32>
         ensures { result ≡ word_of offset self.now }
     {
         self.engine.read(offset)
     }
 
-    /// Does what a read, or a write of this word, does to the engine; nothing where it is held. False exactly where there
-    /// is no such word, and nothing is changed then.
+    /// Does what a read, or a write of this word, does to the engine. False exactly where there is no such word, and nothing is
+    /// changed then.
     pub fn effect(&mut self, offset: u16, write: Option<u32>) -> bool
         ensures after { self.new ≡ effect_of offset write self.old }
         ensures allowed { result ≡ is_word offset }
@@ -103,18 +102,6 @@ impl Dma {
         ensures { result ≡ is_word offset }
     {
         self.engine.allows(offset)
-    }
-
-    /// Sets the copy of the engine's bit of RESETS. A bit that is set puts the engine in its reset state, and holds it.
-    pub fn set_held(&mut self, held: bool)
-        ensures { self.new ≡ with_hold held self.old }
-    {
-        self.engine.set_held(held);
-        self.at_rest = self.engine.is_still();
-        self.paused = self.engine.is_paused();
-        self.counts = self.engine.may_ask_counts();
-        self.silent = self.engine.is_silent();
-        self.unmoved_by = None;
     }
 
     /// The engine is at rest: no channel is busy or chosen, no write waits, no timer runs, and no interrupt is raised or forced.
@@ -206,6 +193,16 @@ impl Dma {
         ensures { result ≡ lines_of self.now }
     {
         self.engine.lines()
+    }
+}
+
+impl Reset for Dma {
+    ghost use Rattle.dma_engine.specs.State.{at_reset};
+
+    ghost first = { at_reset };
+
+    fn reset(&mut self) {
+        *self = Dma::new();
     }
 }
 

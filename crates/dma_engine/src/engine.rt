@@ -23,7 +23,6 @@ pub(crate) struct Engine {
     pub(crate) line_0: InterruptLine,
     pub(crate) line_1: InterruptLine,
     pub(crate) timers: [PacingTimer; 4],
-    pub(crate) held: bool,
 }
 
 impl Model for Engine {
@@ -40,17 +39,16 @@ impl Model for Engine {
       line_0 = e.line_0;
       line_1 = e.line_1;
       timers = e.timers;
-      held = e.held;
     } };
 }
 
 impl Engine {
-    ghost use Rattle.dma_engine.specs.State.{reset_state, with_hold};
+    ghost use Rattle.dma_engine.specs.State.{at_reset};
     ghost use Rattle.dma_engine.specs.Words.{is_silent, lines_of};
 
     /// The reset state.
-    pub(crate) fn new(held: bool) -> Engine
-        ensures { result ≡ reset_state held }
+    pub(crate) fn new() -> Engine
+        ensures { result ≡ at_reset }
     {
         Engine {
             channels: [Channel::IDLE; 12],
@@ -61,18 +59,6 @@ impl Engine {
             line_0: InterruptLine::SILENT,
             line_1: InterruptLine::SILENT,
             timers: [PacingTimer::STOPPED; 4],
-            held,
-        }
-    }
-
-    /// Sets the engine's bit of RESETS.
-    pub(crate) fn set_held(&mut self, held: bool)
-        ensures { self.new ≡ with_hold held self.old }
-    {
-        if held {
-            *self = Engine::new(true);
-        } else {
-            self.held = false;
         }
     }
 
@@ -113,7 +99,6 @@ impl Engine {
             & line_0
             & line_1
             & timers
-            & (self.held == other.held)
     }
 
     /// Takes the state of another engine.
@@ -129,6 +114,5 @@ impl Engine {
         self.line_0 = other.line_0;
         self.line_1 = other.line_1;
         self.timers = other.timers;
-        self.held = other.held;
     }
 }

@@ -290,12 +290,11 @@ impl Engine {
         channel.take_credit();
     }
 
-    /// The cycle of an engine that is not held, in which some timer gives a credit.
+    /// The cycle, in which some timer gives a credit.
     #[inline(never)]
     #[tactic(auto, unfolding(crate::specs::Cycle::next))]
     fn finish_with_credits(&mut self, begun: &BegunTransfer, turns: &[Turn; 2], given: &[bool; 4])
-        requires held { self.old.held ≡ false }
-        requires given { given.now ≡ given_by self.old.timers }
+        requires { given.now ≡ given_by self.old.timers }
         ensures { self.new ≡ next self.old begun.now turns.now }
     {
         let credited = self.credited(given);
@@ -383,9 +382,6 @@ impl Engine {
         ensures paused { result ≡ false → is_paused self.new ≡ is_paused self.old }
         ensures silent { result ≡ false → is_silent self.new ≡ is_silent self.old }
     {
-        if self.held {
-            return false;
-        }
         let given = given_by(&self.timers);
         if some_given(&given) {
             self.finish_with_credits(begun, turns, &given);

@@ -3,8 +3,9 @@
 ghost use Rattle.dma_engine.specs.Laws.{TheChoiceComesFirst};
 ghost use Rattle.dma_engine.specs.Pace.{CountsAreTakenAsPacked};
 ghost use Rattle.dma_engine.specs.TransferLaws.{ACopyIsExact, ARingKeepsItsHighBits, AnAbortRaisesNothing};
+ghost use Rattle.dma_engine.specs.Rest.{AnEngineRestsAtReset};
 ghost use Rattle.dma_engine.specs.InterruptLaws.{WhatIsEnabledOrForcedIsShown};
-ghost use Rattle.dma_engine.specs.Words.{EachRegisterIsAtItsOffset};
+ghost use Rattle.dma_engine.specs.Words.{EachRegisterIsAtItsOffset, AnEngineThatIsHeldIsStill};
 
 /// Counts of at most 63 that are packed into one answer are taken from it as they were.
 pub fn counts_are_taken_as_packed()
@@ -42,4 +43,14 @@ pub fn what_is_enabled_or_forced_is_shown()
 /// At the offset of each register stands that register, and nothing at any other.
 pub fn each_register_is_at_its_offset()
     ensures { EachRegisterIsAtItsOffset }
+{}
+
+/// In its reset state the engine asks nothing, wants nothing and stays as it is: so does one that is held.
+pub fn an_engine_rests_at_reset()
+    ensures { AnEngineRestsAtReset }
+{}
+
+/// An engine that is held reads 0, and no access changes it.
+pub fn an_engine_that_is_held_is_still()
+    ensures { AnEngineThatIsHeldIsStill }
 {}

@@ -85,13 +85,13 @@ impl Channel {
 }
 
 impl Engine {
-    /// The engine is not held, no channel is chosen, no write waits, and every channel is idle or lacks a credit.
+    /// No channel is chosen, no write waits, and every channel is idle or lacks a credit.
     #[inline(always)]
     #[tactic(auto, unfolding(crate::specs::Paused::is_paused))]
     pub(crate) fn is_paused(&self) -> bool
         ensures { result ≡ is_paused self.now }
     {
-        if self.held || self.chosen.is_some() || !self.waiting.is_empty() {
+        if self.chosen.is_some() || !self.waiting.is_empty() {
             return false;
         }
         are_paused(&self.channels)

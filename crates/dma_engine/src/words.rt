@@ -3,7 +3,7 @@
 ghost use Rattle.std.specs.Prelude.{◌≡◌, ◌*◌, ◌%◌, ◌^◌, ◌<◌, Some, None, ⊤};
 ghost use Rattle.rp_base.specs.Rows.{word_at, effect_at};
 ghost use Rattle.rp_base.proofs.Rows.{in_stride};
-ghost use Rattle.dma_engine.specs.Words.{trigger_word, channel_rows, without_raised, word_of_timer, with_timer_word, block_rows, listed_word, word_of, is_word, after_any, effect_of};
+ghost use Rattle.dma_engine.specs.Words.{trigger_word, channel_rows, without_raised, word_of_timer, with_timer_word, block_rows, word_of, is_word, effect_of};
 
 use crate::engine::Engine;
 use crate::registers::{
@@ -14,7 +14,6 @@ use crate::registers::{
     INTS0, INTS1, MULTI_CHAN_TRIGGER, N_CHANNELS, TIMER0, TIMER1, TIMER2, TIMER3,
 };
 use crate::timer::PacingTimer;
-use rp_base::unless_held;
 
 /// The bits of a word that channels have.
 fn low_half(word: u32) -> u16
@@ -41,9 +40,9 @@ impl PacingTimer {
 }
 
 impl Engine {
-    /// The word at an offset, where the engine is not held.
-    fn listed(&self, offset: u16) -> Option<u32>
-        ensures { result ≡ listed_word offset self.now }
+    /// The word at an offset.
+    pub(crate) fn read(&self, offset: u16) -> Option<u32>
+        ensures { result ≡ word_of offset self.now }
     {
         if offset < CHANNELS_END {
             self.channel_word(offset / 0x40, offset % 0x40)
@@ -52,19 +51,12 @@ impl Engine {
         }
     }
 
-    /// The word at an offset.
-    pub(crate) fn read(&self, offset: u16) -> Option<u32>
-        ensures { result ≡ word_of offset self.now }
-    {
-        unless_held(self.held, self.listed(offset))
-    }
-
     /// There is a word at the offset.
     #[tactic(auto, using(crate::proofs::Rows::there))]
     pub(crate) fn allows(&self, offset: u16) -> bool
         ensures { result ≡ is_word offset }
     {
-        self.listed(offset).is_some()
+        self.read(offset).is_some()
     }
 
     /// Does what a read, or a write of this word, does.
@@ -73,18 +65,15 @@ impl Engine {
         ensures after { self.new ≡ effect_of offset write self.old }
         ensures allowed { result ≡ is_word offset }
     {
-        let allowed = self.allows(offset);
         if let Some(word) = write {
-            if allowed && !self.held {
-                self.write(offset, word);
-            }
+            self.write(offset, word);
         }
-        allowed
+        self.allows(offset)
     }
 
     /// A write of a word.
     fn write(&mut self, offset: u16, word: u32)
-        ensures { self.new ≡ after_any offset (Some word) self.old }
+        ensures { self.new ≡ effect_of offset (Some word) self.old }
     {
         if offset < CHANNELS_END {
             self.write_channel((offset / 0x40) as u8, offset % 0x40, word);

@@ -13,13 +13,13 @@ use Rattle.rp_base.specs.Word.{bit_number}
 use Rattle.lane_look.specs.declared.lane.Ask.{Ask}
 use Rattle.lane_look.specs.declared.lane.Ask.TheVariants.{Pacing}
 use Rattle.lane_look.specs.Asking.{answered}
-use Rattle.lane_look.specs.Asking.Asking.{Ready, Question}
+use Rattle.lane_look.specs.Asking.Asking.{Question}
 use Rattle.dma_engine.specs.declared.channel.Channel.{Channel}
 use Rattle.dma_engine.specs.declared.waiting.WaitingWrite.{WaitingWrite}
 use Rattle.dma_engine.specs.declared.begun.Access.{Access}
 use Rattle.dma_engine.specs.declared.begun.Access.TheVariants as access
 use Rattle.dma_engine.specs.declared.begun.BegunTransfer.{BegunTransfer}
-use Rattle.dma_engine.specs.Asks.{may_be_device, outside, elsewhere, first_write, write_at, write_for, write_begun, read_for, next_request, asks_at, asks_for, asks_read, waits_for_counts, idle_begun, asks}
+use Rattle.dma_engine.specs.Asks.{may_be_device, outside, elsewhere, first_write, write_at, write_for, write_begun, read_for, next_request, asks_at, asks_for, asks_read, waits_for_counts, asks}
 use Rattle.dma_engine.specs.Channel.{changed, in_turn}
 use Rattle.dma_engine.specs.Choice.{is_ready, choice_of}
 use Rattle.dma_engine.specs.Control.{is_high}
@@ -83,11 +83,9 @@ begun_for : (f : Ask → ℕ) (e : Engine) (x : ℕ) (r : Option Request) → Be
 begun_for f e x None = record { read = λ u. no_read None u; write = refl }
 begun_for f e x (Some q) = begun_at f e x q (place_of q.address)
 
-begun_of : (f : Ask → ℕ) (e : Engine) → e.held ≡ false → Begun e (answered f (asks e)) (next_request e)
+begun_of : (f : Ask → ℕ) (e : Engine) → Begun e (answered f (asks e)) (next_request e)
 unfolding asks asks_read
-begun_of f e free =
-    subst (λ h. Begun e (answered f (cond h (Ready idle_begun) (cond (list_any waits_for_counts e.channels) (Question Pacing (λ counts. asks_read counts e)) (asks_read 0 e)))) (next_request e))
-    (sym free) (go (list_any waits_for_counts e.channels))
+begun_of f e = go (list_any waits_for_counts e.channels)
   where
     go : (b : Bool) → Begun e (answered f (cond b (Question Pacing (λ counts. asks_read counts e)) (asks_read 0 e))) (next_request e)
     go true = begun_for f e (f Pacing) (next_request e)
@@ -326,9 +324,9 @@ reading_other n k t x word apart at chosen =
           ∙ ap (λ v. one_write k v c) (sym by);
     }
 
-reading : (k : ℕ) (t : Cycle) (x : Engine) → k < 12 → t.engine.held ≡ false → At k x (channel_at k t.engine) t.engine.chosen t.engine.waiting
+reading : (k : ℕ) (t : Cycle) (x : Engine) → k < 12 → At k x (channel_at k t.engine) t.engine.chosen t.engine.waiting
     → Reading k t (after_read_of (begun_in t) t.turns x)
-reading k t x low free at = elim ((begun_of t.answers t.engine free).read (word_of (slice_get t.turns 0))) [
+reading k t x low at = elim ((begun_of t.answers t.engine).read (word_of (slice_get t.turns 0))) [
   | inl none ↦
       subst (λ w. Reading k t (after_read w x)) (sym none.0)
       (reading_none k t x (none_either k t (is_chosen k t.engine.chosen) refl none.0 none.1) at)
@@ -371,11 +369,11 @@ one_goes : (k : ℕ) (w : WaitingWrite) (ws : List WaitingWrite) (b : Bool) → 
 one_goes k w ws true e = of_chosen k w ws true e
 one_goes k w ws false e = of_chosen k w ws false e
 
-writing : (k : ℕ) (t : Cycle) (d : Channel) (o : Option ℕ) (more : List WaitingWrite) (x : Engine) → t.engine.held ≡ false
+writing : (k : ℕ) (t : Cycle) (d : Channel) (o : Option ℕ) (more : List WaitingWrite) (x : Engine)
     → At k x d o (t.engine.waiting ++ more) → Writing k t d o more (after_write_of (begun_in t) t.turns x)
-writing k t d o more x free at =
+writing k t d o more x at =
     let u = word_of (slice_get t.turns 1) in
-    let begun = (begun_of t.answers t.engine free).write in
+    let begun = (begun_of t.answers t.engine).write in
     elim (subst (λ a. WriteIs (first_write t.engine.waiting) a u) (sym begun) (begun_write_is t.engine u)) [
       | inl none ↦
           subst (λ b. Writing k t d o more (after_write b x)) (sym none.0)
@@ -587,16 +585,16 @@ ends_at k e low long busy going =
     let s = turns_same (is_over e) 12 k e low long busy (λ j less is. ap (is_over e) is ∙ going) in
     record { channel = s.channel; chosen = s.chosen; waiting = s.waiting; twelve = s.long ∙ long }
 
-stepped : (k : ℕ) (t : Cycle) → k < 12 → length t.engine.channels ≡ 12 → t.engine.held ≡ false → (channel_at k t.engine).busy ≡ true
+stepped : (k : ℕ) (t : Cycle) → k < 12 → length t.engine.channels ≡ 12 → (channel_at k t.engine).busy ≡ true
     → is_over t.engine k ≡ false → Steps k t (after_timers (gets_credit t.engine) (after_transfers t.engine (begun_in t) t.turns))
 unfolding after_transfers
-stepped k t low long free busy going =
+stepped k t low long busy going =
     let e = t.engine in
     let c = channel_at k e in
     let d = after_moves (word_by k t) c in
-    let r = reading k t (after_ends e) low free (ends_at k e low long busy going) in
+    let r = reading k t (after_ends e) low (ends_at k e low long busy going) in
     let read = after_read_of (begun_in t) t.turns (after_ends e) in
-    let w = writing k t d r.o r.more read free r.at in
+    let w = writing k t d r.o r.more read r.at in
     let written = after_write_of (begun_in t) t.turns read in
     let choice = choice_of (begun_in t).counts e in
     let h : Choosing k d r.o w.rest (after_choice choice written) =
@@ -616,12 +614,10 @@ stepped k t low long free busy going =
           ∙ ap (λ ws. written_by k t ++ of k ws) (sym (g.waiting ∙ h.waiting));
     }
 
-steps : (k : ℕ) (t : Cycle) → k < 12 → length t.engine.channels ≡ 12 → t.engine.held ≡ false → (channel_at k t.engine).busy ≡ true
+steps : (k : ℕ) (t : Cycle) → k < 12 → length t.engine.channels ≡ 12 → (channel_at k t.engine).busy ≡ true
     → is_over t.engine k ≡ false → Steps k t (after t)
 unfolding next
-steps k t low long free busy going =
-    subst (λ b. Steps k t (cond b t.engine (after_timers (gets_credit t.engine) (after_transfers t.engine (begun_in t) t.turns)))) (sym free)
-    (stepped k t low long free busy going)
+steps k t low long busy going = stepped k t low long busy going
 
 -- ---- transfers of channels that are alike
 
@@ -691,7 +687,7 @@ runs k s (t ∷ ts) low busy cycles =
     let e = t.engine in
     let c = channel_at k s in
     let here : channel_at k e ≡ c = left.channel in
-    let step = steps k t low left.twelve left.free (ap (λ (x : Channel). x.busy) here ∙ busy) cycles.1 in
+    let step = steps k t low left.twelve (ap (λ (x : Channel). x.busy) here ∙ busy) cycles.1 in
     let rest = runs k (after t) ts low step.busy cycles.2 in
     let o = word_by k t in
     let words = words_over k ts in

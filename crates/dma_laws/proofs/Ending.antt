@@ -62,11 +62,10 @@ transfers_raised t =
     ∙ write_raised (is_written b.write (word_of (slice_get t.turns 1))) read
     ∙ read_raised (word_read b.read (word_of (slice_get t.turns 0))) (after_ends t.engine)
 
-cycle_raised : (t : Cycle) → t.engine.held ≡ false → (after t).raised ≡ (after_ends t.engine).raised
+cycle_raised : (t : Cycle) → (after t).raised ≡ (after_ends t.engine).raised
 unfolding next
-cycle_raised t free =
-    ap (λ b. (cond b t.engine (after_timers (gets_credit t.engine) (after_transfers t.engine (begun_in t) t.turns))).raised) free
-    ∙ timers_raised (gets_credit t.engine) (after_transfers t.engine (begun_in t) t.turns) ∙ transfers_raised t
+cycle_raised t =
+    timers_raised (gets_credit t.engine) (after_transfers t.engine (begun_in t) t.turns) ∙ transfers_raised t
 
 -- ---- the ends, in turn
 
@@ -260,17 +259,16 @@ ends_long : (e : Engine) → length e.channels ≡ 12 → length (after_ends e).
 unfolding after_ends
 ends_long e long = (turns_moving (is_over e) 12 e).long ∙ long
 
-cycle_idle : (k : ℕ) (t : Cycle) → k < 12 → length t.engine.channels ≡ 12 → t.engine.held ≡ false → (channel_at k (after t)).busy ≡ (channel_at k (after_ends t.engine)).busy
+cycle_idle : (k : ℕ) (t : Cycle) → k < 12 → length t.engine.channels ≡ 12 → (channel_at k (after t)).busy ≡ (channel_at k (after_ends t.engine)).busy
 unfolding next
-cycle_idle k t low long free =
+cycle_idle k t low long =
     let x = after_transfers t.engine (begun_in t) t.turns in
     let m = transfers_idle k t low long in
-    ap (λ b. (channel_at k (cond b t.engine (after_timers (gets_credit t.engine) x))).busy) free
-    ∙ (timers_idle (gets_credit t.engine) k x low (m.long ∙ ends_long t.engine long)).busy ∙ m.busy
+    (timers_idle (gets_credit t.engine) k x low (m.long ∙ ends_long t.engine long)).busy ∙ m.busy
 
 pub an_end_is_raised : AnEndIsRaisedOnce
-an_end_is_raised k t low long free = record {
-  raised = ap (λ r. has_bit r k) (cycle_raised t free) ∙ ends_raised k t.engine low long;
+an_end_is_raised k t low long = record {
+  raised = ap (λ r. has_bit r k) (cycle_raised t) ∙ ends_raised k t.engine low long;
   idle = λ over alone.
-      cycle_idle k t low long free ∙ ap (λ e. (channel_at k e).busy) (ends_only k t.engine low over alone) ∙ end_idle k t.engine low long;
+      cycle_idle k t low long ∙ ap (λ e. (channel_at k e).busy) (ends_only k t.engine low over alone) ∙ end_idle k t.engine low long;
 }

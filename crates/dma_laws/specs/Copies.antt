@@ -87,7 +87,6 @@ pub record Leaves (k : ℕ) (s t : Engine) : Type 0 where
   pub chosen : t.chosen ≡ s.chosen
   pub waiting : t.waiting ≡ s.waiting
   pub twelve : length t.channels ≡ 12
-  pub free : t.held ≡ false
 
 -- these are the cycles of an engine from this state on, and at the start of none the sequence of the channel is over
 abbrev pub AreCycles : ℕ → Engine → List Cycle → Type 0
@@ -148,4 +147,4 @@ pub record Ends (k : ℕ) (t : Cycle) : Type 0 where
       → (channel_at k (after t)).busy ≡ false
 
 abbrev pub AnEndIsRaisedOnce : Type 0
-AnEndIsRaisedOnce = (k : ℕ) (t : Cycle) → k < 12 → length t.engine.channels ≡ 12 → t.engine.held ≡ false → Ends k t
+AnEndIsRaisedOnce = (k : ℕ) (t : Cycle) → k < 12 → length t.engine.channels ≡ 12 → Ends k t

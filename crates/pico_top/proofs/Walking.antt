@@ -214,7 +214,7 @@ same_loads (p ∷ ps) (l ∷ loads) h = ap (λ x. x ∷ loads_of ps (programs_of
 
 -- the cycle of a first state is 0
 load_cycle : (load : PioLoad) (s : State) → (with_load load s).cycle ≡ s.cycle
-load_cycle load s = elim (load.block == 0) as (λ b. (if b then record s { pio0 = block_loaded load s.pio0 } else record s { pio1 = block_loaded load s.pio1 }).cycle ≡ s.cycle) [ true ↦ refl | false ↦ refl ]
+load_cycle load s = elim (load.block == 0) as (λ b. (if b then record s { pio0 = with_block s.pio0 (block_loaded load s.pio0.block) } else record s { pio1 = with_block s.pio1 (block_loaded load s.pio1.block) }).cycle ≡ s.cycle) [ true ↦ refl | false ↦ refl ]
 
 loads_cycle : (loads : List PioLoad) (s : State) → (with_loads loads s).cycle ≡ s.cycle
 loads_cycle [] s = refl

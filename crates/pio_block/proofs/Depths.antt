@@ -10,7 +10,7 @@ use Rattle.pio_machine.specs.Start as machine
 use Rattle.pio_machine.specs.Clock.{IsWithin}
 use Rattle.pio_machine.specs.Cycle as cycle
 use Rattle.pio_machine.proofs.Clock.{a_cycle_keeps_the_fifos_within}
-use Rattle.pio_block.specs.State.{Block, at_reset, with_held, changed, each_from}
+use Rattle.pio_block.specs.State.{Block, at_reset, changed, each_from}
 use Rattle.pio_block.specs.Control.{restarted_if, with_divider_restarted, with_enable, controlled, control_written}
 use Rattle.pio_block.specs.Queues.{with_stalls_cleared, debug_written, with_sent, sent, with_rx, with_taken, taken}
 use Rattle.pio_machine.specs.Progress.{forced}
@@ -145,7 +145,7 @@ all-kept s w =
 effect-within : (offset : ℕ) (write : Option ℕ) (s : Block) → Within s → Within (effect_of offset write s)
 unfolding effect_of after_any
 effect-within offset write s w =
-    either (is_allowed offset write) _ _ (either s.held _ _ w (keeps Within pio_rows offset write s w (all-kept s w))) w
+    either (is_allowed offset write) _ _ (keeps Within pio_rows offset write s w (all-kept s w)) w
 
 cycle-within : (now second : ℕ) (s : Block) → Within s → Within (after_cycle now second s)
 unfolding after_cycle all_stepped block.joined
@@ -158,17 +158,12 @@ reset-within =
     let one : IsWithin machine.at_reset = record { tx = omega arith; rx = omega arith } in
     (one, (one, (one, (one, tt))))
 
-hold-within : (held : Bool) (s : Block) → Within s → Within (with_held held s)
-unfolding with_held
-hold-within true s w = reset-within
-hold-within false s w = w
-
 after-within : (h : Happening) (s : Block) → Within s → Within (after h s)
 unfolding next
 after-within (Cycle None) s w = w
 after-within (Cycle (Some inputs)) s w = cycle-within inputs.now inputs.second s w
 after-within (Access offset write) s w = effect-within offset write s w
-after-within (Hold held) s w = hold-within held s w
+after-within Reset s w = reset-within
 after-within (Counter machine address) s w =
     changes machine (with_pc address) s.machines (λ m v. alike m _ refl refl refl v) w
 

@@ -1,7 +1,6 @@
 pub mod AtRest
 pub mod Between
 pub mod Depths
-pub mod Held
 pub mod Highest
 pub mod Masks
 pub mod Rows

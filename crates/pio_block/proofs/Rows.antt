@@ -9,7 +9,7 @@ use Rattle.pio_machine.specs.declared.machine.Machine1.{Machine1}
 use Rattle.pio_block.specs.State.{Block, machine_of, changed, with_machines}
 use Rattle.pio_block.specs.Queues.{taken}
 use Rattle.pio_block.specs.Registers.{machine_rows, register_of, register_written}
-use Rattle.pio_block.specs.Words.{control_rows, fifo_rows, pin_rows, memory_rows, of_machines, interrupt_rows, pio_rows, is_word, listed_word, after_any}
+use Rattle.pio_block.specs.Words.{control_rows, fifo_rows, pin_rows, memory_rows, of_machines, interrupt_rows, pio_rows, is_word, word_of, after_any}
 
 parts : {A : Type 0} (none : A) (found : Row ⊤ Block → ℕ → A) (at : ℕ) → at_row none found pio_rows at
     ≡ (if nat_lt at 0x010 then at_row none found control_rows at else
@@ -140,30 +140,30 @@ at_interrupt none found at g =
 
 -- ---- reads and writes
 
-pub control_word : (s : Block) (at : ℕ) → at < 0x010 → listed_word at s ≡ word_at (control_rows {V = ⊤}) tt at s
-unfolding listed_word
+pub control_word : (s : Block) (at : ℕ) → at < 0x010 → word_of at s ≡ word_at (control_rows {V = ⊤}) tt at s
+unfolding word_of
 control_word s at h = at_control None (λ row n. Some (row.reads n tt s)) at h
 
-pub fifo_word : (s : Block) (at : ℕ) → 0x010 ≤ at → at < 0x030 → listed_word at s ≡ word_at (fifo_rows {V = ⊤}) tt at s
-unfolding listed_word
+pub fifo_word : (s : Block) (at : ℕ) → 0x010 ≤ at → at < 0x030 → word_of at s ≡ word_at (fifo_rows {V = ⊤}) tt at s
+unfolding word_of
 fifo_word s at g h = at_fifo None (λ row n. Some (row.reads n tt s)) at g h
 
-pub pin_word : (s : Block) (at : ℕ) → 0x030 ≤ at → at < 0x048 → listed_word at s ≡ word_at (pin_rows {V = ⊤}) tt at s
-unfolding listed_word
+pub pin_word : (s : Block) (at : ℕ) → 0x030 ≤ at → at < 0x048 → word_of at s ≡ word_at (pin_rows {V = ⊤}) tt at s
+unfolding word_of
 pin_word s at g h = at_pin None (λ row n. Some (row.reads n tt s)) at g h
 
-pub memory_word : (s : Block) (at : ℕ) → 0x048 ≤ at → at < 0x0c8 → listed_word at s ≡ word_at (memory_rows {V = ⊤}) tt at s
-unfolding listed_word
+pub memory_word : (s : Block) (at : ℕ) → 0x048 ≤ at → at < 0x0c8 → word_of at s ≡ word_at (memory_rows {V = ⊤}) tt at s
+unfolding word_of
 memory_word s at g h = at_memory None (λ row n. Some (row.reads n tt s)) at g h
 
 pub machine_word : (s : Block) (at : ℕ) → 0x0c8 ≤ at → at < 0x128
-    → listed_word at s ≡ register_of ((at - 0x0c8) % 24) s.memory (machine_of ((at - 0x0c8) / 24) s.machines)
-unfolding listed_word register_of
+    → word_of at s ≡ register_of ((at - 0x0c8) % 24) s.memory (machine_of ((at - 0x0c8) / 24) s.machines)
+unfolding word_of register_of
 machine_word s at g h =
     at_machine None (λ row n. Some (row.reads n tt s)) at g h ∙ word-of_machine machine_rows ((at - 0x0c8) % 24) ((at - 0x0c8) / 24) s refl
 
-pub interrupt_word : (s : Block) (at : ℕ) → 0x128 ≤ at → listed_word at s ≡ word_at (interrupt_rows {V = ⊤}) tt at s
-unfolding listed_word
+pub interrupt_word : (s : Block) (at : ℕ) → 0x128 ≤ at → word_of at s ≡ word_at (interrupt_rows {V = ⊤}) tt at s
+unfolding word_of
 interrupt_word s at g = at_interrupt None (λ row n. Some (row.reads n tt s)) at g
 
 pub control_write : (at w : ℕ) (s : Block) → at < 0x010 → after_any at (Some w) s ≡ effect_at (control_rows {V = ⊤}) at (Some w) s

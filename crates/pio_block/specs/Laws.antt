@@ -1,7 +1,8 @@
--- Laws of a block: of each pin the highest machine that wrote it decides (RP2040 Datasheet, 3.5.6), a block that RESETS holds
--- stays in its reset state (2.14), and no FIFO holds more words than it has room for (3.5.3), whatever happens to the block.
-use Rattle.std.specs.Prelude.{◌≡◌, ℕ, ◌<◌, Bool, true, if◌then◌else◌, List, [], ◌∷◌, length, Option, Some, None}
+-- Laws of a block: of each pin the highest machine that wrote it decides (RP2040 Datasheet, 3.5.6), a block rests in its reset state
+-- (2.14), and no FIFO holds more words than it has room for (3.5.3), whatever happens to the block.
+use Rattle.std.specs.Prelude.{◌≡◌, ℕ, ◌<◌, List, [], ◌∷◌, length, Option}
 use Rattle.std.specs.Int.{bit_at}
+use Rattle.lane_look.specs.Steps.{IsAtRest}
 use Rattle.pio_machine.specs.declared.machine.Machine1.{Machine1}
 use Rattle.pio_machine.specs.declared.machine.Seen.{Seen}
 use Rattle.pio_machine.specs.declared.machine.Done.{Done}
@@ -9,9 +10,9 @@ use Rattle.pio_machine.specs.Start.{nothing_done}
 use Rattle.pio_machine.specs.Clock.{IsWithin}
 use Rattle.pio_machine.specs.Cycle.{written_in_cycle}
 use Rattle.pio_block.specs.declared.inputs.Inputs.{Inputs}
-use Rattle.pio_block.specs.State.{Block, at_reset, machine_of, with_held}
-use Rattle.pio_block.specs.Cycle.{seen_by, after_cycle, next, Rests}
-use Rattle.pio_block.specs.Words.{is_word, word_of, effect_of, counter_set}
+use Rattle.pio_block.specs.State.{Block, at_reset, machine_of}
+use Rattle.pio_block.specs.Cycle.{seen_by, after_cycle, asks, wanted, next}
+use Rattle.pio_block.specs.Words.{effect_of, counter_set}
 
 -- ---- the pins
 
@@ -37,16 +38,11 @@ TheHighestMachineDecides =
     → pin < 32
     → IsDecided pin (seen_by now second s) s (after_cycle now second s)
 
--- ---- a block that is held
+-- ---- the reset state
 
--- it asks nothing and stays as it is in a cycle, no access changes it, and it reads 0
-pub record StaysHeld (s : Block) : Type 0 where
-  pub rests : Rests s
-  pub accesses : (offset : ℕ) (write : Option ℕ) → effect_of offset write s ≡ s
-  pub reads : (offset : ℕ) → word_of offset s ≡ (if is_word offset then Some 0 else None)
-
-abbrev pub AHeldBlockStays : Type 0
-AHeldBlockStays = (s : Block) → StaysHeld (with_held true s)
+-- in it, and so where it is held, a block asks nothing, wants nothing and stays as it is
+abbrev pub ABlockRestsAtReset : Type 0
+ABlockRestsAtReset = IsAtRest (λ s cycle. asks s) (λ begun. wanted) (λ s begun turns. next begun s) at_reset
 
 -- ---- the FIFOs
 
@@ -55,18 +51,18 @@ abbrev pub AreWithin : List Machine1 → Type 0
 AreWithin [] = Unit {0}
 AreWithin (m ∷ ms) = IsWithin m × AreWithin ms
 
--- what happens to a block: a cycle, with what it has begun in it, an access to a word, a hold by RESETS or its end, and a
--- program counter that is set where a program is loaded
+-- what happens to a block: a cycle, with what it has begun in it, an access to a word, a reset, and a program counter that is
+-- set where a program is loaded
 pub data Happening : Type 0 where
   Cycle : (begun : Option Inputs) → Happening
   Access : (offset : ℕ) (write : Option ℕ) → Happening
-  Hold : (held : Bool) → Happening
+  Reset : Happening
   Counter : (machine address : ℕ) → Happening
 
 abbrev pub after : Happening → Block → Block
 after (Cycle begun) s = next begun s
 after (Access offset write) s = effect_of offset write s
-after (Hold held) s = with_held held s
+after Reset s = at_reset
 after (Counter machine address) s = counter_set machine address s
 
 -- the block after all of these

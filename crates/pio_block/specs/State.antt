@@ -1,6 +1,6 @@
 -- A PIO block (RP2040 Datasheet, 3.2 and 3.7): four machines, the instruction memory and the interrupt flags that they share,
 -- and the levels and enables of the pins that they have written.
-use Rattle.std.specs.Prelude.{ℕ, zero, suc, ◌+◌, ◌-◌, ◌^◌, Bool, false, true, ◌||◌, List, [], ◌∷◌, Option, Some, None, bit_and, replicate, slice_index_or}
+use Rattle.std.specs.Prelude.{ℕ, zero, suc, ◌+◌, ◌-◌, ◌^◌, Bool, false, ◌||◌, List, [], ◌∷◌, Option, Some, None, bit_and, replicate, slice_index_or}
 use Rattle.std.specs.List.{list_any}
 use Rattle.pio_machine.specs.declared.machine.Machine1.{Machine1}
 use Rattle.pio_machine.specs.declared.machine.Waiting.{Waiting}
@@ -25,8 +25,6 @@ pub record Block : Type 0 where
   pub intf0 : ℕ
   pub inte1 : ℕ
   pub intf1 : ℕ
-  -- RESETS holds the block
-  pub held : Bool
 
 abbrev pub at_reset : Block
 at_reset =
@@ -43,13 +41,7 @@ at_reset =
       intf0 = 0;
       inte1 = 0;
       intf1 = 0;
-      held = false;
     }
-
--- a block that is held is in its reset state; one that is let go goes on from it
-unfoldable pub with_held : Bool → Block → Block
-with_held true s = record at_reset { held = true }
-with_held false s = record s { held = false }
 
 -- ---- the machines by their numbers
 

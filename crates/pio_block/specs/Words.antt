@@ -1,8 +1,7 @@
 -- The registers of a block (RP2040 Datasheet, 3.7, List of Registers), by their offsets after 50200000 (PIO0) and 50300000 (PIO1).
-use Rattle.std.specs.Prelude.{ℕ, ◌+◌, ◌-◌, ◌*◌, ◌%◌, ◌^◌, Bool, false, not, ◌&&◌, ◌||◌, ◌==◌, Option, Some, None, List, [], ◌∷◌, ◌++◌, map, length, bit_and, bit_or, slice_set, ⊤}
-use Rattle.rp_base.specs.Rows.{Row, first_of, is_at, register, read_only, write_only, read_write, read_acts, repeated, word_at, has_row, effect_at, place_in, IsListed}
+use Rattle.std.specs.Prelude.{ℕ, ◌+◌, ◌-◌, ◌*◌, ◌%◌, ◌^◌, Bool, false, not, ◌&&◌, ◌||◌, ◌==◌, if◌then◌else◌, Option, Some, None, List, [], ◌∷◌, ◌++◌, map, length, bit_and, bit_or, slice_set, ⊤}
+use Rattle.rp_base.specs.Rows.{Row, first_of, is_at, register, read_only, write_only, read_write, read_acts, repeated, word_at, has_row, effect_at, place_in, IsListed, IsHeld}
 use Rattle.rp_base.specs.Word.{has_bit}
-use Rattle.rp_base.specs.Held.{unless_held, after_access}
 use Rattle.pio_machine.specs.Fields.{is_tx_full, tx_depth}
 use Rattle.pio_machine.specs.declared.machine.Machine1.{Machine1}
 use Rattle.pio_machine.specs.Operation.{with_pc}
@@ -87,12 +86,9 @@ pio_rows = control_rows ++ fifo_rows ++ pin_rows ++ memory_rows ++ map of_machin
 unfoldable pub is_word : ℕ → Bool
 is_word offset = has_row pio_rows offset
 
--- what a word reads as where the block is not held; None where there is no such word
-unfoldable pub listed_word : ℕ → Block → Option ℕ
-listed_word offset s = word_at pio_rows tt offset s
-
+-- what a word reads as; None where there is no such word
 unfoldable pub word_of : ℕ → Block → Option ℕ
-word_of offset s = unless_held s.held (listed_word offset s)
+word_of offset s = word_at pio_rows tt offset s
 
 -- OUT_STICKY and INLINE_OUT_EN of EXECCTRL are left out: a write that sets one of them is not allowed
 abbrev pub sets_left_out : ℕ → Option ℕ → Bool
@@ -106,11 +102,15 @@ unfoldable pub after_any : ℕ → Option ℕ → Block → Block
 after_any offset write s = effect_at pio_rows offset write s
 
 unfoldable pub effect_of : ℕ → Option ℕ → Block → Block
-effect_of offset write s = after_access (is_allowed offset write) s.held s (after_any offset write s)
+effect_of offset write s = if is_allowed offset write then after_any offset write s else s
 
 -- each register is what stands at its offset, and nothing stands at any other
 abbrev pub EachRegisterIsAtItsOffset : Type 0
 EachRegisterIsAtItsOffset = IsListed pio_rows
+
+-- a block that is held reads as 0, and stays as it is
+abbrev pub ABlockThatIsHeldIsStill : Type 0
+ABlockThatIsHeldIsStill = IsHeld pio_rows
 
 -- ---- what the rest of the machine is told
 

@@ -6,7 +6,7 @@ ghost use Rattle.pio_block.specs.Words.{word_of, is_allowed, effect_of};
 use crate::inputs::Inputs;
 use crate::state::State;
 use crate::words::is_allowed;
-use rp_base::Registers;
+use rp_base::{Registers, Reset};
 use std::marker::Model;
 
 /// A PIO block (RP2040 Datasheet, chapter 3).
@@ -32,7 +32,7 @@ impl Model for PioBlock {
 
 impl PioBlock {
     ghost use Rattle.std.specs.Prelude.{◌≡◌, ◌<◌, Decides, IsTrue, true, false, ◌∷◌, []};
-    ghost use Rattle.pio_block.specs.State.{at_reset, with_held, machine_of, is_busy};
+    ghost use Rattle.pio_block.specs.State.{at_reset, machine_of, is_busy};
     ghost use Rattle.pio_block.specs.Cycle.{after_cycle, Rests};
     ghost use Rattle.pio_block.specs.Words.{word_of, effect_of, is_allowed, pacing_of, register_list, counter_set, outs_of, is_silent, is_at_rest, lines_of};
 
@@ -47,7 +47,7 @@ impl PioBlock {
         }
     }
 
-    /// The word at an offset, 0 while the block is held. None exactly where there is no such word.
+    /// The word at an offset. None exactly where there is no such word.
     pub fn read(&self, offset: u16) -> Option<u32>
         ensures { result ≡ word_of offset self.now }
     {
@@ -61,8 +61,7 @@ impl PioBlock {
         is_allowed(offset, write)
     }
 
-    /// Does what a read, or a write of this word, does to the block; nothing while it is held. False, and nothing is
-    /// changed, where it is not allowed.
+    /// Does what a read, or a write of this word, does to the block. False, and nothing is changed, where it is not allowed.
     pub fn effect(&mut self, offset: u16, write: Option<u32>) -> bool
         ensures after { self.new ≡ effect_of offset write self.old }
         ensures allowed { result ≡ is_allowed offset write }
@@ -95,15 +94,6 @@ impl PioBlock {
         ensures { self.new ≡ counter_set machine address self.old }
     {
         self.state.set_counter(machine, address);
-        self.at_rest = self.state.is_at_rest();
-        self.silent = self.state.is_silent();
-    }
-
-    /// Holds the block in its reset state, or lets it go.
-    pub fn set_held(&mut self, held: bool)
-        ensures { self.new ≡ with_held held self.old }
-    {
-        self.state.set_held(held);
         self.at_rest = self.state.is_at_rest();
         self.silent = self.state.is_silent();
     }
@@ -175,6 +165,16 @@ impl PioBlock {
         self.state.copy_from(&other.state);
         self.at_rest = other.at_rest;
         self.silent = other.silent;
+    }
+}
+
+impl Reset for PioBlock {
+    ghost use Rattle.pio_block.specs.State.{at_reset};
+
+    ghost first = { at_reset };
+
+    fn reset(&mut self) {
+        *self = PioBlock::new();
     }
 }
 

@@ -1,19 +1,24 @@
 //! The laws of a block, each the contract of a function without arguments.
 
-ghost use Rattle.pio_block.specs.Laws.{TheHighestMachineDecides, AHeldBlockStays, NoFifoHoldsTooMuch};
+ghost use Rattle.pio_block.specs.Laws.{TheHighestMachineDecides, ABlockRestsAtReset, NoFifoHoldsTooMuch};
 ghost use Rattle.pio_block.specs.Quiet.{AQuietBlockShowsTheSame};
 ghost use Rattle.pio_block.specs.InstrLaws.{AWrittenWordComesNext};
 ghost use Rattle.pio_block.specs.InterruptLaws.{WhatIsEnabledOrForcedIsShown};
-ghost use Rattle.pio_block.specs.Words.{EachRegisterIsAtItsOffset};
+ghost use Rattle.pio_block.specs.Words.{EachRegisterIsAtItsOffset, ABlockThatIsHeldIsStill};
 
 /// Of each pin the highest machine that wrote it in a cycle decides, and a pin that no machine wrote stays.
 pub fn the_highest_machine_decides()
     ensures { TheHighestMachineDecides }
 {}
 
-/// A block that is held stays in its reset state: it does not step, no access changes it, and it reads 0.
-pub fn a_held_block_stays()
-    ensures { AHeldBlockStays }
+/// In its reset state a block asks nothing, wants nothing and stays as it is: so does one that is held.
+pub fn a_block_rests_at_reset()
+    ensures { ABlockRestsAtReset }
+{}
+
+/// A block that is held reads 0, and no access changes it.
+pub fn a_block_that_is_held_is_still()
+    ensures { ABlockThatIsHeldIsStill }
 {}
 
 /// In cycles in which none of its machines ticks or tries a word a block does not heed its inputs: only the dividers go on, and its pins,
@@ -23,7 +28,7 @@ pub fn a_quiet_block_shows_the_same()
 {}
 
 /// No FIFO holds more words than it has room for, whatever happens to a block from its reset state on: cycles, accesses to any
-/// of its words, holds by RESETS, and the program counter that is set where a program is loaded before a run.
+/// of its words, resets, and the program counter that is set where a program is loaded before a run.
 pub fn no_fifo_holds_too_much()
     ensures { NoFifoHoldsTooMuch }
 {}

@@ -22,7 +22,6 @@ pub(crate) struct State {
     pub(crate) intf0: u16,
     pub(crate) inte1: u16,
     pub(crate) intf1: u16,
-    pub(crate) held: bool,
 }
 
 impl Model for State {
@@ -43,7 +42,6 @@ impl Model for State {
       intf0 = s.intf0;
       inte1 = s.inte1;
       intf1 = s.intf1;
-      held = s.held;
     } };
 }
 
@@ -73,7 +71,7 @@ fn overlaid(mask: u32, bits: u32, word: u32) -> u32
 
 impl State {
     ghost use Rattle.std.specs.Prelude.{◌≡◌, ◌<◌, Decides};
-    ghost use Rattle.pio_block.specs.State.{at_reset, with_held, is_busy, machine_of};
+    ghost use Rattle.pio_block.specs.State.{at_reset, is_busy, machine_of};
     ghost use Rattle.pio_block.specs.Words.{counter_set, pacing_of, register_list, outs_of, is_silent};
     ghost use Rattle.pio_block.specs.Cycle.{seen_by, all_written, with_stepped, joined, after_cycle};
 
@@ -92,19 +90,7 @@ impl State {
             intf0: 0,
             inte1: 0,
             intf1: 0,
-            held: false,
         }
-    }
-
-    /// Holds the block in its reset state, or lets it go.
-    #[tactic(auto, unfolding(crate::specs::State::with_held))]
-    pub(crate) fn set_held(&mut self, held: bool)
-        ensures { self.new ≡ with_held held self.old }
-    {
-        if held {
-            *self = State::new();
-        }
-        self.held = held;
     }
 
     /// A machine is enabled, or a written word waits.
@@ -203,7 +189,6 @@ impl State {
             & (self.intf0 == other.intf0)
             & (self.inte1 == other.inte1)
             & (self.intf1 == other.intf1)
-            & (self.held == other.held)
     }
 
     /// Takes the state of another block.
@@ -220,6 +205,5 @@ impl State {
         self.intf0 = other.intf0;
         self.inte1 = other.inte1;
         self.intf1 = other.intf1;
-        self.held = other.held;
     }
 }

@@ -12,7 +12,6 @@ use crate::registers::{
 };
 use crate::state::State;
 use rp_base::bits::has_bit;
-use rp_base::unless_held;
 
 /// The pins of the chip.
 pub(crate) const PINS: u32 = 0x3fff_ffff;
@@ -22,7 +21,7 @@ impl State {
     ghost use Rattle.rp_base.specs.Rows.{word_at, effect_at};
     ghost use Rattle.pio_block.specs.Control.{control_written};
     ghost use Rattle.pio_block.specs.Queues.{fdebug_of, debug_written, sent, taken, first_of, is_rx_empty};
-    ghost use Rattle.pio_block.specs.Words.{control_rows, fifo_rows, pin_rows, memory_rows, interrupt_rows, intr_of, ints_of, ints0_of, ints1_of, listed_word, word_of, after_any, effect_of, is_allowed, is_silent, is_at_rest, lines_of};
+    ghost use Rattle.pio_block.specs.Words.{control_rows, fifo_rows, pin_rows, memory_rows, interrupt_rows, intr_of, ints_of, ints0_of, ints1_of, word_of, after_any, effect_of, is_allowed, is_silent, is_at_rest, lines_of};
 
     /// FDEBUG.
     #[tactic(auto, unfolding(crate::specs::Queues::fdebug_of))]
@@ -261,10 +260,10 @@ impl State {
         }
     }
 
-    /// The word at an offset, where the block is not held.
+    /// The word at an offset.
     #[tactic(auto, using(crate::proofs::Rows::control_word, crate::proofs::Rows::fifo_word, crate::proofs::Rows::pin_word, crate::proofs::Rows::memory_word, crate::proofs::Rows::machine_word, crate::proofs::Rows::interrupt_word))]
-    fn listed(&self, offset: u16) -> Option<u32>
-        ensures { result ≡ listed_word offset self.now }
+    pub(crate) fn read(&self, offset: u16) -> Option<u32>
+        ensures { result ≡ word_of offset self.now }
     {
         if offset < TXF0 {
             self.control_word(offset)
@@ -280,14 +279,6 @@ impl State {
         } else {
             self.interrupt_word(offset)
         }
-    }
-
-    /// The word at an offset.
-    #[tactic(auto, unfolding(crate::specs::Words::word_of))]
-    pub(crate) fn read(&self, offset: u16) -> Option<u32>
-        ensures { result ≡ word_of offset self.now }
-    {
-        unless_held(self.held, self.listed(offset))
     }
 
     /// A write of a word.
@@ -330,11 +321,9 @@ impl State {
         if !is_allowed(offset, write) {
             return false;
         }
-        if !self.held {
-            match write {
-                Some(word) => self.write(offset, word),
-                None => self.after_read(offset),
-            }
+        match write {
+            Some(word) => self.write(offset, word),
+            None => self.after_read(offset),
         }
         true
     }

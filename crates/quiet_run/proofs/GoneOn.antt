@@ -1,6 +1,7 @@
 -- Core 0 has gone on by itself, and the other lanes, which are quiet, are brought up behind it.
 use Rattle.std.proofs.Common.{◌≡◌, ℕ, ◌+◌, ◌<◌, ◌≤◌, Bool, true, false, refl, sym, ap, subst, ◌∙◌, arith}
 use Rattle.std.specs.Prelude.{slice_index}
+use Rattle.rp_base.specs.declared.resettable.Resettable.{Resettable}
 use Rattle.dma_engine.specs.State.{Engine}
 use Rattle.dma_engine.specs.Quiet.{GivesNone}
 use Rattle.pio_block.specs.State.{Block as Pio}
@@ -48,9 +49,9 @@ has_begun w i s look asleep offered r q most at to e agree sleeps alone offers n
 
 -- the blocks may pass so many cycles
 pub record MayPass (s : State) (n : ℕ) : Type 0 where
-  pub dma : GivesNone s.dma n
-  pub pio0 : pio.IsQuiet s.pio0 n
-  pub pio1 : pio.IsQuiet s.pio1 n
+  pub dma : GivesNone s.dma.block n
+  pub pio0 : pio.IsQuiet s.pio0.block n
+  pub pio1 : pio.IsQuiet s.pio1.block n
 
 -- the law, for what core 0 has gone
 pub goes_onward : (w : Setting) (s : State) (seen : SeenOutputs) (most done : ℕ) → HasBegun w s seen most → done ≤ most → StaysInward s done → GoesOnward w s done
@@ -78,9 +79,9 @@ blocks_pass w s t seen most done h le went =
     let stays = stays_after s done h.goes h.known in
     let blocks = fewer_cycles s most done h.blocks le in
     record {
-      dma = subst (λ (d : Engine). GivesNone d done) (sym (ap (λ (x : State). x.dma) went ∙ stays.dma)) blocks.dma.credits;
-      pio0 = subst (λ (p : Pio). pio.IsQuiet p done) (sym (ap (λ (x : State). x.pio0) went ∙ stays.pio0)) blocks.pio0;
-      pio1 = subst (λ (p : Pio). pio.IsQuiet p done) (sym (ap (λ (x : State). x.pio1) went ∙ stays.pio1)) blocks.pio1;
+      dma = subst (λ (d : Resettable Engine). GivesNone d.block done) (sym (ap (λ (x : State). x.dma) went ∙ stays.dma)) blocks.dma.credits;
+      pio0 = subst (λ (p : Resettable Pio). pio.IsQuiet p.block done) (sym (ap (λ (x : State). x.pio0) went ∙ stays.pio0)) blocks.pio0;
+      pio1 = subst (λ (p : Resettable Pio). pio.IsQuiet p.block done) (sym (ap (λ (x : State). x.pio1) went ∙ stays.pio1)) blocks.pio1;
     }
 
 pub still_quiet : (w : Setting) (s t u j : State) (seen : SeenOutputs) (most done : ℕ) → HasBegun w s seen most → done ≤ most → t ≡ inward_after done s
@@ -98,7 +99,7 @@ brought_up w s t u j o seen most done h le inward went passed e up =
     (goes_onward w s seen most done h le inward)
 
 pub agrees : (w : Setting) (j : State) (o : OuterState) (seen : SeenOutputs) (done : ℕ) → outer.IsQuiet w seen j.outer done → o ≡ outer_after w seen done j.outer
-    → CopiesAgree j → Agree (slice_index j.resets 0) j.core1 j.dma j.pio0 j.pio1 o j.sio
+    → CopiesAgree j → Agree (slice_index j.resets 0) j.core1 j.dma.held j.pio0.held j.pio1.held o j.sio
 agrees w j o seen done quiet passed a =
     passing_agrees refl
     (ap (λ (x : OuterState). x.pads) passed ∙ quiet.pads done (omega arith))

@@ -68,17 +68,17 @@ wants_dma : (w : Setting) (s : State) (n k : ℕ) → ArePartsQuiet w s n → k 
 unfolding begun
 wants_dma w s n k q lt = q.blocks.dma.wants k lt (answer_of 2 (passed w s k)) (same_pacing w s n k q (omega arith))
 
-dma_more : (w : Setting) (s : State) (n k : ℕ) (turns : List Turn) → ArePartsQuiet w s n → k < n → dma.next (passed w s k).dma (begun (passed w s k)).dma turns ≡ (passed w s (suc k)).dma
+dma_more : (w : Setting) (s : State) (n k : ℕ) (turns : List Turn) → ArePartsQuiet w s n → k < n → dma.next (passed w s k).dma.block (begun (passed w s k)).dma turns ≡ (passed w s (suc k)).dma.block
 unfolding begun
 dma_more w s n k turns q lt = q.blocks.dma.steps k lt (answer_of 2 (passed w s k)) (same_pacing w s n k q (omega arith)) turns
 
-pio0_more : (w : Setting) (s : State) (n k : ℕ) → ArePartsQuiet w s n → k < n → pio.next (begun (passed w s k)).pio0 (passed w s k).pio0 ≡ (passed w s (suc k)).pio0
+pio0_more : (w : Setting) (s : State) (n k : ℕ) → ArePartsQuiet w s n → k < n → pio.next (begun (passed w s k)).pio0 (passed w s k).pio0.block ≡ (passed w s (suc k)).pio0.block
 unfolding begun
-pio0_more w s n k q lt = (a_quiet_block_shows_the_same s.pio0 n q.blocks.pio0).steps k lt (answer_of 3 (passed w s k))
+pio0_more w s n k q lt = (a_quiet_block_shows_the_same s.pio0.block n q.blocks.pio0).steps k lt (answer_of 3 (passed w s k))
 
-pio1_more : (w : Setting) (s : State) (n k : ℕ) → ArePartsQuiet w s n → k < n → pio.next (begun (passed w s k)).pio1 (passed w s k).pio1 ≡ (passed w s (suc k)).pio1
+pio1_more : (w : Setting) (s : State) (n k : ℕ) → ArePartsQuiet w s n → k < n → pio.next (begun (passed w s k)).pio1 (passed w s k).pio1.block ≡ (passed w s (suc k)).pio1.block
 unfolding begun
-pio1_more w s n k q lt = (a_quiet_block_shows_the_same s.pio1 n q.blocks.pio1).steps k lt (answer_of 4 (passed w s k))
+pio1_more w s n k q lt = (a_quiet_block_shows_the_same s.pio1.block n q.blocks.pio1).steps k lt (answer_of 4 (passed w s k))
 
 begun_outer : (w : Setting) (s : State) (n k : ℕ) → ArePartsQuiet w s n → k ≤ n → (begun (passed w s k)).outer ≡ seen_in (begun s).outer (s.cycle + k)
 begun_outer w s n k q le = seen_later s (passed w s k) (q.peripherals.pads k le) (λ block. outs_on s (passed w s k) block (told w s n k q le))
@@ -133,7 +133,7 @@ outer_more w s k b e =
     (e ∙ ap (λ (c : ℕ). seen_in (begun s).outer (c + k)) (sym (seen_number s)))
     ∙ sym (after_more w (begun s).outer s.outer k)
 
-turned : (s : State) (c0 c0' c1 c1' : Core) (d d' : Engine) (p0 p0' p1 p1' : Pio) (o o' : OuterState) → c0 ≡ c0' → c1 ≡ c1' → d ≡ d' → p0 ≡ p0' → p1 ≡ p1' → o ≡ o' → record s { core0 = c0; core1 = c1; dma = d; pio0 = p0; pio1 = p1; outer = o } ≡ record s { core0 = c0'; core1 = c1'; dma = d'; pio0 = p0'; pio1 = p1'; outer = o' }
+turned : (s : State) (c0 c0' c1 c1' : Core) (d d' : Engine) (p0 p0' p1 p1' : Pio) (o o' : OuterState) → c0 ≡ c0' → c1 ≡ c1' → d ≡ d' → p0 ≡ p0' → p1 ≡ p1' → o ≡ o' → record (with_blocks (record { dma = d; pio0 = p0; pio1 = p1 }) s) { core0 = c0; core1 = c1; outer = o } ≡ record (with_blocks (record { dma = d'; pio0 = p0'; pio1 = p1' }) s) { core0 = c0'; core1 = c1'; outer = o' }
 turned s c0 c0' c1 c1' d d' p0 p0' p1 p1' o o' a b c e f g = rw (a, b, c, e, f, g) refl
 
 -- the lanes have stepped, and the number of the cycle has not
@@ -145,7 +145,7 @@ unfolding with_turns
 lanes_step w s n k q lt =
     let p = passed w s k in
     let l = lanes_passed w s k in
-    turned p _ l.core0 _ l.core1 _ l.dma _ l.pio0 _ l.pio1 _ l.outer
+    turned p _ l.core0 _ l.core1 _ l.dma.block _ l.pio0.block _ l.pio1.block _ l.outer
     (core_more (lines_of 0 s) s.core0 s.cycle k (begun p).core0 (begun_core0 w s n k q lt))
     (core_more (lines_of 1 s) s.core1 s.cycle k (begun p).core1 (begun_core1 w s n k q lt))
     (dma_more w s n k _ q lt)
@@ -214,7 +214,7 @@ first_passed : (w : Setting) (s : State) → passed w s 0 ≡ s
 unfolding times
 first_passed w s =
     let e : s.cycle + 0 ≡ s.cycle = omega arith in
-    ap (λ (p : Blocks). record s { cycle = s.cycle + 0; dma = p.dma; pio0 = p.pio0; pio1 = p.pio1 }) (none_after s) ∙ rw e refl
+    ap (λ (p : Blocks). record (with_blocks p s) { cycle = s.cycle + 0 }) (none_after s) ∙ rw e refl
 
 pub states_passed : (w : Setting) (s : State) (n k : ℕ) → CopiesAgree s → ArePartsQuiet w s n → k ≤ n → states w s k ≡ passed w s k
 states_passed w s n k agree q le =
@@ -260,7 +260,7 @@ quiet_none w s =
 -- ---- the copies that lanes keep
 
 -- quiet cycles leave them as they are
-pub passing_agrees : {reset : ℕ} {core1 after1 : Core} {dma : Engine} {pio0 pio1 : Pio} {outer after : OuterState} {sio : SioState} → after1.offer ≡ core1.offer → after.pads ≡ outer.pads → held_blocks after ≡ held_blocks outer → after.sio ≡ outer.sio → Agree reset core1 dma pio0 pio1 outer sio → Agree reset after1 dma pio0 pio1 after sio
+pub passing_agrees : {reset : ℕ} {core1 after1 : Core} {dma pio0 pio1 : Bool} {outer after : OuterState} {sio : SioState} → after1.offer ≡ core1.offer → after.pads ≡ outer.pads → held_blocks after ≡ held_blocks outer → after.sio ≡ outer.sio → Agree reset core1 dma pio0 pio1 outer sio → Agree reset after1 dma pio0 pio1 after sio
 passing_agrees offer pads held pins a = record {
   bits = a.bits;
   held = rw (pads, held) a.held;
@@ -346,7 +346,7 @@ passed_states w i s at n core0 core1 outer same ea agree q h =
     ∙ fields_passed w s at n core0 core1 outer (ap (λ (c : ℕ). c + n) ea) h.core0_is h.core1_is h.outer_is
     ∙ sym (states_passed w s n n here q (omega arith))
 
-pub passed_agrees : (w : Setting) (i s : State) (n : ℕ) (core0 core1 : Core) (outer : OuterState) → i ≡ with_blocks (blocks_after n s) s → CopiesAgree i → ArePartsQuiet w s n → HavePassed w i s core0 core1 outer n → Agree (slice_index i.resets 0) core1 i.dma i.pio0 i.pio1 outer i.sio
+pub passed_agrees : (w : Setting) (i s : State) (n : ℕ) (core0 core1 : Core) (outer : OuterState) → i ≡ with_blocks (blocks_after n s) s → CopiesAgree i → ArePartsQuiet w s n → HavePassed w i s core0 core1 outer n → Agree (slice_index i.resets 0) core1 i.dma.held i.pio0.held i.pio1.held outer i.sio
 passed_agrees w i s n core0 core1 outer same agree q h =
     passing_agrees
     (ap (λ (x : Core). x.offer) h.core1_is ∙ q.core1.offer n (omega arith) ∙ sym (ap (λ (x : State). x.core1.offer) same))

@@ -1,5 +1,6 @@
 -- Where each part of the machine is quiet for so many cycles, and where each has gone then.
 use Rattle.std.specs.Prelude.{◌≡◌, ℕ, ◌+◌, ◌≤◌, false, None}
+use Rattle.rp_base.specs.Resettable.{with_block}
 use Rattle.lane_look.specs.Times.{times}
 use Rattle.m0_core.specs.Begins.{begins}
 use Rattle.m0_core.specs.Quiet as core
@@ -39,9 +40,9 @@ passed w s n = record s {
   cycle = s.cycle + n;
   core0 = times (core.rested (lines_of 0 s)) s.cycle n s.core0;
   core1 = times (core.rested (lines_of 1 s)) s.cycle n s.core1;
-  dma = (blocks_after n s).dma;
-  pio0 = (blocks_after n s).pio0;
-  pio1 = (blocks_after n s).pio1;
+  dma = with_block s.dma (blocks_after n s).dma;
+  pio0 = with_block s.pio0 (blocks_after n s).pio0;
+  pio1 = with_block s.pio1 (blocks_after n s).pio1;
   outer = outer.outer_after w (begun s).outer n s.outer;
 }
 

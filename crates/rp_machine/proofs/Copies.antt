@@ -1,5 +1,6 @@
 -- What the lanes keep of SIO is what it holds.
 use Rattle.std.proofs.Common.{◌==◌, Bool, true, false, if◌then◌else◌, List, [], ◌∷◌, refl}
+use Rattle.rp_base.specs.Resettable.{with_block}
 use Rattle.lane_look.specs.Device.{DeviceMeaning}
 use Rattle.uf2_image.specs.declared.parts.Image.{Image}
 use Rattle.outer_lane.specs.Setting.{Setting}
@@ -15,7 +16,7 @@ either false s t a b = b
 
 load_keeps : (load : PioLoad) (s : State) → KnowsSio s → KnowsSio (with_load load s)
 load_keeps load s h =
-    either (load.block == 0) (record s { pio0 = block_loaded load s.pio0 }) (record s { pio1 = block_loaded load s.pio1 })
+    either (load.block == 0) (record s { pio0 = with_block s.pio0 (block_loaded load s.pio0.block) }) (record s { pio1 = with_block s.pio1 (block_loaded load s.pio1.block) })
     (record { pins = h.pins; offer = h.offer }) (record { pins = h.pins; offer = h.offer })
 
 loads_keep : (loads : List PioLoad) (s : State) → KnowsSio s → KnowsSio (with_loads loads s)

@@ -1,6 +1,6 @@
 -- The DMA engine and both PIO blocks, which are quiet.
 use Rattle.std.proofs.Common.{◌≡◌, ℕ, ◌≤◌, refl, ap, subst, arith}
-use Rattle.std.specs.Prelude.{slice_index}
+use Rattle.rp_base.specs.Resettable.{with_block}
 use Rattle.dma_engine.specs.State.{Engine}
 use Rattle.dma_engine.specs.Quiet as dma
 use Rattle.dma_engine.proofs.Lasting.{engine_none, none_quiet}
@@ -11,41 +11,31 @@ use Rattle.pio_block.proofs.Between.{block_none}
 use Rattle.pio_block.proofs.Between as pio_proofs
 use Rattle.rp_machine.specs.State.{State}
 use Rattle.rp_machine.specs.Answers.{pacing_of}
-use Rattle.rp_machine.specs.Copies.{Agree, CopiesAgree}
 use Rattle.rp_machine.specs.Alone.{AreBlocksQuiet, blocks_after, with_blocks}
 
-pub none_after : (s : State) → blocks_after 0 s ≡ record { dma = s.dma; pio0 = s.pio0; pio1 = s.pio1 }
-none_after s = rw (engine_none s.dma, block_none s.pio0, block_none s.pio1) refl
+pub none_after : (s : State) → blocks_after 0 s ≡ record { dma = s.dma.block; pio0 = s.pio0.block; pio1 = s.pio1.block }
+none_after s = rw (engine_none s.dma.block, block_none s.pio0.block, block_none s.pio1.block) refl
 
 pub fewer_cycles : (s : State) (n k : ℕ) → AreBlocksQuiet s n → k ≤ n → AreBlocksQuiet s k
 fewer_cycles s n k h le = record {
-  dma = dma_proofs.fewer (pacing_of s) s.dma n k h.dma le;
-  pio0 = pio_proofs.fewer s.pio0 n k h.pio0 le;
-  pio1 = pio_proofs.fewer s.pio1 n k h.pio1 le;
+  dma = dma_proofs.fewer (pacing_of s) s.dma.block n k h.dma le;
+  pio0 = pio_proofs.fewer s.pio0.block n k h.pio0 le;
+  pio1 = pio_proofs.fewer s.pio1.block n k h.pio1 le;
 }
 
 -- by what the calls of each say
-pub quiet_by : (i s : State) (a b c n : ℕ) → i ≡ s → dma.IsQuiet (pacing_of s) i.dma a → pio.IsQuiet i.pio0 b → pio.IsQuiet i.pio1 c → n ≤ a → n ≤ b → n ≤ c → AreBlocksQuiet s n
+pub quiet_by : (i s : State) (a b c n : ℕ) → i ≡ s → dma.IsQuiet (pacing_of s) i.dma.block a → pio.IsQuiet i.pio0.block b → pio.IsQuiet i.pio1.block c → n ≤ a → n ≤ b → n ≤ c → AreBlocksQuiet s n
 quiet_by i s a b c n e d p q la lb lc = record {
-  dma = dma_proofs.fewer (pacing_of s) s.dma a n (subst (λ (x : State). dma.IsQuiet (pacing_of s) x.dma a) e d) la;
-  pio0 = pio_proofs.fewer s.pio0 b n (subst (λ (x : State). pio.IsQuiet x.pio0 b) e p) lb;
-  pio1 = pio_proofs.fewer s.pio1 c n (subst (λ (x : State). pio.IsQuiet x.pio1 c) e q) lc;
+  dma = dma_proofs.fewer (pacing_of s) s.dma.block a n (subst (λ (x : State). dma.IsQuiet (pacing_of s) x.dma.block a) e d) la;
+  pio0 = pio_proofs.fewer s.pio0.block b n (subst (λ (x : State). pio.IsQuiet x.pio0.block b) e p) lb;
+  pio1 = pio_proofs.fewer s.pio1.block c n (subst (λ (x : State). pio.IsQuiet x.pio1.block c) e q) lc;
 }
 
--- the copies stay
-pub copies_stay : (i : State) (n : ℕ) (d : Engine) (p q : Pio) → d ≡ dma.engine_after n i.dma → p ≡ pio.block_after n i.pio0 → q ≡ pio.block_after n i.pio1 → CopiesAgree i
-    → Agree (slice_index i.resets 0) i.core1 d p q i.outer i.sio
-copies_stay i n d p q e f g h = record {
-  bits = h.bits;
-  held = rw (e, f, g) h.held;
-  pins = h.pins;
-  offer = h.offer;
-}
-
-pub passed_by : (i s : State) (n : ℕ) (d : Engine) (p q : Pio) → i ≡ s → d ≡ dma.engine_after n i.dma → p ≡ pio.block_after n i.pio0 → q ≡ pio.block_after n i.pio1
-    → record i { dma = d; pio0 = p; pio1 = q } ≡ with_blocks (blocks_after n s) s
+-- by what they are after these
+pub passed_by : (i s : State) (n : ℕ) (d : Engine) (p q : Pio) → i ≡ s → d ≡ dma.engine_after n i.dma.block → p ≡ pio.block_after n i.pio0.block → q ≡ pio.block_after n i.pio1.block
+    → record i { dma = with_block i.dma d; pio0 = with_block i.pio0 p; pio1 = with_block i.pio1 q } ≡ with_blocks (blocks_after n s) s
 passed_by i s n d p q same e f g = rw (e, f, g) (ap (λ (x : State). with_blocks (blocks_after n x) x) same)
 
 -- where one is quiet in none
-pub none_by : (i s : State) (b c : ℕ) → i ≡ s → pio.IsQuiet i.pio0 b → pio.IsQuiet i.pio1 c → AreBlocksQuiet s 0
-none_by i s b c e p q = quiet_by i s 0 b c 0 e (none_quiet (pacing_of s) i.dma) p q (omega arith) (omega arith) (omega arith)
+pub none_by : (i s : State) (b c : ℕ) → i ≡ s → pio.IsQuiet i.pio0.block b → pio.IsQuiet i.pio1.block c → AreBlocksQuiet s 0
+none_by i s b c e p q = quiet_by i s 0 b c 0 e (none_quiet (pacing_of s) i.dma.block) p q (omega arith) (omega arith) (omega arith)

@@ -1,15 +1,8 @@
--- The PIO blocks and the peripherals keep their bits of RESETS in a cycle and in an access, and core 1 what its launcher has.
+-- The peripherals keep their bits of RESETS in a cycle, and core 1 what its launcher has.
 use Rattle.std.proofs.Common.{◌≡◌, ◌+◌, ◌==◌, nat_lt, ℕ, Bool, true, false, if◌then◌else◌, Option, Some, None, List, [], ◌∷◌, refl}
 use Rattle.rp_base.specs.declared.Request.{Request}
 use Rattle.rp_base.specs.declared.op.Op.{Op}
 use Rattle.lane_look.specs.declared.lane.Turn.{Turn}
-use Rattle.pio_block.specs.declared.inputs.Inputs.{Inputs}
-use Rattle.pio_block.specs.State.{Block as Pio, with_held}
-use Rattle.pio_block.specs.Control.{control_written}
-use Rattle.pio_block.specs.Queues.{debug_written, sent, taken}
-use Rattle.pio_block.specs.Cycle as pio
-use Rattle.pio_block.specs.Words as words
-use Rattle.rp_base.proofs.Rows.{Kept, keeps}
 use Rattle.outer_lane.specs.Setting.{Setting}
 use Rattle.outer_lane.specs.declared.world.SeenOutputs.{SeenOutputs}
 use Rattle.outer_lane.specs.State.{OuterState}
@@ -25,50 +18,6 @@ use Rattle.m0_nvic.specs.Changes.{entered}
 use Rattle.m0_core.specs.Entry.{entry_ended, taken_first}
 use Rattle.m0_core.specs.Return.{return_ended}
 use Rattle.m0_core.specs.Cycle as core
-use Rattle.rp_machine.specs.declared.load.PioLoad.{PioLoad}
-use Rattle.rp_machine.specs.Boot.{words_loaded, block_loaded}
-
--- ---- a PIO block
-
-pub record PioHolds (bit : Bool) (p : Pio) : Type 0 where
-  pub is : p.held ≡ bit
-
-pio_way : (bit c : Bool) (x y : Pio) → PioHolds bit x → PioHolds bit y → PioHolds bit (if c then x else y)
-pio_way bit true x y h k = h
-pio_way bit false x y h k = k
-
-pub pio_next : (inputs : Option Inputs) (bit : Bool) (p : Pio) → PioHolds bit p → PioHolds bit (pio.next inputs p)
-unfolding pio.next pio.after_cycle pio.joined
-pio_next None bit p h = h
-pio_next (Some inputs) bit p h = record { is = h.is }
-
-rows_hold : (bit : Bool) (p : Pio) → p.held ≡ bit → Kept (λ (q : Pio). q.held ≡ bit) p words.pio_rows
-unfolding control_written debug_written sent taken
-rows_hold bit p h =
-    let k : (n : ℕ) → (p.held ≡ bit) × (ℕ → p.held ≡ bit) = λ n. (h, λ w. h) in
-    (k, (k, (k, (k, (k, (k, (k, (k, (k, (k, (k, (k, (k, (k, (k, (k, (k, (k, (k, (k, (k, (k, (k, (k, (k, (k, tt))))))))))))))))))))))))))
-
-rows_holding : (offset : ℕ) (write : Option ℕ) (bit : Bool) (p : Pio) → PioHolds bit p → PioHolds bit (words.after_any offset write p)
-unfolding words.after_any
-rows_holding offset write bit p h = record { is = keeps (λ (q : Pio). q.held ≡ bit) words.pio_rows offset write p h.is (rows_hold bit p h.is) }
-
-pub pio_effect : (offset : ℕ) (write : Option ℕ) (bit : Bool) (p : Pio) → PioHolds bit p → PioHolds bit (words.effect_of offset write p)
-unfolding words.effect_of
-pio_effect offset write bit p h = pio_way bit _ _ _ (pio_way bit _ _ _ h (rows_holding offset write bit p h)) h
-
-pub pio_reset : (bit : Bool) (p : Pio) → PioHolds bit (with_held bit p)
-unfolding with_held
-pio_reset true p = record { is = refl }
-pio_reset false p = record { is = refl }
-
-words_hold : (offset at : ℕ) (ws : List ℕ) (bit : Bool) (p : Pio) → PioHolds bit p → PioHolds bit (words_loaded offset at ws p)
-words_hold offset at [] bit p h = h
-words_hold offset at (w ∷ ws) bit p h = words_hold offset (at + 1) ws bit _ (pio_effect _ _ bit p h)
-
-pub pio_loaded : (load : PioLoad) (bit : Bool) (p : Pio) → PioHolds bit p → PioHolds bit (block_loaded load p)
-unfolding block_loaded
-pio_loaded load bit p h =
-    record { is = (pio_effect _ _ bit _ (pio_effect _ _ bit _ (words_hold load.offset load.offset load.program.words.items bit p h))).is }
 
 -- ---- the peripherals
 

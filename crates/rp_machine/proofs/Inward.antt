@@ -251,13 +251,13 @@ stays_after s (suc n) h known = stays_on _ _ s (inward_after n s) n known (stays
 pub record TellOn (s t : State) : Type 0 where
   pub lines : (core : ℕ) → outer_lines core t.outer ≡ outer_lines core s.outer
   pub uarts : outer_pacing t.outer ≡ outer_pacing s.outer
-  pub dma : dma_words.lines_of t.dma ≡ dma_words.lines_of s.dma
-  pub lines0 : pio_words.lines_of t.pio0 ≡ pio_words.lines_of s.pio0
-  pub lines1 : pio_words.lines_of t.pio1 ≡ pio_words.lines_of s.pio1
-  pub outs0 : pio_words.outs_of t.pio0 ≡ pio_words.outs_of s.pio0
-  pub outs1 : pio_words.outs_of t.pio1 ≡ pio_words.outs_of s.pio1
-  pub pacing0 : pio_words.pacing_of t.pio0.machines ≡ pio_words.pacing_of s.pio0.machines
-  pub pacing1 : pio_words.pacing_of t.pio1.machines ≡ pio_words.pacing_of s.pio1.machines
+  pub dma : dma_words.lines_of t.dma.block ≡ dma_words.lines_of s.dma.block
+  pub lines0 : pio_words.lines_of t.pio0.block ≡ pio_words.lines_of s.pio0.block
+  pub lines1 : pio_words.lines_of t.pio1.block ≡ pio_words.lines_of s.pio1.block
+  pub outs0 : pio_words.outs_of t.pio0.block ≡ pio_words.outs_of s.pio0.block
+  pub outs1 : pio_words.outs_of t.pio1.block ≡ pio_words.outs_of s.pio1.block
+  pub pacing0 : pio_words.pacing_of t.pio0.block.machines ≡ pio_words.pacing_of s.pio0.block.machines
+  pub pacing1 : pio_words.pacing_of t.pio1.block.machines ≡ pio_words.pacing_of s.pio1.block.machines
 
 -- so the answers are the same
 abbrev lines_from : ℕ → List Bool → List Bool → List Bool → ℕ → ℕ
@@ -266,17 +266,17 @@ lines_from outer first second dma own = bit_or outer (pair_number first * 2 ^ 7 
 pub lines_on : (s t : State) (number : ℕ) → t.sio ≡ s.sio → TellOn s t → lines_of number t ≡ lines_of number s
 unfolding lines_of block_lines
 lines_on s t number sio h =
-    ap (λ (x : ℕ). lines_from x (pio_words.lines_of t.pio0) (pio_words.lines_of t.pio1) (dma_words.lines_of t.dma) (sio_lines number t.sio)) (h.lines number)
-    ∙ ap (λ (x : List Bool). lines_from (outer_lines number s.outer) x (pio_words.lines_of t.pio1) (dma_words.lines_of t.dma) (sio_lines number t.sio)) h.lines0
-    ∙ ap (λ (x : List Bool). lines_from (outer_lines number s.outer) (pio_words.lines_of s.pio0) x (dma_words.lines_of t.dma) (sio_lines number t.sio)) h.lines1
-    ∙ ap (λ (x : List Bool). lines_from (outer_lines number s.outer) (pio_words.lines_of s.pio0) (pio_words.lines_of s.pio1) x (sio_lines number t.sio)) h.dma
-    ∙ ap (λ (x : SioState). lines_from (outer_lines number s.outer) (pio_words.lines_of s.pio0) (pio_words.lines_of s.pio1) (dma_words.lines_of s.dma) (sio_lines number x)) sio
+    ap (λ (x : ℕ). lines_from x (pio_words.lines_of t.pio0.block) (pio_words.lines_of t.pio1.block) (dma_words.lines_of t.dma.block) (sio_lines number t.sio)) (h.lines number)
+    ∙ ap (λ (x : List Bool). lines_from (outer_lines number s.outer) x (pio_words.lines_of t.pio1.block) (dma_words.lines_of t.dma.block) (sio_lines number t.sio)) h.lines0
+    ∙ ap (λ (x : List Bool). lines_from (outer_lines number s.outer) (pio_words.lines_of s.pio0.block) x (dma_words.lines_of t.dma.block) (sio_lines number t.sio)) h.lines1
+    ∙ ap (λ (x : List Bool). lines_from (outer_lines number s.outer) (pio_words.lines_of s.pio0.block) (pio_words.lines_of s.pio1.block) x (sio_lines number t.sio)) h.dma
+    ∙ ap (λ (x : SioState). lines_from (outer_lines number s.outer) (pio_words.lines_of s.pio0.block) (pio_words.lines_of s.pio1.block) (dma_words.lines_of s.dma.block) (sio_lines number x)) sio
 
 pub pacing_on : (s t : State) → TellOn s t → pacing_of t ≡ pacing_of s
 unfolding pacing_of
 pacing_on s t h = rw (h.uarts, h.pacing0, h.pacing1) refl
 
-outs_by : (first : Bool) (s t : State) → TellOn s t → pio_words.outs_of (if first then t.pio0 else t.pio1) ≡ pio_words.outs_of (if first then s.pio0 else s.pio1)
+outs_by : (first : Bool) (s t : State) → TellOn s t → pio_words.outs_of (if first then t.pio0.block else t.pio1.block) ≡ pio_words.outs_of (if first then s.pio0.block else s.pio1.block)
 outs_by true s t h = h.outs0
 outs_by false s t h = h.outs1
 
@@ -290,8 +290,8 @@ beside_after w s k t = with_beside (blocks_after k s) (outer_after w (begun s).o
 
 pub tell_on : (w : Setting) (s t : State) (n k : ℕ) → k ≤ n → AreBlocksQuiet s n → IsQuiet w (begun s).outer s.outer n → TellOn s (beside_after w s k t)
 tell_on w s t n k le blocks quiet =
-    let on0 = a_quiet_block_shows_the_same s.pio0 n blocks.pio0 in
-    let on1 = a_quiet_block_shows_the_same s.pio1 n blocks.pio1 in
+    let on0 = a_quiet_block_shows_the_same s.pio0.block n blocks.pio0 in
+    let on1 = a_quiet_block_shows_the_same s.pio1.block n blocks.pio1 in
     record {
       lines = λ core. quiet.lines k le core;
       uarts = quiet.pacing k le;
@@ -341,8 +341,8 @@ alone_by w s t n k lt asleep blocks pacing =
       asleep = asleep;
       wants = blocks.dma.wants k lt (answer_of 2 u) pacing;
       dma = λ turns. blocks.dma.steps k lt (answer_of 2 u) pacing turns;
-      pio0 = (a_quiet_block_shows_the_same s.pio0 n blocks.pio0).steps k lt (answer_of 3 u);
-      pio1 = (a_quiet_block_shows_the_same s.pio1 n blocks.pio1).steps k lt (answer_of 4 u);
+      pio0 = (a_quiet_block_shows_the_same s.pio0.block n blocks.pio0).steps k lt (answer_of 3 u);
+      pio1 = (a_quiet_block_shows_the_same s.pio1.block n blocks.pio1).steps k lt (answer_of 4 u);
     }
 
 -- the cycle that comes next is one without a stop and without events

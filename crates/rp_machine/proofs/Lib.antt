@@ -2,7 +2,6 @@ pub mod Agreeing
 pub mod Copies
 pub mod Packed
 pub mod Going
-pub mod HeldDma
 pub mod HeldLanes
 pub mod Joining
 pub mod Kept

@@ -149,8 +149,8 @@ outer_bit core n s low =
 
 abbrev own_block : ℕ → ℕ → Bool → State → Bool
 own_block sio n line s =
-    block_line sio n (line_at (pio.lines_of s.pio0) 0) (line_at (pio.lines_of s.pio0) 1) (line_at (pio.lines_of s.pio1) 0) (line_at (pio.lines_of s.pio1) 1)
-    (line_at (dma.lines_of s.dma) 0) (line_at (dma.lines_of s.dma) 1) line
+    block_line sio n (line_at (pio.lines_of s.pio0.block) 0) (line_at (pio.lines_of s.pio0.block) 1) (line_at (pio.lines_of s.pio1.block) 0) (line_at (pio.lines_of s.pio1.block) 1)
+    (line_at (dma.lines_of s.dma.block) 0) (line_at (dma.lines_of s.dma.block) 1) line
 
 block_bit_0 : (n : ℕ) (s : State) → n < 22 → has_bit (block_lines 0 s) n ≡ own_block 15 n (line_of s.sio.core0) s
 unfolding block_lines

@@ -67,9 +67,9 @@ asleep_stays c b turns h = rw h refl
 
 turns_by : (w : Setting) (p : Blocks) (b : Begun) (ts : List Turn) (t : State)
     → core.next t.core1 b.core1 (turn_for ts master.Core1 ∷ turn.Nothing ∷ []) ≡ t.core1
-    → dma.next t.dma b.dma (turn_for ts master.DmaRead ∷ turn_for ts master.DmaWrite ∷ []) ≡ p.dma
-    → pio.next b.pio0 t.pio0 ≡ p.pio0
-    → pio.next b.pio1 t.pio1 ≡ p.pio1
+    → dma.next t.dma.block b.dma (turn_for ts master.DmaRead ∷ turn_for ts master.DmaWrite ∷ []) ≡ p.dma
+    → pio.next b.pio0 t.pio0.block ≡ p.pio0
+    → pio.next b.pio1 t.pio1.block ≡ p.pio1
     → with_turns w b ts t ≡ stepped_alone w p b.core0 b.outer (turn_for ts master.Core0) t
 unfolding with_turns
 turns_by w p b ts t e1 e2 e3 e4 = rw (e1, e2, e3, e4) refl

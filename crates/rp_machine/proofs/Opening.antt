@@ -3,10 +3,12 @@
 use Rattle.std.proofs.Common.{◌≡◌, ◌&&◌, not, Bool, ℕ, refl, ap, ◌∙◌}
 use Rattle.std.specs.Prelude.{Option, Some, None, is_some}
 use Rattle.rp_base.specs.Access.{word_written}
+use Rattle.rp_base.specs.Held.{unless_held}
+use Rattle.rp_base.specs.declared.resettable.Resettable.{Resettable}
 use Rattle.rp_base.specs.declared.Request.{Request}
 use Rattle.rp_base.specs.declared.map.Block.{Block as Place}
 use Rattle.pio_block.specs.State.{Block}
-use Rattle.pio_block.specs.Words.{pio_rows, is_word, is_allowed, sets_left_out, listed_word, word_of}
+use Rattle.pio_block.specs.Words.{pio_rows, is_word, is_allowed, sets_left_out, word_of}
 use Rattle.outer_lane.specs.declared.world.SeenOutputs.{SeenOutputs}
 use Rattle.outer_lane.specs.Setting.{Setting}
 use Rattle.outer_lane.specs.State.{OuterState}
@@ -32,9 +34,9 @@ open_by r offset None e =
     let none = ap (λ (c : Bool). c && not (sets_left_out offset (word_written r.size r.write))) e in
     (none, none)
 
-pub plainly_open : (r : Request) (offset : ℕ) (b : Block) → Opens r offset (word_of offset b)
-unfolding word_of listed_word is_word
-plainly_open r offset b = open_by r offset (word_of offset b) (some-read pio_rows b.held offset tt b)
+pub plainly_open : (r : Request) (offset : ℕ) (b : Resettable Block) → Opens r offset (unless_held b.held (word_of offset b.block))
+unfolding word_of is_word
+plainly_open r offset b = open_by r offset (unless_held b.held (word_of offset b.block)) (some-read pio_rows b.held offset tt b.block)
 
 opens-some : (r : Request) (b : Place) (offset alias : ℕ) (word : Option ℕ) → is_some word ≡ opens (Outer b) r offset alias word
 opens-some r b offset alias None = refl

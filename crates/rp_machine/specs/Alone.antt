@@ -3,6 +3,7 @@
 use Rattle.std.specs.Prelude.{◌≡◌, ℕ, ◌+◌, Bool, true, List, [], ◌∷◌}
 use Rattle.std.specs.List.{list_all}
 use Rattle.rp_base.specs.declared.Master.TheVariants as master
+use Rattle.rp_base.specs.Resettable.{with_block}
 use Rattle.lane_look.specs.declared.lane.Want.{Want}
 use Rattle.lane_look.specs.declared.lane.Want.TheVariants as want
 use Rattle.lane_look.specs.declared.lane.Turn.{Turn}
@@ -38,28 +39,28 @@ pub record Blocks : Type 0 where
 
 -- they are quiet for so many cycles, as long as the counts of the UARTs stay
 pub record AreBlocksQuiet (s : State) (n : ℕ) : Type 0 where
-  pub dma : dma_quiet.IsQuiet (pacing_of s) s.dma n
-  pub pio0 : pio_quiet.IsQuiet s.pio0 n
-  pub pio1 : pio_quiet.IsQuiet s.pio1 n
+  pub dma : dma_quiet.IsQuiet (pacing_of s) s.dma.block n
+  pub pio0 : pio_quiet.IsQuiet s.pio0.block n
+  pub pio1 : pio_quiet.IsQuiet s.pio1.block n
 
 -- and what they are after these
 abbrev pub blocks_after : ℕ → State → Blocks
 blocks_after n s = record {
-  dma = dma_quiet.engine_after n s.dma;
-  pio0 = pio_quiet.block_after n s.pio0;
-  pio1 = pio_quiet.block_after n s.pio1;
+  dma = dma_quiet.engine_after n s.dma.block;
+  pio0 = pio_quiet.block_after n s.pio0.block;
+  pio1 = pio_quiet.block_after n s.pio1.block;
 }
 
 abbrev pub with_blocks : Blocks → State → State
-with_blocks p s = record s { dma = p.dma; pio0 = p.pio0; pio1 = p.pio1 }
+with_blocks p s = record s { dma = with_block s.dma p.dma; pio0 = with_block s.pio0 p.pio0; pio1 = with_block s.pio1 p.pio1 }
 
 -- core 1 sleeps, the DMA engine wants nothing, and it and both PIO blocks come to these, whatever the bus gives
 pub record IsAlone (s : State) (p : Blocks) : Type 0 where
   pub asleep : s.core1.asleep ≡ true
   pub wants : dma.wanted (begun s).dma ≡ want.Nothing ∷ want.Nothing ∷ []
-  pub dma : (turns : List Turn) → dma.next s.dma (begun s).dma turns ≡ p.dma
-  pub pio0 : pio.next (begun s).pio0 s.pio0 ≡ p.pio0
-  pub pio1 : pio.next (begun s).pio1 s.pio1 ≡ p.pio1
+  pub dma : (turns : List Turn) → dma.next s.dma.block (begun s).dma turns ≡ p.dma
+  pub pio0 : pio.next (begun s).pio0 s.pio0.block ≡ p.pio0
+  pub pio1 : pio.next (begun s).pio1 s.pio1.block ≡ p.pio1
 
 -- what core 0 wants, beside three masters that want nothing
 abbrev pub beside : Want → List Wanted
@@ -82,9 +83,9 @@ deed_alone w seen x s = deed_of w seen (granted_alone x s) x s
 abbrev pub stepped_alone : Setting → Blocks → Doing → SeenOutputs → Turn → State → State
 stepped_alone w p b seen told s = record s {
   core0 = core.next s.core0 b (told ∷ turn.Nothing ∷ []);
-  dma = p.dma;
-  pio0 = p.pio0;
-  pio1 = p.pio1;
+  dma = with_block s.dma p.dma;
+  pio0 = with_block s.pio0 p.pio0;
+  pio1 = with_block s.pio1 p.pio1;
   outer = outer.next w s.outer seen;
 }
 

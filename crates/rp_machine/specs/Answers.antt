@@ -30,8 +30,8 @@ sio_lines core s =
 -- those of PIO and the DMA engine go to both cores
 abbrev pub shared_lines : State → ℕ
 shared_lines s =
-    pair_number (pio.lines_of s.pio0) * 2 ^ 7 + pair_number (pio.lines_of s.pio1) * 2 ^ 9
-    + pair_number (dma.lines_of s.dma) * 2 ^ 11
+    pair_number (pio.lines_of s.pio0.block) * 2 ^ 7 + pair_number (pio.lines_of s.pio1.block) * 2 ^ 9
+    + pair_number (dma.lines_of s.dma.block) * 2 ^ 11
 
 unfoldable pub block_lines : ℕ → State → ℕ
 block_lines core s = shared_lines s + sio_lines core s.sio
@@ -50,8 +50,8 @@ word_in sram address = unwrap_or (ram_word sram (place_of address)) 0
 -- of each PIO block the room left in the TX FIFOs and the words of the RX FIFOs; of each UART the same
 abbrev pub counts_of : State → Counts
 counts_of s = record {
-  pio0 = pio.pacing_of s.pio0.machines;
-  pio1 = pio.pacing_of s.pio1.machines;
+  pio0 = pio.pacing_of s.pio0.block.machines;
+  pio1 = pio.pacing_of s.pio1.block.machines;
   uarts = outer_pacing s.outer;
 }
 
@@ -73,7 +73,7 @@ inputs_of s = packed_pair (outer_inputs s.outer)
 
 -- the levels and the enables that a PIO block puts out
 abbrev pub pio_of : ℕ → State → Pio
-pio_of block s = if block == 0 then s.pio0 else s.pio1
+pio_of block s = if block == 0 then s.pio0.block else s.pio1.block
 
 unfoldable pub outs_of : ℕ → State → ℕ
 outs_of block s = packed_pair (pio.outs_of (pio_of block s))

@@ -1,6 +1,7 @@
 -- The first state of a run: the image, and the PIO programs that are loaded before the first cycle (RP2040 Datasheet, 3.2.2 and
 -- 3.7; what of a program is loaded is the project's own).
 use Rattle.std.specs.Prelude.{ℕ, ◌+◌, ◌*◌, ◌/◌, ◌%◌, ◌^◌, ◌<◌, ◌≤◌, ◌==◌, if◌then◌else◌, List, [], ◌∷◌, length, Some}
+use Rattle.rp_base.specs.Resettable.{with_block}
 use Rattle.rp_base.specs.Word.{bit_number}
 use Rattle.lane_look.specs.Device.{DeviceMeaning}
 use Rattle.uf2_image.specs.declared.parts.Image.{Image}
@@ -63,8 +64,8 @@ block_loaded load p =
 abbrev pub with_load : PioLoad → State → State
 with_load load s =
     if load.block == 0
-    then record s { pio0 = block_loaded load s.pio0 }
-    else record s { pio1 = block_loaded load s.pio1 }
+    then record s { pio0 = with_block s.pio0 (block_loaded load s.pio0.block) }
+    else record s { pio1 = with_block s.pio1 (block_loaded load s.pio1.block) }
 
 abbrev pub with_loads : List PioLoad → State → State
 with_loads [] s = s

@@ -4,8 +4,6 @@ use Rattle.std.specs.Prelude.{◌≡◌, ◌<◌, ◌^◌, ℕ, Bool, List, [], 
 use Rattle.rp_base.specs.Word.{has_bit}
 use Rattle.rp_base.specs.ResetBits.{DMA, IO_BANK0, PADS_BANK0, PIO0, PIO1}
 use Rattle.m0_core.specs.State.{State as Core}
-use Rattle.dma_engine.specs.State.{Engine}
-use Rattle.pio_block.specs.State.{Block as Pio}
 use Rattle.outer_lane.specs.State.{OuterState}
 use Rattle.outer_lane.specs.Quiet as peripherals
 use Rattle.sio_block.specs.State.{SioState}
@@ -18,17 +16,16 @@ held_by reset =
     has_bit reset DMA ∷ has_bit reset IO_BANK0 ∷ has_bit reset PADS_BANK0 ∷ has_bit reset PIO0 ∷ has_bit reset PIO1
     ∷ peripherals.held_by reset
 
--- the same bits as the lanes keep them
-abbrev pub held_of : Engine → Pio → Pio → OuterState → List Bool
-held_of dma pio0 pio1 outer =
-    dma.held ∷ outer.pads.bank_held ∷ outer.pads.pads_held ∷ pio0.held ∷ pio1.held ∷ peripherals.held_blocks outer
+-- the same bits as the lanes keep them: those of the DMA engine and of the PIO blocks, and those of the peripherals
+abbrev pub held_of : Bool → Bool → Bool → OuterState → List Bool
+held_of dma pio0 pio1 outer = dma ∷ outer.pads.bank_held ∷ outer.pads.pads_held ∷ pio0 ∷ pio1 ∷ peripherals.held_blocks outer
 
 -- each copy is what RESET, which has 25 bits, and SIO hold
-pub record Agree (reset : ℕ) (core1 : Core) (dma : Engine) (pio0 pio1 : Pio) (outer : OuterState) (sio : SioState) : Type 0 where
+pub record Agree (reset : ℕ) (core1 : Core) (dma pio0 pio1 : Bool) (outer : OuterState) (sio : SioState) : Type 0 where
   pub bits : reset < 2 ^ 25
   pub held : held_of dma pio0 pio1 outer ≡ held_by reset
   pub pins : outer.sio ≡ sio.pins.out ∷ sio.pins.enable ∷ []
   pub offer : core1.offer ≡ offers_of sio
 
 abbrev pub CopiesAgree : State → Type 0
-CopiesAgree s = Agree (slice_index s.resets 0) s.core1 s.dma s.pio0 s.pio1 s.outer s.sio
+CopiesAgree s = Agree (slice_index s.resets 0) s.core1 s.dma.held s.pio0.held s.pio1.held s.outer s.sio

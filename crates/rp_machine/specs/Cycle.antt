@@ -4,6 +4,7 @@
 use Rattle.std.specs.Prelude.{ℕ, ◌+◌, ◌==◌, Bool, true, false, if◌then◌else◌, List, [], ◌∷◌, map, Option, Some, None, slice_index_or}
 use Rattle.rp_base.specs.declared.Master.{Master}
 use Rattle.rp_base.specs.declared.Master.TheVariants as master
+use Rattle.rp_base.specs.Resettable.{with_block}
 use Rattle.rp_base.specs.declared.Why.{Why}
 use Rattle.rp_base.specs.declared.Why.TheVariants as why
 use Rattle.lane_look.specs.declared.lane.Want.{Want}
@@ -47,9 +48,9 @@ unfoldable pub begun : State → Begun
 begun s = record {
   core0 = answered (answer_of 0 s) (core_asks.asks s.core0 s.cycle);
   core1 = answered (answer_of 1 s) (core_asks.asks s.core1 s.cycle);
-  dma = answered (answer_of 2 s) (dma_asks.asks s.dma);
-  pio0 = answered (answer_of 3 s) (pio.asks s.pio0);
-  pio1 = answered (answer_of 4 s) (pio.asks s.pio1);
+  dma = answered (answer_of 2 s) (dma_asks.asks s.dma.block);
+  pio0 = answered (answer_of 3 s) (pio.asks s.pio0.block);
+  pio1 = answered (answer_of 4 s) (pio.asks s.pio1.block);
   outer = answered (answer_of 5 s) (outer.asks s.outer s.cycle);
 }
 
@@ -117,9 +118,9 @@ abbrev pub turned_inside : Begun → List Turn → State → State
 turned_inside b turns s = record s {
   core0 = core.next s.core0 b.core0 (turn_for turns master.Core0 ∷ turn.Nothing ∷ []);
   core1 = core.next s.core1 b.core1 (turn_for turns master.Core1 ∷ turn.Nothing ∷ []);
-  dma = dma.next s.dma b.dma (turn_for turns master.DmaRead ∷ turn_for turns master.DmaWrite ∷ []);
-  pio0 = pio.next b.pio0 s.pio0;
-  pio1 = pio.next b.pio1 s.pio1;
+  dma = with_block s.dma (dma.next s.dma.block b.dma (turn_for turns master.DmaRead ∷ turn_for turns master.DmaWrite ∷ []));
+  pio0 = with_block s.pio0 (pio.next b.pio0 s.pio0.block);
+  pio1 = with_block s.pio1 (pio.next b.pio1 s.pio1.block);
 }
 
 unfoldable pub with_turns : Setting → Begun → List Turn → State → State

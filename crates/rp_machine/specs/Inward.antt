@@ -26,11 +26,11 @@ use Rattle.rp_machine.specs.Quiet.{IsQuiet as RunsQuietly}
 use Rattle.rp_machine.specs.Answers.{lines_of, pacing_of, outs_of}
 use Rattle.rp_machine.specs.Registers.{Part, part_of}
 use Rattle.rp_machine.specs.Registers.Part.{Outer}
-use Rattle.rp_machine.specs.Alone.{Blocks, AreBlocksQuiet, blocks_after, granted_alone, with_grant, with_store}
+use Rattle.rp_machine.specs.Alone.{Blocks, AreBlocksQuiet, blocks_after, with_blocks, granted_alone, with_grant, with_store}
 
 -- a state with these blocks and peripherals
 abbrev pub with_beside : Blocks → OuterState → State → State
-with_beside p o s = record s { dma = p.dma; pio0 = p.pio0; pio1 = p.pio1; outer = o }
+with_beside p o s = record (with_blocks p s) { outer = o }
 
 -- a word that the peripherals have
 abbrev pub is_theirs : Part → ℕ → Bool

@@ -2,6 +2,8 @@
 use Rattle.std.specs.Prelude.{◌≡◌, ℕ, ◌+◌, ◌<◌, ◌==◌, if◌then◌else◌, Bool, true, false, List, [], ◌∷◌, ◌++◌, length, slice_index}
 use Rattle.std.specs.List.{list_any}
 use Rattle.rp_base.specs.declared.Master.TheVariants as master
+use Rattle.rp_base.specs.declared.resettable.Resettable.{Resettable}
+use Rattle.rp_base.specs.Resettable.{with_block}
 use Rattle.rp_base.specs.Rows.{IsListed}
 use Rattle.bus_fabric.specs.Words.{busctrl_rows}
 use Rattle.lane_look.specs.declared.lane.Turn.{Turn}
@@ -75,9 +77,9 @@ own_core0 w s = core.next s.core0 (begun s).core0 (turn_for (turns_in w s) maste
 abbrev pub own_core1 : Setting → State → Core
 own_core1 w s = core.next s.core1 (begun s).core1 (turn_for (turns_in w s) master.Core1 ∷ turn.Nothing ∷ [])
 
-abbrev pub own_dma : Setting → State → Engine
+abbrev pub own_dma : Setting → State → Resettable Engine
 own_dma w s =
-    dma.next s.dma (begun s).dma (turn_for (turns_in w s) master.DmaRead ∷ turn_for (turns_in w s) master.DmaWrite ∷ [])
+    with_block s.dma (dma.next s.dma.block (begun s).dma (turn_for (turns_in w s) master.DmaRead ∷ turn_for (turns_in w s) master.DmaWrite ∷ []))
 
 abbrev pub own_outer : Setting → State → OuterState
 own_outer w s = outer.next w s.outer (begun s).outer
@@ -128,8 +130,8 @@ pub record IsItsOwnStep (w : Setting) (s : State) : Type 0 where
   pub core0 : with_event (next w s).core0 ≡ with_event (own_core0 w s)
   pub core1 : (own_core1 w s).asleep ≡ false → core_alone (next w s).core1 ≡ core_alone (own_core1 w s)
   pub dma : NoneIs (is_for is_dma) w s → (next w s).dma ≡ own_dma w s
-  pub pio0 : NoneIs (is_for is_pio0) w s → (next w s).pio0 ≡ pio.next (begun s).pio0 s.pio0
-  pub pio1 : NoneIs (is_for is_pio1) w s → (next w s).pio1 ≡ pio.next (begun s).pio1 s.pio1
+  pub pio0 : NoneIs (is_for is_pio0) w s → (next w s).pio0 ≡ with_block s.pio0 (pio.next (begun s).pio0 s.pio0.block)
+  pub pio1 : NoneIs (is_for is_pio1) w s → (next w s).pio1 ≡ with_block s.pio1 (pio.next (begun s).pio1 s.pio1.block)
   pub outer : NoneIs is_for_outer w s → outer_alone (next w s).outer ≡ outer_alone (own_outer w s)
 
 abbrev pub EffectsComeAfterTheSteps : Type 0

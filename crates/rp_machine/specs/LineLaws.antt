@@ -36,12 +36,12 @@ with_device s n line = has_bit s.outer.irq n || line
 -- UART0 20 and UART1 21
 pub record AreNumbered (core : ℕ) (s : State) : Type 0 where
   pub timer : (n : ℕ) → n < 4 → has_line core s n ≡ with_device s n (has_bit (timer.lines_of s.outer.timer.block) n)
-  pub pio0_0 : has_line core s 7 ≡ with_device s 7 (line_at (pio.lines_of s.pio0) 0)
-  pub pio0_1 : has_line core s 8 ≡ with_device s 8 (line_at (pio.lines_of s.pio0) 1)
-  pub pio1_0 : has_line core s 9 ≡ with_device s 9 (line_at (pio.lines_of s.pio1) 0)
-  pub pio1_1 : has_line core s 10 ≡ with_device s 10 (line_at (pio.lines_of s.pio1) 1)
-  pub dma_0 : has_line core s 11 ≡ with_device s 11 (line_at (dma.lines_of s.dma) 0)
-  pub dma_1 : has_line core s 12 ≡ with_device s 12 (line_at (dma.lines_of s.dma) 1)
+  pub pio0_0 : has_line core s 7 ≡ with_device s 7 (line_at (pio.lines_of s.pio0.block) 0)
+  pub pio0_1 : has_line core s 8 ≡ with_device s 8 (line_at (pio.lines_of s.pio0.block) 1)
+  pub pio1_0 : has_line core s 9 ≡ with_device s 9 (line_at (pio.lines_of s.pio1.block) 0)
+  pub pio1_1 : has_line core s 10 ≡ with_device s 10 (line_at (pio.lines_of s.pio1.block) 1)
+  pub dma_0 : has_line core s 11 ≡ with_device s 11 (line_at (dma.lines_of s.dma.block) 0)
+  pub dma_1 : has_line core s 12 ≡ with_device s 12 (line_at (dma.lines_of s.dma.block) 1)
   pub io_bank : has_line core s 13 ≡ with_device s 13 (bank_line core s.outer.pads)
   pub sio_0 : has_line core s 15 ≡ with_device s 15 (core == 0 && line_of s.sio.core0)
   pub sio_1 : has_line core s 16 ≡ with_device s 16 (core == 1 && line_of s.sio.core1)

@@ -6,13 +6,15 @@ use Rattle.rp_base.specs.declared.map.Block.{Block}
 use Rattle.rp_base.specs.declared.map.Block.TheVariants as block
 use Rattle.rp_base.specs.Access.{replicated}
 use Rattle.rp_base.specs.Alias.{aliased}
+use Rattle.rp_base.specs.Held.{unless_held}
+use Rattle.rp_base.specs.Resettable.{with_held, unless_held_becomes}
 use Rattle.rp_base.specs.Rows.{Row, read_only, read_write, word_at, effect_at}
 use Rattle.rp_base.specs.Word.{has_bit}
 use Rattle.rp_base.specs.ResetBits.{DMA, PIO0, PIO1}
 use Rattle.bus_fabric.specs.Words as busctrl
-use Rattle.dma_engine.specs.State.{with_hold}
+use Rattle.dma_engine.specs.State as dma_state
 use Rattle.dma_engine.specs.Words as dma
-use Rattle.pio_block.specs.State.{with_held}
+use Rattle.pio_block.specs.State as pio_state
 use Rattle.pio_block.specs.Words as pio
 use Rattle.outer_lane.specs.declared.world.SeenOutputs.{SeenOutputs}
 use Rattle.outer_lane.specs.Setting.{Setting}
@@ -25,9 +27,9 @@ use Rattle.rp_machine.specs.State.{State}
 -- a block whose bit is set gets its reset state, and is held in it until the bit is clear
 unfoldable pub with_reset : ℕ → State → State
 with_reset w s = record s {
-  dma = with_hold (has_bit w DMA) s.dma;
-  pio0 = with_held (has_bit w PIO0) s.pio0;
-  pio1 = with_held (has_bit w PIO1) s.pio1;
+  dma = with_held (has_bit w DMA) dma_state.at_reset s.dma;
+  pio0 = with_held (has_bit w PIO0) pio_state.at_reset s.pio0;
+  pio1 = with_held (has_bit w PIO1) pio_state.at_reset s.pio1;
   outer = outer_reset w s.outer;
   resets = slice_set s.resets 0 w;
 }
@@ -63,9 +65,9 @@ part_of other = Outer other
 unfoldable pub part_word : Part → ℕ → Setting → SeenOutputs → State → Option ℕ
 part_word Resets offset w seen s = word_at resets_rows tt offset s
 part_word Fabric offset w seen s = busctrl.word_of offset s.fabric
-part_word Dma offset w seen s = dma.word_of offset s.dma
-part_word Pio0 offset w seen s = pio.word_of offset s.pio0
-part_word Pio1 offset w seen s = pio.word_of offset s.pio1
+part_word Dma offset w seen s = unless_held s.dma.held (dma.word_of offset s.dma.block)
+part_word Pio0 offset w seen s = unless_held s.pio0.held (pio.word_of offset s.pio0.block)
+part_word Pio1 offset w seen s = unless_held s.pio1.held (pio.word_of offset s.pio1.block)
 part_word (Outer block) offset w seen s = outer_word block offset w seen s.outer
 
 -- whether a read, or a write of this word, is allowed where there is the word: OUT_STICKY and INLINE_OUT_EN of PIO are left out
@@ -78,9 +80,9 @@ part_allows _ offset write = true
 unfoldable pub part_accessed : Part → ℕ → Option ℕ → State → State
 part_accessed Resets offset write s = effect_at resets_rows offset write s
 part_accessed Fabric offset write s = record s { fabric = busctrl.effect_of offset write s.fabric }
-part_accessed Dma offset write s = record s { dma = dma.effect_of offset write s.dma }
-part_accessed Pio0 offset write s = record s { pio0 = pio.effect_of offset write s.pio0 }
-part_accessed Pio1 offset write s = record s { pio1 = pio.effect_of offset write s.pio1 }
+part_accessed Dma offset write s = record s { dma = unless_held_becomes s.dma (dma.effect_of offset write s.dma.block) }
+part_accessed Pio0 offset write s = record s { pio0 = unless_held_becomes s.pio0 (pio.effect_of offset write s.pio0.block) }
+part_accessed Pio1 offset write s = record s { pio1 = unless_held_becomes s.pio1 (pio.effect_of offset write s.pio1.block) }
 part_accessed (Outer block) offset write s = record s { outer = outer_accessed block offset write s.outer }
 
 -- ---- aliases: a write through one changes the word as it is at the start of the cycle

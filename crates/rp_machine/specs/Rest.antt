@@ -1,5 +1,6 @@
 -- The state of the machine without the words of SRAM, and the two ways between them (the project's own).
 use Rattle.std.specs.Prelude.{ℕ, List}
+use Rattle.rp_base.specs.declared.resettable.Resettable.{Resettable}
 use Rattle.m0_core.specs.State.{State as Core}
 use Rattle.dma_engine.specs.State.{Engine}
 use Rattle.pio_block.specs.State.{Block as Pio}
@@ -13,9 +14,9 @@ pub record RestState : Type 0 where
   pub cycle : ℕ
   pub core0 : Core
   pub core1 : Core
-  pub dma : Engine
-  pub pio0 : Pio
-  pub pio1 : Pio
+  pub dma : Resettable Engine
+  pub pio0 : Resettable Pio
+  pub pio1 : Resettable Pio
   pub outer : OuterState
   pub sio : SioState
   pub fabric : Crossbar

@@ -1,6 +1,8 @@
 -- The state of the machine between two cycles, and the first one (RP2040 Datasheet, 2.14, Subsystem Resets, and 2.8.2, how
 -- the second core is started; how core 0 starts is the project's own).
 use Rattle.std.specs.Prelude.{ℕ, false, List, [], ◌∷◌, bit_or}
+use Rattle.rp_base.specs.declared.resettable.Resettable.{Resettable}
+use Rattle.rp_base.specs.Resettable.{let_go}
 use Rattle.lane_look.specs.Device.{DeviceMeaning}
 use Rattle.uf2_image.specs.declared.parts.Image.{Image}
 use Rattle.m0_core.specs.State.{State as Core}
@@ -23,9 +25,9 @@ pub record State : Type 0 where
   pub sram : List ℕ
   pub core0 : Core
   pub core1 : Core
-  pub dma : Engine
-  pub pio0 : Pio
-  pub pio1 : Pio
+  pub dma : Resettable Engine
+  pub pio0 : Resettable Pio
+  pub pio1 : Resettable Pio
   -- the timer, both UARTs, the pads and the words of the device
   pub outer : OuterState
   pub sio : SioState
@@ -45,9 +47,9 @@ first_state device image = record {
   sram = loaded_sram image.parts;
   core0 = first_core image.entry;
   core1 = sleeping 1;
-  dma = dma.reset_state false;
-  pio0 = pio.at_reset;
-  pio1 = pio.at_reset;
+  dma = let_go dma.at_reset;
+  pio0 = let_go pio.at_reset;
+  pio1 = let_go pio.at_reset;
   outer = outer_at_start (first_words device);
   sio = sio.at_reset;
   fabric = fabric.at_reset;

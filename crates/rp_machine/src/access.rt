@@ -228,8 +228,8 @@ impl Machine {
     {
         match part {
             Part::Outer(block) => self.outer.allows(block, offset, None),
-            Part::Pio0 if alias == 0 => self.pio0.allows(offset, word_written(request)),
-            Part::Pio1 if alias == 0 => self.pio1.allows(offset, word_written(request)),
+            Part::Pio0 if alias == 0 => self.pio0.block.allows(offset, word_written(request)),
+            Part::Pio1 if alias == 0 => self.pio1.block.allows(offset, word_written(request)),
             _ => match self.part_word(world, seen, part, offset) {
                 Some(word) => self.part_allows(part, offset, plain_write(request, alias, word)),
                 None => false,

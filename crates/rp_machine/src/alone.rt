@@ -23,25 +23,25 @@ impl Machine {
     pub fn quiet_blocks(&self) -> u64
         ensures { AreBlocksQuiet self.now result }
     {
-        let pio = self.pio0.quiet().min(self.pio1.quiet());
+        let pio = self.pio0.block.quiet().min(self.pio1.block.quiet());
         if pio == 0 {
             return 0;
         }
         let mut begun = BegunTransfer::nothing();
         begin_dma(self, &mut begun);
-        pio.min(self.dma.quiet(&begun))
+        pio.min(self.dma.block.quiet(&begun))
     }
 
     /// So many cycles of the DMA engine and both PIO blocks at once, in which they are quiet.
     pub fn pass_blocks(&mut self, n: u64)
-        requires dma { GivesNone self.old.dma n }
-        requires pio0 { IsQuiet self.old.pio0 n }
-        requires pio1 { IsQuiet self.old.pio1 n }
+        requires dma { GivesNone self.old.dma.block n }
+        requires pio0 { IsQuiet self.old.pio0.block n }
+        requires pio1 { IsQuiet self.old.pio1.block n }
         ensures { self.new ≡ with_blocks (blocks_after n self.old) self.old }
     {
-        self.dma.pass(n);
-        self.pio0.pass(n);
-        self.pio1.pass(n);
+        self.dma.block.pass(n);
+        self.pio0.block.pass(n);
+        self.pio1.block.pass(n);
     }
 
     /// What core 0 begins, whose interrupt lines are these, in the place of what it began before.

@@ -130,7 +130,9 @@ impl Machine {
         ensures value { result ≡ shared_lines self.now }
         ensures small { result < 2 ^ 13 }
     {
-        pio_lines(&self.pio0) * 0x80 + pio_lines(&self.pio1) * 0x200 + dma_lines(&self.dma) * 0x800
+        pio_lines(&self.pio0.block) * 0x80
+            + pio_lines(&self.pio1.block) * 0x200
+            + dma_lines(&self.dma.block) * 0x800
     }
 
     /// The interrupt lines of core 0 or 1, line 0 in bit 0 (RP2040 Datasheet, 2.3.2, Interrupts).
@@ -158,8 +160,8 @@ impl Machine {
         ensures { result ≡ counts_of self.now }
     {
         Counts {
-            pio0: self.pio0.pacing(),
-            pio1: self.pio1.pacing(),
+            pio0: self.pio0.block.pacing(),
+            pio1: self.pio1.block.pacing(),
             uarts: self.outer.pacing(),
         }
     }
@@ -186,9 +188,9 @@ impl Machine {
         ensures { result ≡ outs_of block self.now }
     {
         if block == 0 {
-            packed_pair(self.pio0.outs())
+            packed_pair(self.pio0.block.outs())
         } else {
-            packed_pair(self.pio1.outs())
+            packed_pair(self.pio1.block.outs())
         }
     }
 }

@@ -66,10 +66,10 @@ pub(crate) fn begin_core(machine: &Machine, number: u8, lines: u32, core: &Core,
 /// What the DMA engine begins, in the place of what it began before.
 #[inline(always)]
 pub(crate) fn begin_dma(machine: &Machine, begun: &mut BegunTransfer)
-    ensures { begun.new ≡ answered (answer_of 2 machine.now) (dma.asks machine.now.dma) }
+    ensures { begun.new ≡ answered (answer_of 2 machine.now) (dma.asks machine.now.dma.block) }
 {
     let mut look = MachineLook { lane: 2, machine };
-    machine.dma.begin_into(&mut look, begun);
+    machine.dma.block.begin_into(&mut look, begun);
 }
 
 impl Begun {
@@ -116,8 +116,8 @@ impl Machine {
         ensures { lanes.new ≡ begun self.now }
     {
         begin_dma(self, &mut lanes.dma);
-        lanes.pio0 = begin_lane(self, 3, &self.pio0, &());
-        lanes.pio1 = begin_lane(self, 4, &self.pio1, &());
+        lanes.pio0 = begin_lane(self, 3, &self.pio0.block, &());
+        lanes.pio1 = begin_lane(self, 4, &self.pio1.block, &());
         lanes.outer = begin_lane(self, 5, &self.outer, world);
         let shared = self.shared_lines();
         let lines = self.lines_beside(shared, 0);

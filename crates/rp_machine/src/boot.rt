@@ -90,9 +90,9 @@ impl Machine {
         ensures { self.new ≡ with_load load.now self.old }
     {
         if load.block == 0 {
-            load_block(&mut self.pio0, load);
+            load_block(&mut self.pio0.block, load);
         } else {
-            load_block(&mut self.pio1, load);
+            load_block(&mut self.pio1.block, load);
         }
     }
 

@@ -176,10 +176,12 @@ impl Machine {
             .finish(&(), &begun.core0, [turn0, Turn::Nothing], marks);
         self.core1
             .finish(&(), &begun.core1, [turn1, Turn::Nothing], marks);
-        self.dma.finish(&(), &begun.dma, [read, write], marks);
+        self.dma.block.finish(&(), &begun.dma, [read, write], marks);
         self.pio0
+            .block
             .finish(&(), &begun.pio0, [Turn::Nothing; 2], marks);
         self.pio1
+            .block
             .finish(&(), &begun.pio1, [Turn::Nothing; 2], marks);
     }
 

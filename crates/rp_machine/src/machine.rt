@@ -12,6 +12,7 @@ use m0_core::Core;
 use outer_lane::{Outer, World};
 use pio_block::PioBlock;
 use ram_banks::Ram;
+use rp_base::Resettable;
 use sio_block::Sio;
 use std::alloc::{AllocError, Global};
 use std::marker::Model;
@@ -24,6 +25,14 @@ fn first_core(entry: u32) -> Core
     let mut core = Core::new(0);
     core.start(0, 0x2004_2000, entry | 1);
     core
+}
+
+/// Takes the state of another lane, with its bit of RESETS.
+pub(crate) fn copy_lane<L: Lane<()>>(lane: &mut Resettable<L>, other: &Resettable<L>)
+    ensures { lane.new ≡ other.now }
+{
+    lane.block.copy_from(&other.block);
+    lane.held = other.held;
 }
 
 /// The whole machine between two cycles.
@@ -42,11 +51,11 @@ pub struct Machine {
     /// Core 1, asleep until the launcher starts it.
     pub core1: Core,
     /// The DMA engine.
-    pub dma: Dma,
+    pub dma: Resettable<Dma>,
     /// PIO block 0.
-    pub pio0: PioBlock,
+    pub pio0: Resettable<PioBlock>,
     /// PIO block 1.
-    pub pio1: PioBlock,
+    pub pio1: Resettable<PioBlock>,
     /// The timer, both UARTs, the pads and the words of the device.
     pub outer: Outer,
     /// The single-cycle IO block.
@@ -79,7 +88,7 @@ impl Model for Machine {
     } };
 
     // the copies that lanes keep of RESETS, of SIO and of its launcher agree with them
-    ghost invariant = { λ m. Agree (slice_index m.resets 0) m.core1 m.dma m.pio0 m.pio1 m.outer
+    ghost invariant = { λ m. Agree (slice_index m.resets 0) m.core1 m.dma.held m.pio0.held m.pio1.held m.outer
         m.sio };
 }
 
@@ -109,9 +118,9 @@ impl Machine {
             ram: Ram::from_words(words),
             core0: first_core(image.entry),
             core1: Core::new(1),
-            dma: Dma::new(),
-            pio0: PioBlock::new(),
-            pio1: PioBlock::new(),
+            dma: Resettable::new(Dma::new()),
+            pio0: Resettable::new(PioBlock::new()),
+            pio1: Resettable::new(PioBlock::new()),
             outer: Outer::new(world.device),
             sio: Sio::new(),
             fabric: Fabric::new(),
@@ -162,9 +171,9 @@ impl Machine {
         ensures { result ≡ pio_registers block machine self.now }
     {
         if block == 0 {
-            self.pio0.registers(machine)
+            self.pio0.block.registers(machine)
         } else {
-            self.pio1.registers(machine)
+            self.pio1.block.registers(machine)
         }
     }
 
@@ -176,9 +185,9 @@ impl Machine {
         self.ram.copy_from(&other.ram);
         Lane::<()>::copy_from(&mut self.core0, &other.core0);
         Lane::<()>::copy_from(&mut self.core1, &other.core1);
-        Lane::<()>::copy_from(&mut self.dma, &other.dma);
-        Lane::<()>::copy_from(&mut self.pio0, &other.pio0);
-        Lane::<()>::copy_from(&mut self.pio1, &other.pio1);
+        copy_lane(&mut self.dma, &other.dma);
+        copy_lane(&mut self.pio0, &other.pio0);
+        copy_lane(&mut self.pio1, &other.pio1);
         self.outer.copy_from(&other.outer);
         self.sio.copy_from(&other.sio);
         self.fabric = other.fabric;
@@ -194,9 +203,9 @@ impl Machine {
             ram: Ram::new(alloc)?,
             core0: Core::new(0),
             core1: Core::new(1),
-            dma: Dma::new(),
-            pio0: PioBlock::new(),
-            pio1: PioBlock::new(),
+            dma: Resettable::new(Dma::new()),
+            pio0: Resettable::new(PioBlock::new()),
+            pio1: Resettable::new(PioBlock::new()),
             outer: Outer::new(&NoDevice),
             sio: Sio::new(),
             fabric: Fabric::new(),

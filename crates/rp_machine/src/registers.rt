@@ -95,8 +95,8 @@ impl Machine {
         ensures { result ≡ part_allows (meant part) offset write }
     {
         match part {
-            Part::Pio0 => self.pio0.allows(offset, write),
-            Part::Pio1 => self.pio1.allows(offset, write),
+            Part::Pio0 => self.pio0.block.allows(offset, write),
+            Part::Pio1 => self.pio1.block.allows(offset, write),
             _ => true,
         }
     }

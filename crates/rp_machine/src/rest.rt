@@ -1,12 +1,13 @@
 //! The state of the machine without the words of SRAM, for whoever keeps SRAM in another way.
 
-use crate::machine::Machine;
+use crate::machine::{Machine, copy_lane};
 use bus_fabric::Fabric;
 use dma_engine::Dma;
 use lane_look::{Lane, NoDevice};
 use m0_core::Core;
 use outer_lane::Outer;
 use pio_block::PioBlock;
+use rp_base::Resettable;
 use sio_block::Sio;
 use std::alloc::{AllocError, Global};
 use std::marker::Model;
@@ -17,9 +18,9 @@ pub struct Rest {
     at: u64,
     core0: Core,
     core1: Core,
-    dma: Dma,
-    pio0: PioBlock,
-    pio1: PioBlock,
+    dma: Resettable<Dma>,
+    pio0: Resettable<PioBlock>,
+    pio1: Resettable<PioBlock>,
     outer: Outer,
     sio: Sio,
     fabric: Fabric,
@@ -47,7 +48,7 @@ impl Model for Rest {
     } };
 
     // as in the machine
-    ghost invariant = { λ r. Agree (slice_index r.resets 0) r.core1 r.dma r.pio0 r.pio1 r.outer
+    ghost invariant = { λ r. Agree (slice_index r.resets 0) r.core1 r.dma.held r.pio0.held r.pio1.held r.outer
         r.sio };
 }
 
@@ -78,9 +79,9 @@ impl Machine {
             at: 0,
             core0: Core::new(0),
             core1: Core::new(1),
-            dma: Dma::new(),
-            pio0: PioBlock::new(),
-            pio1: PioBlock::new(),
+            dma: Resettable::new(Dma::new()),
+            pio0: Resettable::new(PioBlock::new()),
+            pio1: Resettable::new(PioBlock::new()),
             outer: Outer::new(&NoDevice),
             sio: Sio::new(),
             fabric: Fabric::new(),
@@ -97,9 +98,9 @@ impl Machine {
         rest.at = self.at;
         Lane::<()>::copy_from(&mut rest.core0, &self.core0);
         Lane::<()>::copy_from(&mut rest.core1, &self.core1);
-        Lane::<()>::copy_from(&mut rest.dma, &self.dma);
-        Lane::<()>::copy_from(&mut rest.pio0, &self.pio0);
-        Lane::<()>::copy_from(&mut rest.pio1, &self.pio1);
+        copy_lane(&mut rest.dma, &self.dma);
+        copy_lane(&mut rest.pio0, &self.pio0);
+        copy_lane(&mut rest.pio1, &self.pio1);
         rest.outer.copy_from(&self.outer);
         rest.sio.copy_from(&self.sio);
         rest.fabric = self.fabric;
@@ -113,9 +114,9 @@ impl Machine {
         self.at = rest.at;
         Lane::<()>::copy_from(&mut self.core0, &rest.core0);
         Lane::<()>::copy_from(&mut self.core1, &rest.core1);
-        Lane::<()>::copy_from(&mut self.dma, &rest.dma);
-        Lane::<()>::copy_from(&mut self.pio0, &rest.pio0);
-        Lane::<()>::copy_from(&mut self.pio1, &rest.pio1);
+        copy_lane(&mut self.dma, &rest.dma);
+        copy_lane(&mut self.pio0, &rest.pio0);
+        copy_lane(&mut self.pio1, &rest.pio1);
         self.outer.copy_from(&rest.outer);
         self.sio.copy_from(&rest.sio);
         self.fabric = rest.fabric;

@@ -138,9 +138,9 @@ pub record IsStepped (w : Setting) (b : Begun) (s t : State) : Type 0 where
   pub cycle : t.cycle ≡ s.cycle + 1
   pub core0 : t.core0 ≡ core.next s.core0 b.core0 (map turn_alone (core.wanted b.core0))
   pub core1 : t.core1 ≡ core.next s.core1 b.core1 (map turn_alone (core.wanted b.core1))
-  pub dma : t.dma ≡ dma.next s.dma b.dma (map turn_alone (dma.wanted b.dma))
-  pub pio0 : t.pio0 ≡ pio.next b.pio0 s.pio0
-  pub pio1 : t.pio1 ≡ pio.next b.pio1 s.pio1
+  pub dma : t.dma.block ≡ dma.next s.dma.block b.dma (map turn_alone (dma.wanted b.dma))
+  pub pio0 : t.pio0.block ≡ pio.next b.pio0 s.pio0.block
+  pub pio1 : t.pio1.block ≡ pio.next b.pio1 s.pio1.block
   pub outer : t.outer ≡ outer.next w s.outer b.outer
   pub free : has_hold t.fabric ≡ false
   pub asleep : t.core1.asleep ≡ s.core1.asleep

@@ -102,7 +102,7 @@ length_same m env n env' a b h same alike before start w bound =
 
 -- ---- the copies of a state
 
-pick : (c : Bool) (s : State) → (if c then packed_pair (pio.outs_of s.pio0) else packed_pair (pio.outs_of s.pio1)) ≡ packed_pair (pio.outs_of (if c then s.pio0 else s.pio1))
+pick : (c : Bool) (s : State) → (if c then packed_pair (pio.outs_of s.pio0.block) else packed_pair (pio.outs_of s.pio1.block)) ≡ packed_pair (pio.outs_of (if c then s.pio0.block else s.pio1.block))
 pick true s = refl
 pick false s = refl
 

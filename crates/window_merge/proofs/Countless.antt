@@ -146,15 +146,15 @@ outer_countless s cycle = (outer_asks s cycle).none
 
 -- ---- the DMA engine: one that cannot come to ask for the counts does not, however long it runs alone
 
-stays : (s : State) (k : ℕ) → may_ask_counts s.dma ≡ false → may_ask_counts (alone dma_lane (around 2) tt s.dma s.cycle s k).state ≡ false
+stays : (s : State) (k : ℕ) → may_ask_counts s.dma.block ≡ false → may_ask_counts (alone dma_lane (around 2) tt s.dma.block s.cycle s k).state ≡ false
 unfolding alone
 stays s zero h = h
 stays s (suc k) h =
-    let r = alone dma_lane (around 2) tt s.dma s.cycle s k in
+    let r = alone dma_lane (around 2) tt s.dma.block s.cycle s k in
     let begun = begun_alone dma_lane (around 2) tt (s.cycle + k) r.state r.around in
     next-no_counts r.state begun (map turn_alone (dma.wanted begun)) (stays s k h)
 
-pub dma_countless : (s : State) (k : ℕ) (state : Engine) → state ≡ (alone dma_lane (around 2) tt s.dma s.cycle s k).state → may_ask_counts s.dma ≡ false
+pub dma_countless : (s : State) (k : ℕ) (state : Engine) → state ≡ (alone dma_lane (around 2) tt s.dma.block s.cycle s k).state → may_ask_counts s.dma.block ≡ false
     → AsksNoCounts (dma_asks.asks state)
 dma_countless s k state e h = asks-no_counts state (ap may_ask_counts e ∙ stays s k h)
 

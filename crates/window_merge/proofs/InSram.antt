@@ -194,17 +194,11 @@ read_placed f counts s = read_for_placed f counts (dma_asks.write_begun s) _ (be
 counted_placed : (f : Ask → ℕ) (ask : Ask) (next : ℕ → Asking DmaDoing) → ((x : ℕ) → Begins ArePlaced f (next x)) → Begins ArePlaced f (Question ask next)
 counted_placed f ask next h = record { met = (h (f ask)).met }
 
-idle_placed : ArePlaced dma_asks.idle_begun
-idle_placed = record { read = tt; write = tt }
-
 dma_begins : (f : Ask → ℕ) (s : Engine) → Begins ArePlaced f (dma_asks.asks s)
 unfolding dma_asks.asks
 dma_begins f s =
-    either ArePlaced f s.held (Ready dma_asks.idle_begun)
-    (if list_any dma_asks.waits_for_counts s.channels then Question Pacing (λ counts. dma_asks.asks_read counts s) else dma_asks.asks_read 0 s)
-    (record { met = idle_placed })
-    (either ArePlaced f (list_any dma_asks.waits_for_counts s.channels) (Question Pacing (λ counts. dma_asks.asks_read counts s)) (dma_asks.asks_read 0 s)
-    (counted_placed f Pacing (λ counts. dma_asks.asks_read counts s) (λ counts. read_placed f counts s)) (read_placed f 0 s))
+    either ArePlaced f (list_any dma_asks.waits_for_counts s.channels) (Question Pacing (λ counts. dma_asks.asks_read counts s)) (dma_asks.asks_read 0 s)
+    (counted_placed f Pacing (λ counts. dma_asks.asks_read counts s) (λ counts. read_placed f counts s)) (read_placed f 0 s)
 
 pub dma_placed : (f : Ask → ℕ) (s : Engine) → ArePlaced (answered f (dma_asks.asks s))
 dma_placed f s = (dma_begins f s).met

@@ -22,16 +22,16 @@ unfolding begun
 same_begun start n s e =
     let a0 = both_false (differs (answer_of 0 s) (asked (guess 0 start (seen_of 0 n s.sram)) (core_asks.asks s.core0 s.cycle))) _ e in
     let a1 = both_false (differs (answer_of 1 s) (asked (guess 1 start (seen_of 1 n s.sram)) (core_asks.asks s.core1 s.cycle))) _ a0.1 in
-    let a2 = both_false (differs (answer_of 2 s) (asked (guess 2 start (seen_of 2 n s.sram)) (dma_asks.asks s.dma))) _ a1.1 in
-    let a3 = both_false (differs (answer_of 3 s) (asked (guess 3 start (seen_of 3 n s.sram)) (pio.asks s.pio0))) _ a2.1 in
-    let a4 = both_false (differs (answer_of 4 s) (asked (guess 4 start (seen_of 4 n s.sram)) (pio.asks s.pio1))) _ a3.1 in
+    let a2 = both_false (differs (answer_of 2 s) (asked (guess 2 start (seen_of 2 n s.sram)) (dma_asks.asks s.dma.block))) _ a1.1 in
+    let a3 = both_false (differs (answer_of 3 s) (asked (guess 3 start (seen_of 3 n s.sram)) (pio.asks s.pio0.block))) _ a2.1 in
+    let a4 = both_false (differs (answer_of 4 s) (asked (guess 4 start (seen_of 4 n s.sram)) (pio.asks s.pio1.block))) _ a3.1 in
     let a5 = both_false (differs (answer_of 5 s) (asked (guess 5 start (seen_of 5 n s.sram)) (outer.asks s.outer s.cycle))) _ a4.1 in
     rw (
       agree (answer_of 0 s) (guess 0 start (seen_of 0 n s.sram)) (core_asks.asks s.core0 s.cycle) a0.0,
       agree (answer_of 1 s) (guess 1 start (seen_of 1 n s.sram)) (core_asks.asks s.core1 s.cycle) a1.0,
-      agree (answer_of 2 s) (guess 2 start (seen_of 2 n s.sram)) (dma_asks.asks s.dma) a2.0,
-      agree (answer_of 3 s) (guess 3 start (seen_of 3 n s.sram)) (pio.asks s.pio0) a3.0,
-      agree (answer_of 4 s) (guess 4 start (seen_of 4 n s.sram)) (pio.asks s.pio1) a4.0,
+      agree (answer_of 2 s) (guess 2 start (seen_of 2 n s.sram)) (dma_asks.asks s.dma.block) a2.0,
+      agree (answer_of 3 s) (guess 3 start (seen_of 3 n s.sram)) (pio.asks s.pio0.block) a3.0,
+      agree (answer_of 4 s) (guess 4 start (seen_of 4 n s.sram)) (pio.asks s.pio1.block) a4.0,
       agree (answer_of 5 s) (guess 5 start (seen_of 5 n s.sram)) (outer.asks s.outer s.cycle) a5.0,
     ) refl
 

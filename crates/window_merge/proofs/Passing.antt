@@ -55,9 +55,9 @@ abbrev pub whole : Setting → State → Lengths
 whole w s = record {
   core0 = alone_length core_lane (around 0) tt s.core0 s.cycle s (longest w s);
   core1 = alone_length core_lane (around 1) tt s.core1 s.cycle s (core1_bound s (longest w s));
-  dma = alone_length dma_lane (around 2) tt s.dma s.cycle s (longest w s);
-  pio0 = alone_length pio_lane (around 3) tt s.pio0 s.cycle s (longest w s);
-  pio1 = alone_length pio_lane (around 4) tt s.pio1 s.cycle s (longest w s);
+  dma = alone_length dma_lane (around 2) tt s.dma.block s.cycle s (longest w s);
+  pio0 = alone_length pio_lane (around 3) tt s.pio0.block s.cycle s (longest w s);
+  pio1 = alone_length pio_lane (around 4) tt s.pio1.block s.cycle s (longest w s);
   outer = alone_length (peripheral_lane w) (around 5) tt s.outer s.cycle s (longest w s);
 }
 
@@ -68,9 +68,9 @@ abbrev whole_talks : Setting → State → Rests
 whole_talks w s = record {
   core0 = (alone core_lane (around 0) tt s.core0 s.cycle s (whole w s).core0).talk;
   core1 = (alone core_lane (around 1) tt s.core1 s.cycle s (whole w s).core1).talk;
-  dma = (alone dma_lane (around 2) tt s.dma s.cycle s (whole w s).dma).talk;
-  pio0 = (alone pio_lane (around 3) tt s.pio0 s.cycle s (whole w s).pio0).talk;
-  pio1 = (alone pio_lane (around 4) tt s.pio1 s.cycle s (whole w s).pio1).talk;
+  dma = (alone dma_lane (around 2) tt s.dma.block s.cycle s (whole w s).dma).talk;
+  pio0 = (alone pio_lane (around 3) tt s.pio0.block s.cycle s (whole w s).pio0).talk;
+  pio1 = (alone pio_lane (around 4) tt s.pio1.block s.cycle s (whole w s).pio1).talk;
   outer = (alone (peripheral_lane w) (around 5) tt s.outer s.cycle s (whole w s).outer).talk;
 }
 
@@ -78,9 +78,9 @@ stands_at_start : (w : Setting) (s : State) (marks : List Mark) → has_hold s.f
 stands_at_start w s marks free knows e = stands_first w s (whole w s) (whole_talks w s) marks free knows
     (lane_first core_lane 0 s.core0 s (whole w s).core0 (whole_talks w s).core0 refl)
     (lane_first core_lane 1 s.core1 s (whole w s).core1 (whole_talks w s).core1 refl)
-    (lane_first dma_lane 2 s.dma s (whole w s).dma (whole_talks w s).dma refl)
-    (lane_first pio_lane 3 s.pio0 s (whole w s).pio0 (whole_talks w s).pio0 refl)
-    (lane_first pio_lane 4 s.pio1 s (whole w s).pio1 (whole_talks w s).pio1 refl)
+    (lane_first dma_lane 2 s.dma.block s (whole w s).dma (whole_talks w s).dma refl)
+    (lane_first pio_lane 3 s.pio0.block s (whole w s).pio0 (whole_talks w s).pio0 refl)
+    (lane_first pio_lane 4 s.pio1.block s (whole w s).pio1 (whole_talks w s).pio1 refl)
     (lane_first (peripheral_lane w) 5 s.outer s (whole w s).outer (whole_talks w s).outer refl) e
 
 -- ---- one lane
@@ -135,9 +135,9 @@ lane_on m lane before s n k state cycle rest did bound t at h e lt goes =
 record Begins (w : Setting) (s : State) (k : ℕ) (now : State) (b : Begun) : Type 0 where
   core0 : LaneBegins core_lane 0 s.core0 s k now.core0 now.cycle b.core0
   core1 : LaneBegins core_lane 1 s.core1 s k now.core1 now.cycle b.core1
-  dma : LaneBegins dma_lane 2 s.dma s k now.dma now.cycle b.dma
-  pio0 : LaneBegins pio_lane 3 s.pio0 s k now.pio0 now.cycle b.pio0
-  pio1 : LaneBegins pio_lane 4 s.pio1 s k now.pio1 now.cycle b.pio1
+  dma : LaneBegins dma_lane 2 s.dma.block s k now.dma.block now.cycle b.dma
+  pio0 : LaneBegins pio_lane 3 s.pio0.block s k now.pio0.block now.cycle b.pio0
+  pio1 : LaneBegins pio_lane 4 s.pio1.block s k now.pio1.block now.cycle b.pio1
   outer : LaneBegins (peripheral_lane w) 5 s.outer s k now.outer now.cycle b.outer
 
 begins_first : (w : Setting) (s : State) → Begins w s 0 s (begun s)
@@ -195,7 +195,7 @@ run_ends w s k now rests marks b t h e =
       | inl h0 ↦ subst test (sym (lane_end core_lane 0 s.core0 s n.core0 k now.core0 now.cycle rests.core0 b.core0 (longest w s) t.core0 t.at h.core0 refl h0)) (they_end w s).core0
       | inr h1 ↦ elim h1 [
         | inl h2 ↦ subst test (sym (lane_end core_lane 1 s.core1 s n.core1 k now.core1 now.cycle rests.core1 b.core1 (core1_bound s (longest w s)) t.core1 t.at h.core1 refl h2)) (they_end w s).core1
-        | inr h2 ↦ subst test (sym (lane_end dma_lane 2 s.dma s n.dma k now.dma now.cycle rests.dma b.dma (longest w s) t.dma t.at h.dma refl h2)) (they_end w s).dma
+        | inr h2 ↦ subst test (sym (lane_end dma_lane 2 s.dma.block s n.dma k now.dma.block now.cycle rests.dma b.dma (longest w s) t.dma t.at h.dma refl h2)) (they_end w s).dma
       ]
     ]
 
@@ -208,9 +208,9 @@ runs_go_on w s k now rests marks b t h calm lt e =
     record {
       core0 = lane_on core_lane 0 s.core0 s n.core0 k now.core0 now.cycle rests.core0 b.core0 (longest w s) t.core0 t.at h.core0 refl lt none.core0;
       core1 = lane_on core_lane 1 s.core1 s n.core1 k now.core1 now.cycle rests.core1 b.core1 (core1_bound s (longest w s)) t.core1 t.at h.core1 refl lt1 none.core1;
-      dma = lane_on dma_lane 2 s.dma s n.dma k now.dma now.cycle rests.dma b.dma (longest w s) t.dma t.at h.dma refl lt none.dma;
-      pio0 = lane_on pio_lane 3 s.pio0 s n.pio0 k now.pio0 now.cycle rests.pio0 b.pio0 (longest w s) t.pio0 t.at h.pio0 refl lt refl;
-      pio1 = lane_on pio_lane 4 s.pio1 s n.pio1 k now.pio1 now.cycle rests.pio1 b.pio1 (longest w s) t.pio1 t.at h.pio1 refl lt refl;
+      dma = lane_on dma_lane 2 s.dma.block s n.dma k now.dma.block now.cycle rests.dma b.dma (longest w s) t.dma t.at h.dma refl lt none.dma;
+      pio0 = lane_on pio_lane 3 s.pio0.block s n.pio0 k now.pio0.block now.cycle rests.pio0 b.pio0 (longest w s) t.pio0 t.at h.pio0 refl lt refl;
+      pio1 = lane_on pio_lane 4 s.pio1.block s n.pio1 k now.pio1.block now.cycle rests.pio1 b.pio1 (longest w s) t.pio1 t.at h.pio1 refl lt refl;
       outer = lane_on (peripheral_lane w) 5 s.outer s n.outer k now.outer now.cycle rests.outer b.outer (longest w s) t.outer t.at h.outer refl lt refl;
     }
 
@@ -320,10 +320,10 @@ pub record Follows (s : State) (k : ℕ) (now : State) (start : Start) (notes : 
   pub restores : Restores notes.originals now.sram s.sram
   pub core0 : patched notes.core0 s.sram ≡ sram_alone core_lane 0 s.core0 s k
   pub core1 : patched notes.core1 s.sram ≡ sram_alone core_lane 1 s.core1 s k
-  pub dma : patched notes.dma s.sram ≡ sram_alone dma_lane 2 s.dma s k
+  pub dma : patched notes.dma s.sram ≡ sram_alone dma_lane 2 s.dma.block s k
   pub clean0 : notes.core1 ≡ [] → notes.dma ≡ [] → sram_alone core_lane 0 s.core0 s k ≡ now.sram
   pub clean1 : notes.core0 ≡ [] → notes.dma ≡ [] → sram_alone core_lane 1 s.core1 s k ≡ now.sram
-  pub clean2 : notes.core0 ≡ [] → notes.core1 ≡ [] → sram_alone dma_lane 2 s.dma s k ≡ now.sram
+  pub clean2 : notes.core0 ≡ [] → notes.core1 ≡ [] → sram_alone dma_lane 2 s.dma.block s k ≡ now.sram
   pub clean : notes.core0 ≡ [] → notes.core1 ≡ [] → notes.dma ≡ [] → s.sram ≡ now.sram
   pub few : HasFew k notes
 
@@ -366,8 +366,8 @@ clean_and true true e = (refl, refl)
 clean_and true false e = absurd (cc e)
 clean_and false b e = absurd (cc e)
 
-sees2 : (s : State) (k : ℕ) (now : State) (start : Start) (notes : Notes) → Follows s k now start notes → Sees (seen_of 2 notes now.sram) (sram_alone dma_lane 2 s.dma s k)
-sees2 s k now start notes f i lt = sight (is_clean 2 notes) notes.dma notes.originals now.sram s.sram (sram_alone dma_lane 2 s.dma s k) i
+sees2 : (s : State) (k : ℕ) (now : State) (start : Start) (notes : Notes) → Follows s k now start notes → Sees (seen_of 2 notes now.sram) (sram_alone dma_lane 2 s.dma.block s k)
+sees2 s k now start notes f i lt = sight (is_clean 2 notes) notes.dma notes.originals now.sram s.sram (sram_alone dma_lane 2 s.dma.block s k) i
     (λ c. let p = clean_and (is_none notes.core0) (is_none notes.core1) c in f.clean2 (no_word notes.core0 p.0) (no_word notes.core1 p.1)) f.restores f.dma f.long lt
 
 -- a lane that wants nothing leaves what is around it
@@ -411,21 +411,21 @@ answers_found m lane before s k start seen e lines sees question =
 record AnswerAlone (w : Setting) (s : State) (k : ℕ) (now : State) (start : Start) (notes : Notes) : Type 0 where
   core0 : Alike (guess 0 start (seen_of 0 notes now.sram)) (answer_of 0 (alone core_lane (around 0) tt s.core0 s.cycle s k).around) (core_asks.asks now.core0 now.cycle)
   core1 : Alike (guess 1 start (seen_of 1 notes now.sram)) (answer_of 1 (alone core_lane (around 1) tt s.core1 s.cycle s k).around) (core_asks.asks now.core1 now.cycle)
-  dma : Alike (guess 2 start (seen_of 2 notes now.sram)) (answer_of 2 (alone dma_lane (around 2) tt s.dma s.cycle s k).around) (dma_asks.asks now.dma)
-  pio0 : Alike (guess 3 start (seen_of 3 notes now.sram)) (answer_of 3 (alone pio_lane (around 3) tt s.pio0 s.cycle s k).around) (pio.asks now.pio0)
-  pio1 : Alike (guess 4 start (seen_of 4 notes now.sram)) (answer_of 4 (alone pio_lane (around 4) tt s.pio1 s.cycle s k).around) (pio.asks now.pio1)
+  dma : Alike (guess 2 start (seen_of 2 notes now.sram)) (answer_of 2 (alone dma_lane (around 2) tt s.dma.block s.cycle s k).around) (dma_asks.asks now.dma.block)
+  pio0 : Alike (guess 3 start (seen_of 3 notes now.sram)) (answer_of 3 (alone pio_lane (around 3) tt s.pio0.block s.cycle s k).around) (pio.asks now.pio0.block)
+  pio1 : Alike (guess 4 start (seen_of 4 notes now.sram)) (answer_of 4 (alone pio_lane (around 4) tt s.pio1.block s.cycle s k).around) (pio.asks now.pio1.block)
   outer : Alike (guess 5 start (seen_of 5 notes now.sram)) (answer_of 5 (alone (peripheral_lane w) (around 5) tt s.outer s.cycle s k).around) (outer.asks now.outer now.cycle)
 
 -- the counts were found, or the DMA engine does not ask for them
-dma_alone : (s : State) (k : ℕ) (now : State) (start : Start) (notes : Notes) → Follows s k now start notes → now.dma ≡ (alone dma_lane (around 2) tt s.dma s.cycle s k).state
-    → Alike (guess 2 start (seen_of 2 notes now.sram)) (answer_of 2 (alone dma_lane (around 2) tt s.dma s.cycle s k).around) (dma_asks.asks now.dma)
-dma_alone s k now start notes f e = elim (true_or_false (may_ask_counts s.dma)) [
+dma_alone : (s : State) (k : ℕ) (now : State) (start : Start) (notes : Notes) → Follows s k now start notes → now.dma.block ≡ (alone dma_lane (around 2) tt s.dma.block s.cycle s k).state
+    → Alike (guess 2 start (seen_of 2 notes now.sram)) (answer_of 2 (alone dma_lane (around 2) tt s.dma.block s.cycle s k).around) (dma_asks.asks now.dma.block)
+dma_alone s k now start notes f e = elim (true_or_false (may_ask_counts s.dma.block)) [
   | inl may ↦
-      let same = answers_found dma_lane 2 s.dma s k start (seen_of 2 notes now.sram) (counts_told start s f.is_start may) (lines2 s) (sees2 s k now start notes f) in
-      record { begun = answered_same _ _ (dma_asks.asks now.dma) same; talk = asked_same _ _ (dma_asks.asks now.dma) same }
+      let same = answers_found dma_lane 2 s.dma.block s k start (seen_of 2 notes now.sram) (counts_told start s f.is_start may) (lines2 s) (sees2 s k now start notes f) in
+      record { begun = answered_same _ _ (dma_asks.asks now.dma.block) same; talk = asked_same _ _ (dma_asks.asks now.dma.block) same }
   | inr none ↦
-      alike_but _ _ (dma_asks.asks now.dma) (answers_alone dma_lane 2 s.dma s k start (seen_of 2 notes now.sram) f.is_start (lines2 s) (sees2 s k now start notes f))
-      (dma_countless s k now.dma e none)
+      alike_but _ _ (dma_asks.asks now.dma.block) (answers_alone dma_lane 2 s.dma.block s k start (seen_of 2 notes now.sram) f.is_start (lines2 s) (sees2 s k now start notes f))
+      (dma_countless s k now.dma.block e none)
 ]
 
 all_alone : (w : Setting) (s : State) (k : ℕ) (now : State) (rests : Rests) (marks : List Mark) (start : Start) (notes : Notes) → Stands w s (whole w s) k now rests marks → Follows s k now start notes
@@ -434,8 +434,8 @@ all_alone w s k now rests marks start notes t f = record {
   core0 = alike_but _ _ (core_asks.asks now.core0 now.cycle) (answers_alone core_lane 0 s.core0 s k start (seen_of 0 notes now.sram) f.is_start (lines0 s) (sees0 s k now start notes f)) (core_countless now.core0 now.cycle);
   core1 = alike_but _ _ (core_asks.asks now.core1 now.cycle) (answers_alone core_lane 1 s.core1 s k start (seen_of 1 notes now.sram) f.is_start (lines1 s) (sees1 s k now start notes f)) (core_countless now.core1 now.cycle);
   dma = dma_alone s k now start notes f t.dma.is_alone;
-  pio0 = alike_but _ _ (pio.asks now.pio0) (answers_alone pio_lane 3 s.pio0 s k start (seen_of 3 notes now.sram) f.is_start (lines3 s) (sees_start pio_lane 3 s.pio0 s k now start notes f (λ t did. refl))) (pio_countless now.pio0);
-  pio1 = alike_but _ _ (pio.asks now.pio1) (answers_alone pio_lane 4 s.pio1 s k start (seen_of 4 notes now.sram) f.is_start (lines4 s) (sees_start pio_lane 4 s.pio1 s k now start notes f (λ t did. refl))) (pio_countless now.pio1);
+  pio0 = alike_but _ _ (pio.asks now.pio0.block) (answers_alone pio_lane 3 s.pio0.block s k start (seen_of 3 notes now.sram) f.is_start (lines3 s) (sees_start pio_lane 3 s.pio0.block s k now start notes f (λ t did. refl))) (pio_countless now.pio0.block);
+  pio1 = alike_but _ _ (pio.asks now.pio1.block) (answers_alone pio_lane 4 s.pio1.block s k start (seen_of 4 notes now.sram) f.is_start (lines4 s) (sees_start pio_lane 4 s.pio1.block s k now start notes f (λ t did. refl))) (pio_countless now.pio1.block);
   outer = alike_but _ _ (outer.asks now.outer now.cycle) (answers_alone (peripheral_lane w) 5 s.outer s k start (seen_of 5 notes now.sram) f.is_start (lines5 s) (sees_start (peripheral_lane w) 5 s.outer s k now start notes f (λ t did. refl))) (outer_countless now.outer now.cycle);
 }
 
@@ -462,9 +462,9 @@ differs_first w s rests t =
     rw (
       ap (differs (answer_of 0 s)) (t.core0.talk_here ∙ sym t.core0.asked_here) ∙ differs_never (answer_of 0 s) (core_asks.asks s.core0 s.cycle),
       ap (differs (answer_of 1 s)) (t.core1.talk_here ∙ sym t.core1.asked_here) ∙ differs_never (answer_of 1 s) (core_asks.asks s.core1 s.cycle),
-      ap (differs (answer_of 2 s)) (t.dma.talk_here ∙ sym t.dma.asked_here) ∙ differs_never (answer_of 2 s) (dma_asks.asks s.dma),
-      ap (differs (answer_of 3 s)) (t.pio0.talk_here ∙ sym t.pio0.asked_here) ∙ differs_never (answer_of 3 s) (pio.asks s.pio0),
-      ap (differs (answer_of 4 s)) (t.pio1.talk_here ∙ sym t.pio1.asked_here) ∙ differs_never (answer_of 4 s) (pio.asks s.pio1),
+      ap (differs (answer_of 2 s)) (t.dma.talk_here ∙ sym t.dma.asked_here) ∙ differs_never (answer_of 2 s) (dma_asks.asks s.dma.block),
+      ap (differs (answer_of 3 s)) (t.pio0.talk_here ∙ sym t.pio0.asked_here) ∙ differs_never (answer_of 3 s) (pio.asks s.pio0.block),
+      ap (differs (answer_of 4 s)) (t.pio1.talk_here ∙ sym t.pio1.asked_here) ∙ differs_never (answer_of 4 s) (pio.asks s.pio1.block),
       ap (differs (answer_of 5 s)) (t.outer.talk_here ∙ sym t.outer.asked_here) ∙ differs_never (answer_of 5 s) (outer.asks s.outer s.cycle),
     ) refl
 
@@ -530,7 +530,7 @@ sram_next w s k now b now' h calm e =
     let v1 = core.want_of b.core1 in
     let read = dma.want_of b.dma.read in
     let write = dma.want_of b.dma.write in
-    let reads : write_of read ≡ deed.Nothing = ap (λ (x : BegunTransfer). write_of (dma.want_of x.read)) h.dma ∙ read_only (answer_of 2 (alone dma_lane (around 2) tt s.dma s.cycle s k).around) now.dma in
+    let reads : write_of read ≡ deed.Nothing = ap (λ (x : BegunTransfer). write_of (dma.want_of x.read)) h.dma ∙ read_only (answer_of 2 (alone dma_lane (around 2) tt s.dma.block s.cycle s k).around) now.dma.block in
     ap (λ (t : State). t.sram) e ∙ calm_sram w b now calm
     ∙ ap (sram_after write) (read_rests read (sram_after v1 (sram_after v0 now.sram)) reads)
     ∙ sym (after_want write (sram_after v1 (sram_after v0 now.sram)))
@@ -553,7 +553,7 @@ follows_by w s k now rests marks start notes b now' t h f calm e =
     let u2 = undoes_on (with_word (original_word now.sram d1) (with_word (original_word now.sram d0) notes.originals)) now.sram (stored d1 (stored d0 now.sram)) s.sram d u1 in
     let next0 = core_stores 0 s.core0 s n.core0 k now.core0 now.cycle rests.core0 b.core0 t.core0 t.at h.core0 in
     let next1 = core_stores 1 s.core1 s n.core1 k now.core1 now.cycle rests.core1 b.core1 t.core1 t.at h.core1 in
-    let next2 = dma_stores s.dma s n.dma k now.dma now.cycle rests.dma b.dma t.dma t.at h.dma in
+    let next2 = dma_stores s.dma.block s n.dma k now.dma.block now.cycle rests.dma b.dma t.dma t.at h.dma in
     record {
       is_start = f.is_start;
       long = f.long;
@@ -732,7 +732,7 @@ unstopped_whole w s n e lt =
     let b = begins_first w s in
     let c0 = lane_calm core_lane 0 s.core0 s (whole w s).core0 (longest w s) (begun s).core0 refl have.core0 b.core0 in
     let c1 = lane_calm core_lane 1 s.core1 s (whole w s).core1 (core1_bound s (longest w s)) (begun s).core1 refl have.core1 b.core1 in
-    let d = lane_calm dma_lane 2 s.dma s (whole w s).dma (longest w s) (begun s).dma refl have.dma b.dma in
+    let d = lane_calm dma_lane 2 s.dma.block s (whole w s).dma (longest w s) (begun s).dma refl have.dma b.dma in
     runs_on w s ne (record {
       calm0 = (first_ends (core.want_of (begun s).core0) want.Nothing c0).0;
       calm1 = (first_ends (core.want_of (begun s).core1) want.Nothing c1).0;

@@ -7,7 +7,7 @@ use Rattle.rp_base.specs.declared.map.Spot.TheVariants as spot
 use Rattle.rp_base.specs.declared.Master.TheVariants.{DmaRead}
 use Rattle.rp_base.specs.Map.{place_of}
 use Rattle.lane_look.specs.Asking.{answered}
-use Rattle.lane_look.specs.Asking.Asking.{Ready, Question}
+use Rattle.lane_look.specs.Asking.Asking.{Question}
 use Rattle.lane_look.specs.declared.lane.Ask.{Ask}
 use Rattle.lane_look.specs.declared.lane.Ask.TheVariants.{Pacing}
 use Rattle.dma_engine.specs.State.{Engine, channel_at}
@@ -83,13 +83,9 @@ counted_nothing : (f : Ask → ℕ) (c : Bool) (s : Engine) → WritesNothing (a
 counted_nothing f true s = read_nothing f (f Pacing) s
 counted_nothing f false s = read_nothing f 0 s
 
-by_hold : (f : Ask → ℕ) (held : Bool) (s : Engine) → WritesNothing (answered f (if held then Ready dma_asks.idle_begun else (if list_any dma_asks.waits_for_counts s.channels then Question Pacing (λ counts. dma_asks.asks_read counts s) else dma_asks.asks_read 0 s)))
-by_hold f true s = record { met = refl }
-by_hold f false s = counted_nothing f (list_any dma_asks.waits_for_counts s.channels) s
-
 asks_nothing : (f : Ask → ℕ) (s : Engine) → WritesNothing (answered f (dma_asks.asks s))
 unfolding dma_asks.asks
-asks_nothing f s = by_hold f s.held s
+asks_nothing f s = counted_nothing f (list_any dma_asks.waits_for_counts s.channels) s
 
 pub read_only : (f : Ask → ℕ) (s : Engine) → write_of (dma.want_of (answered f (dma_asks.asks s)).read) ≡ deed.Nothing
 read_only f s = (asks_nothing f s).met

@@ -29,7 +29,7 @@ ran_alone w s lane start copies n m (run.Core room) (run.Pio report) e_start e_c
 ran_alone w s lane start copies n m (run.Core room) (run.Outer report) e_start e_copies e_bound e_lane h = absurd h
 ran_alone w s lane start copies n m (run.Dma room) (run.Core report) e_start e_copies e_bound e_lane h = absurd h
 ran_alone w s lane start copies n m (run.Dma room) (run.Dma report) e_start e_copies e_bound e_lane h =
-    as_run_alone dma_lane lane s.dma room.before s start copies n m report e_start e_copies e_lane e_bound h
+    as_run_alone dma_lane lane s.dma.block room.before s start copies n m report e_start e_copies e_lane e_bound h
 ran_alone w s lane start copies n m (run.Dma room) (run.Pio report) e_start e_copies e_bound e_lane h = absurd h
 ran_alone w s lane start copies n m (run.Dma room) (run.Outer report) e_start e_copies e_bound e_lane h = absurd h
 ran_alone w s lane start copies n m (run.Pio room) (run.Core report) e_start e_copies e_bound e_lane h = absurd h

@@ -79,7 +79,7 @@ guess_is lane s seen sees ask.Inputs lines sight = inputs_over s sees
 guess_is lane s seen sees (ask.Outs block) lines sight = outs_same block s ∙ outs_over block s sees
 
 -- the start answers so but for the counts, and those too where the DMA engine may come to ask for them
-pub counts_told : (start : Start) (s : State) → IsStart start s → may_ask_counts s.dma ≡ true → start ≡ start_of s
+pub counts_told : (start : Start) (s : State) → IsStart start s → may_ask_counts s.dma.block ≡ true → start ≡ start_of s
 counts_told start s e h = e.same ∙ ap (λ (c : Counts). with_counts c (start_of s)) (e.counts h)
 
 pub guess_but : (lane : ℕ) (start : Start) (s : State) (seen : ℕ → ℕ) (question : Ask) → IsStart start s → is_pacing question ≡ false

@@ -128,7 +128,7 @@ one_strange m lane before s report (Some index) h e_start u = (e_start, u.0, oth
 
 strange_by : (w : Setting) (s : State) (lane : ℕ) (r : LaneRun) (entry : Option ℕ) → IsTrueRun w r → start_of r ≡ s.cycle → IsUnlikeBy w s lane r entry → IsStrangeBy w s lane r entry
 strange_by w s lane (run.Core report) entry h e u = one_strange core_lane lane (core_of lane s) s report entry h e u
-strange_by w s lane (run.Dma report) entry h e u = one_strange dma_lane lane s.dma s report entry h e u
+strange_by w s lane (run.Dma report) entry h e u = one_strange dma_lane lane s.dma.block s report entry h e u
 strange_by w s lane (run.Pio report) entry h e u = one_strange pio_lane lane (block_of lane s) s report entry h e u
 strange_by w s lane (run.Outer report) entry h e u = one_strange (peripheral_lane w) lane s.outer s report entry h e u
 

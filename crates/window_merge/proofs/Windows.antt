@@ -49,9 +49,9 @@ pub record Lengths : Type 0 where
 pub record AreLengths (w : Setting) (s : State) (n : Lengths) : Type 0 where
   pub core0 : n.core0 ≡ alone_length core_lane (around 0) tt s.core0 s.cycle s (longest w s)
   pub core1 : n.core1 ≡ alone_length core_lane (around 1) tt s.core1 s.cycle s (core1_bound s (longest w s))
-  pub dma : n.dma ≡ alone_length dma_lane (around 2) tt s.dma s.cycle s (longest w s)
-  pub pio0 : n.pio0 ≡ alone_length pio_lane (around 3) tt s.pio0 s.cycle s (longest w s)
-  pub pio1 : n.pio1 ≡ alone_length pio_lane (around 4) tt s.pio1 s.cycle s (longest w s)
+  pub dma : n.dma ≡ alone_length dma_lane (around 2) tt s.dma.block s.cycle s (longest w s)
+  pub pio0 : n.pio0 ≡ alone_length pio_lane (around 3) tt s.pio0.block s.cycle s (longest w s)
+  pub pio1 : n.pio1 ≡ alone_length pio_lane (around 4) tt s.pio1.block s.cycle s (longest w s)
   pub outer : n.outer ≡ alone_length (peripheral_lane w) (around 5) tt s.outer s.cycle s (longest w s)
 
 -- no run ends at k
@@ -73,9 +73,9 @@ pub record Stands (w : Setting) (s : State) (n : Lengths) (k : ℕ) (now : State
   pub offer : now.core1.offer ≡ s.core1.offer
   pub core0 : LaneStands core_lane 0 s.core0 s n.core0 k now.core0 rests.core0
   pub core1 : LaneStands core_lane 1 s.core1 s n.core1 k now.core1 rests.core1
-  pub dma : LaneStands dma_lane 2 s.dma s n.dma k now.dma rests.dma
-  pub pio0 : LaneStands pio_lane 3 s.pio0 s n.pio0 k now.pio0 rests.pio0
-  pub pio1 : LaneStands pio_lane 4 s.pio1 s n.pio1 k now.pio1 rests.pio1
+  pub dma : LaneStands dma_lane 2 s.dma.block s n.dma k now.dma.block rests.dma
+  pub pio0 : LaneStands pio_lane 3 s.pio0.block s n.pio0 k now.pio0.block rests.pio0
+  pub pio1 : LaneStands pio_lane 4 s.pio1.block s n.pio1 k now.pio1.block rests.pio1
   pub outer : LaneStands (peripheral_lane w) 5 s.outer s n.outer k now.outer rests.outer
   pub goes : (j : ℕ) → j < k → closes w s j ≡ false
   pub is_marks : marks ≡ marks_in w s k
@@ -85,9 +85,9 @@ pub record Stands (w : Setting) (s : State) (n : Lengths) (k : ℕ) (now : State
 pub record AreTold (w : Setting) (s : State) (n : Lengths) (k : ℕ) (now : State) (rests : Rests) : Type 0 where
   pub core0 : LaneTold core_lane 0 s.core0 s n.core0 k now.core0 now.cycle rests.core0
   pub core1 : LaneTold core_lane 1 s.core1 s n.core1 k now.core1 now.cycle rests.core1
-  pub dma : LaneTold dma_lane 2 s.dma s n.dma k now.dma now.cycle rests.dma
-  pub pio0 : LaneTold pio_lane 3 s.pio0 s n.pio0 k now.pio0 now.cycle rests.pio0
-  pub pio1 : LaneTold pio_lane 4 s.pio1 s n.pio1 k now.pio1 now.cycle rests.pio1
+  pub dma : LaneTold dma_lane 2 s.dma.block s n.dma k now.dma.block now.cycle rests.dma
+  pub pio0 : LaneTold pio_lane 3 s.pio0.block s n.pio0 k now.pio0.block now.cycle rests.pio0
+  pub pio1 : LaneTold pio_lane 4 s.pio1.block s n.pio1 k now.pio1.block now.cycle rests.pio1
   pub outer : LaneTold (peripheral_lane w) 5 s.outer s n.outer k now.outer now.cycle rests.outer
 
 -- the loop tries the cycle k, in which no run ends
@@ -101,9 +101,9 @@ pub all_told : (w : Setting) (s : State) (n : Lengths) (k : ℕ) (now : State) (
 all_told w s n k now rests marks t = record {
   core0 = lane_told core_lane 0 s.core0 s n.core0 k now.core0 now.cycle rests.core0 t.stands.core0 t.on.core0 t.stands.at;
   core1 = lane_told core_lane 1 s.core1 s n.core1 k now.core1 now.cycle rests.core1 t.stands.core1 t.on.core1 t.stands.at;
-  dma = lane_told dma_lane 2 s.dma s n.dma k now.dma now.cycle rests.dma t.stands.dma t.on.dma t.stands.at;
-  pio0 = lane_told pio_lane 3 s.pio0 s n.pio0 k now.pio0 now.cycle rests.pio0 t.stands.pio0 t.on.pio0 t.stands.at;
-  pio1 = lane_told pio_lane 4 s.pio1 s n.pio1 k now.pio1 now.cycle rests.pio1 t.stands.pio1 t.on.pio1 t.stands.at;
+  dma = lane_told dma_lane 2 s.dma.block s n.dma k now.dma.block now.cycle rests.dma t.stands.dma t.on.dma t.stands.at;
+  pio0 = lane_told pio_lane 3 s.pio0.block s n.pio0 k now.pio0.block now.cycle rests.pio0 t.stands.pio0 t.on.pio0 t.stands.at;
+  pio1 = lane_told pio_lane 4 s.pio1.block s n.pio1 k now.pio1.block now.cycle rests.pio1 t.stands.pio1 t.on.pio1 t.stands.at;
   outer = lane_told (peripheral_lane w) 5 s.outer s n.outer k now.outer now.cycle rests.outer t.stands.outer t.on.outer t.stands.at;
 }
 
@@ -120,8 +120,8 @@ clash_here : (w : Setting) (s : State) (n : Lengths) (k : ℕ) (now : State) (re
     → clash (wants_of (begun_by rests now)) ≡ clash_in (runs_of w s (longest w s)) k
 clash_here w s n k now rests t = joined_same
     (core.wanted (begun_by rests now).core0) (core.wanted (begun_by rests now).core1) (dma.wanted (begun_by rests now).dma) pio.wanted pio.wanted (outer.wanted (begun_by rests now).outer)
-    (wanted_in core_lane (around 0) tt s.core0 s.cycle s k) (wanted_in core_lane (around 1) tt s.core1 s.cycle s k) (wanted_in dma_lane (around 2) tt s.dma s.cycle s k)
-    (wanted_in pio_lane (around 3) tt s.pio0 s.cycle s k) (wanted_in pio_lane (around 4) tt s.pio1 s.cycle s k) (wanted_in (peripheral_lane w) (around 5) tt s.outer s.cycle s k)
+    (wanted_in core_lane (around 0) tt s.core0 s.cycle s k) (wanted_in core_lane (around 1) tt s.core1 s.cycle s k) (wanted_in dma_lane (around 2) tt s.dma.block s.cycle s k)
+    (wanted_in pio_lane (around 3) tt s.pio0.block s.cycle s k) (wanted_in pio_lane (around 4) tt s.pio1.block s.cycle s k) (wanted_in (peripheral_lane w) (around 5) tt s.outer s.cycle s k)
     t.core0.wanted_here t.core1.wanted_here t.dma.wanted_here t.pio0.wanted_here t.pio1.wanted_here t.outer.wanted_here
 
 differs_here : (w : Setting) (s : State) (n : Lengths) (k : ℕ) (now : State) (rests : Rests) → AreTold w s n k now rests
@@ -180,18 +180,18 @@ apart_by c0 c1 r v e =
 record Same (rests : Rests) (now : State) : Type 0 where
   core0 : differs (answer_of 0 now) (talk rests.core0 (core_asks.asks now.core0 now.cycle)) ≡ false
   core1 : differs (answer_of 1 now) (talk rests.core1 (core_asks.asks now.core1 now.cycle)) ≡ false
-  dma : differs (answer_of 2 now) (talk rests.dma (dma_asks.asks now.dma)) ≡ false
-  pio0 : differs (answer_of 3 now) (talk rests.pio0 (pio.asks now.pio0)) ≡ false
-  pio1 : differs (answer_of 4 now) (talk rests.pio1 (pio.asks now.pio1)) ≡ false
+  dma : differs (answer_of 2 now) (talk rests.dma (dma_asks.asks now.dma.block)) ≡ false
+  pio0 : differs (answer_of 3 now) (talk rests.pio0 (pio.asks now.pio0.block)) ≡ false
+  pio1 : differs (answer_of 4 now) (talk rests.pio1 (pio.asks now.pio1.block)) ≡ false
   outer : differs (answer_of 5 now) (talk rests.outer (outer.asks now.outer now.cycle)) ≡ false
 
 all_same : (rests : Rests) (now : State) → differs_by rests now ≡ false → Same rests now
 all_same rests now e =
     let a = both_false (differs (answer_of 0 now) (talk rests.core0 (core_asks.asks now.core0 now.cycle))) _ e in
     let b = both_false (differs (answer_of 1 now) (talk rests.core1 (core_asks.asks now.core1 now.cycle))) _ a.1 in
-    let c = both_false (differs (answer_of 2 now) (talk rests.dma (dma_asks.asks now.dma))) _ b.1 in
-    let d = both_false (differs (answer_of 3 now) (talk rests.pio0 (pio.asks now.pio0))) _ c.1 in
-    let f = both_false (differs (answer_of 4 now) (talk rests.pio1 (pio.asks now.pio1))) _ d.1 in
+    let c = both_false (differs (answer_of 2 now) (talk rests.dma (dma_asks.asks now.dma.block))) _ b.1 in
+    let d = both_false (differs (answer_of 3 now) (talk rests.pio0 (pio.asks now.pio0.block))) _ c.1 in
+    let f = both_false (differs (answer_of 4 now) (talk rests.pio1 (pio.asks now.pio1.block))) _ d.1 in
     let g = both_false (differs (answer_of 5 now) (talk rests.outer (outer.asks now.outer now.cycle))) _ f.1 in
     record { core0 = a.0; core1 = b.0; dma = c.0; pio0 = d.0; pio1 = f.0; outer = g.0 }
 
@@ -202,9 +202,9 @@ begins_same w s n k now rests t same =
     rw (
       lane_agrees core_lane 0 s.core0 s n.core0 k now.core0 now.cycle rests.core0 (answer_of 0 now) t.core0 same.core0,
       lane_agrees core_lane 1 s.core1 s n.core1 k now.core1 now.cycle rests.core1 (answer_of 1 now) t.core1 same.core1,
-      lane_agrees dma_lane 2 s.dma s n.dma k now.dma now.cycle rests.dma (answer_of 2 now) t.dma same.dma,
-      lane_agrees pio_lane 3 s.pio0 s n.pio0 k now.pio0 now.cycle rests.pio0 (answer_of 3 now) t.pio0 same.pio0,
-      lane_agrees pio_lane 4 s.pio1 s n.pio1 k now.pio1 now.cycle rests.pio1 (answer_of 4 now) t.pio1 same.pio1,
+      lane_agrees dma_lane 2 s.dma.block s n.dma k now.dma.block now.cycle rests.dma (answer_of 2 now) t.dma same.dma,
+      lane_agrees pio_lane 3 s.pio0.block s n.pio0 k now.pio0.block now.cycle rests.pio0 (answer_of 3 now) t.pio0 same.pio0,
+      lane_agrees pio_lane 4 s.pio1.block s n.pio1 k now.pio1.block now.cycle rests.pio1 (answer_of 4 now) t.pio1 same.pio1,
       lane_agrees (peripheral_lane w) 5 s.outer s n.outer k now.outer now.cycle rests.outer (answer_of 5 now) t.outer same.outer,
     ) refl
 
@@ -226,7 +226,7 @@ all_calm w s n k now rests marks t =
     let told_here = all_told w s n k now rests marks t in
     let c0 = lane_goes_on core_lane 0 s.core0 s (longest w s) n.core0 k now.core0 now.cycle rests.core0 t.stands.core0 t.on.core0 t.lengths.core0 told_here.core0 in
     let c1 = lane_goes_on core_lane 1 s.core1 s (core1_bound s (longest w s)) n.core1 k now.core1 now.cycle rests.core1 t.stands.core1 t.on.core1 t.lengths.core1 told_here.core1 in
-    let d = lane_goes_on dma_lane 2 s.dma s (longest w s) n.dma k now.dma now.cycle rests.dma t.stands.dma t.on.dma t.lengths.dma told_here.dma in
+    let d = lane_goes_on dma_lane 2 s.dma.block s (longest w s) n.dma k now.dma.block now.cycle rests.dma t.stands.dma t.on.dma t.lengths.dma told_here.dma in
     record {
       calm0 = (first_ends (core.want_of (begun_by rests now).core0) want.Nothing c0).0;
       calm1 = (first_ends (core.want_of (begun_by rests now).core1) want.Nothing c1).0;
@@ -258,8 +258,8 @@ calm_here w s n k now rests marks t same none =
       calm_write = calm.calm_write;
       placed0 = core_placed (answer_of 0 now) now.core0 now.cycle;
       placed1 = core_placed (answer_of 1 now) now.core1 now.cycle;
-      placed_read = (dma_placed (answer_of 2 now) now.dma).read;
-      placed_write = (dma_placed (answer_of 2 now) now.dma).write;
+      placed_read = (dma_placed (answer_of 2 now) now.dma.block).read;
+      placed_write = (dma_placed (answer_of 2 now) now.dma.block).write;
       apart = apart_by _ _ _ _ apart;
       free = t.stands.free;
       launcher = not_launching w s n k now rests marks t;
@@ -326,9 +326,9 @@ pub stands_first : (w : Setting) (s : State) (n : Lengths) (rests : Rests) (mark
     → has_hold s.fabric ≡ false → KnowsSio s
     → LaneStands core_lane 0 s.core0 s n.core0 0 s.core0 rests.core0
     → LaneStands core_lane 1 s.core1 s n.core1 0 s.core1 rests.core1
-    → LaneStands dma_lane 2 s.dma s n.dma 0 s.dma rests.dma
-    → LaneStands pio_lane 3 s.pio0 s n.pio0 0 s.pio0 rests.pio0
-    → LaneStands pio_lane 4 s.pio1 s n.pio1 0 s.pio1 rests.pio1
+    → LaneStands dma_lane 2 s.dma.block s n.dma 0 s.dma.block rests.dma
+    → LaneStands pio_lane 3 s.pio0.block s n.pio0 0 s.pio0.block rests.pio0
+    → LaneStands pio_lane 4 s.pio1.block s n.pio1 0 s.pio1.block rests.pio1
     → LaneStands (peripheral_lane w) 5 s.outer s n.outer 0 s.outer rests.outer
     → marks ≡ [] → Stands w s n 0 s rests marks
 unfolding states marks_in
@@ -395,9 +395,9 @@ stands_next w s n k now rests marks fitting now' rests' marks' t is_fitting is_t
       offer = stepped.offer ∙ t.stands.offer;
       core0 = lane_next core_lane 0 s.core0 s n.core0 k now.core0 now.cycle rests.core0 now'.core0 rests'.core0 t.stands.core0 t.on.core0 told_here.core0 stepped.core0 (ap (λ (r : Rests). r.core0) e_rests);
       core1 = lane_next core_lane 1 s.core1 s n.core1 k now.core1 now.cycle rests.core1 now'.core1 rests'.core1 t.stands.core1 t.on.core1 told_here.core1 stepped.core1 (ap (λ (r : Rests). r.core1) e_rests);
-      dma = lane_next dma_lane 2 s.dma s n.dma k now.dma now.cycle rests.dma now'.dma rests'.dma t.stands.dma t.on.dma told_here.dma stepped.dma (ap (λ (r : Rests). r.dma) e_rests);
-      pio0 = lane_next pio_lane 3 s.pio0 s n.pio0 k now.pio0 now.cycle rests.pio0 now'.pio0 rests'.pio0 t.stands.pio0 t.on.pio0 told_here.pio0 stepped.pio0 (ap (λ (r : Rests). r.pio0) e_rests);
-      pio1 = lane_next pio_lane 4 s.pio1 s n.pio1 k now.pio1 now.cycle rests.pio1 now'.pio1 rests'.pio1 t.stands.pio1 t.on.pio1 told_here.pio1 stepped.pio1 (ap (λ (r : Rests). r.pio1) e_rests);
+      dma = lane_next dma_lane 2 s.dma.block s n.dma k now.dma.block now.cycle rests.dma now'.dma.block rests'.dma t.stands.dma t.on.dma told_here.dma stepped.dma (ap (λ (r : Rests). r.dma) e_rests);
+      pio0 = lane_next pio_lane 3 s.pio0.block s n.pio0 k now.pio0.block now.cycle rests.pio0 now'.pio0.block rests'.pio0 t.stands.pio0 t.on.pio0 told_here.pio0 stepped.pio0 (ap (λ (r : Rests). r.pio0) e_rests);
+      pio1 = lane_next pio_lane 4 s.pio1.block s n.pio1 k now.pio1.block now.cycle rests.pio1 now'.pio1.block rests'.pio1 t.stands.pio1 t.on.pio1 told_here.pio1 stepped.pio1 (ap (λ (r : Rests). r.pio1) e_rests);
       outer = lane_next (peripheral_lane w) 5 s.outer s n.outer k now.outer now.cycle rests.outer now'.outer rests'.outer t.stands.outer t.on.outer told_here.outer stepped.outer (ap (λ (r : Rests). r.outer) e_rests);
       goes = below_next (closes w s) k t.stands.goes goes_on;
       is_marks = e_marks ∙ ap (λ b. marks ++ outer.marked w now.outer b.outer ∷ []) f.same ∙ ap (λ ms. ms ++ mark w now ∷ []) t.stands.is_marks ∙ ap (λ x. marks_in w s k ++ mark w x ∷ []) t.stands.is_states ∙ sym (marks_next w s k);
@@ -450,9 +450,9 @@ pub stands_at_first : (w : Setting) (s : State) (runs : Runs) (marks : List Mark
 stands_at_first w s runs marks free knows h e = stands_first w s (lengths_of runs) (rests_at runs (record { core0 = 0; core1 = 0; dma = 0; pio0 = 0; pio1 = 0; outer = 0 })) marks free knows
     (lane_first core_lane 0 s.core0 s runs.core0.now.length runs.core0.now.log h.core0.same_log)
     (lane_first core_lane 1 s.core1 s runs.core1.now.length runs.core1.now.log h.core1.same_log)
-    (lane_first dma_lane 2 s.dma s runs.dma.now.length runs.dma.now.log h.dma.same_log)
-    (lane_first pio_lane 3 s.pio0 s runs.pio0.now.length runs.pio0.now.log h.pio0.same_log)
-    (lane_first pio_lane 4 s.pio1 s runs.pio1.now.length runs.pio1.now.log h.pio1.same_log)
+    (lane_first dma_lane 2 s.dma.block s runs.dma.now.length runs.dma.now.log h.dma.same_log)
+    (lane_first pio_lane 3 s.pio0.block s runs.pio0.now.length runs.pio0.now.log h.pio0.same_log)
+    (lane_first pio_lane 4 s.pio1.block s runs.pio1.now.length runs.pio1.now.log h.pio1.same_log)
     (lane_first (peripheral_lane w) 5 s.outer s runs.outer.now.length runs.outer.now.log h.outer.same_log) e
 
 pub within_first : (runs : Runs) → IsWithin runs (record { core0 = 0; core1 = 0; dma = 0; pio0 = 0; pio1 = 0; outer = 0 })
@@ -498,9 +498,9 @@ or_true false = refl
 pub record TheyEnd (w : Setting) (s : State) : Type 0 where
   pub core0 : ends_in (runs_of w s (longest w s)) (alone_length core_lane (around 0) tt s.core0 s.cycle s (longest w s)) ≡ true
   pub core1 : ends_in (runs_of w s (longest w s)) (alone_length core_lane (around 1) tt s.core1 s.cycle s (core1_bound s (longest w s))) ≡ true
-  pub dma : ends_in (runs_of w s (longest w s)) (alone_length dma_lane (around 2) tt s.dma s.cycle s (longest w s)) ≡ true
-  pub pio0 : ends_in (runs_of w s (longest w s)) (alone_length pio_lane (around 3) tt s.pio0 s.cycle s (longest w s)) ≡ true
-  pub pio1 : ends_in (runs_of w s (longest w s)) (alone_length pio_lane (around 4) tt s.pio1 s.cycle s (longest w s)) ≡ true
+  pub dma : ends_in (runs_of w s (longest w s)) (alone_length dma_lane (around 2) tt s.dma.block s.cycle s (longest w s)) ≡ true
+  pub pio0 : ends_in (runs_of w s (longest w s)) (alone_length pio_lane (around 3) tt s.pio0.block s.cycle s (longest w s)) ≡ true
+  pub pio1 : ends_in (runs_of w s (longest w s)) (alone_length pio_lane (around 4) tt s.pio1.block s.cycle s (longest w s)) ≡ true
   pub outer : ends_in (runs_of w s (longest w s)) (alone_length (peripheral_lane w) (around 5) tt s.outer s.cycle s (longest w s)) ≡ true
 
 pub they_end : (w : Setting) (s : State) → TheyEnd w s

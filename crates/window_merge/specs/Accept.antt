@@ -40,7 +40,7 @@ IsStrange m lane before s report (Some index) =
 
 abbrev pub IsStrangeBy : Setting → State → ℕ → LaneRun → Option ℕ → Type 0
 IsStrangeBy w s lane (run.Core report) entry = IsStrange core_lane lane (core_of lane s) s report entry
-IsStrangeBy w s lane (run.Dma report) entry = IsStrange dma_lane lane s.dma s report entry
+IsStrangeBy w s lane (run.Dma report) entry = IsStrange dma_lane lane s.dma.block s report entry
 IsStrangeBy w s lane (run.Pio report) entry = IsStrange pio_lane lane (block_of lane s) s report entry
 IsStrangeBy w s lane (run.Outer report) entry = IsStrange (peripheral_lane w) lane s.outer s report entry
 

@@ -25,7 +25,7 @@ abbrev pub core_of : ℕ → State → Core
 core_of lane s = if lane == 0 then s.core0 else s.core1
 
 abbrev pub block_of : ℕ → State → Pio
-block_of lane s = if lane == 3 then s.pio0 else s.pio1
+block_of lane s = if lane == 3 then s.pio0.block else s.pio1.block
 
 -- core 1 takes a word of its launcher in its first cycle, where it sleeps and there is one; its run alone ends before that
 abbrev pub core_bound : ℕ → Core → ℕ → ℕ
@@ -36,7 +36,7 @@ core_bound lane core bound = if lane == 1 && is_launching core then 0 else bound
 -- the report begins in the lane of that number of a state
 abbrev pub BeginsIn : ℕ → State → LaneRun → Type 0
 BeginsIn lane s (run.Core report) = report.before ≡ core_of lane s
-BeginsIn lane s (run.Dma report) = report.before ≡ s.dma
+BeginsIn lane s (run.Dma report) = report.before ≡ s.dma.block
 BeginsIn lane s (run.Pio report) = report.before ≡ block_of lane s
 BeginsIn lane s (run.Outer report) = report.before ≡ s.outer
 
@@ -81,7 +81,7 @@ pub record IsTrueIn (w : Setting) (report : LaneReport) : Type 0 where
 
 abbrev pub IsAloneBy : Setting → State → ℕ → ℕ → LaneRun → Type 0
 IsAloneBy w s bound lane (run.Core report) = IsRunAlone core_lane lane (core_of lane s) s (core_bound lane (core_of lane s) bound) report
-IsAloneBy w s bound lane (run.Dma report) = IsRunAlone dma_lane lane s.dma s bound report
+IsAloneBy w s bound lane (run.Dma report) = IsRunAlone dma_lane lane s.dma.block s bound report
 IsAloneBy w s bound lane (run.Pio report) = IsRunAlone pio_lane lane (block_of lane s) s bound report
 IsAloneBy w s bound lane (run.Outer report) = IsRunAlone (peripheral_lane w) lane s.outer s bound report
 

@@ -30,7 +30,7 @@ IsUnlike m lane before s report (Some index) =
 
 abbrev pub IsUnlikeBy : Setting → State → ℕ → LaneRun → Option ℕ → Type 0
 IsUnlikeBy w s lane (run.Core report) entry = IsUnlike core_lane lane (core_of lane s) s report entry
-IsUnlikeBy w s lane (run.Dma report) entry = IsUnlike dma_lane lane s.dma s report entry
+IsUnlikeBy w s lane (run.Dma report) entry = IsUnlike dma_lane lane s.dma.block s report entry
 IsUnlikeBy w s lane (run.Pio report) entry = IsUnlike pio_lane lane (block_of lane s) s report entry
 IsUnlikeBy w s lane (run.Outer report) entry = IsUnlike (peripheral_lane w) lane s.outer s report entry
 

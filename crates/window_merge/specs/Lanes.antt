@@ -80,8 +80,8 @@ abbrev pub runs_of : Setting → State → ℕ → List Run
 runs_of w s bound =
     run_of core_lane 0 s.core0 s bound
     ∷ run_of core_lane 1 s.core1 s (core1_bound s bound)
-    ∷ run_of dma_lane 2 s.dma s bound
-    ∷ run_of pio_lane 3 s.pio0 s bound
-    ∷ run_of pio_lane 4 s.pio1 s bound
+    ∷ run_of dma_lane 2 s.dma.block s bound
+    ∷ run_of pio_lane 3 s.pio0.block s bound
+    ∷ run_of pio_lane 4 s.pio1.block s bound
     ∷ run_of (peripheral_lane w) 5 s.outer s bound
     ∷ []

@@ -45,9 +45,9 @@ abbrev pub begun_by : Rests → State → Begun
 begun_by rests s = record {
   core0 = told rests.core0 (core_asks.asks s.core0 s.cycle);
   core1 = told rests.core1 (core_asks.asks s.core1 s.cycle);
-  dma = told rests.dma (dma_asks.asks s.dma);
-  pio0 = told rests.pio0 (pio.asks s.pio0);
-  pio1 = told rests.pio1 (pio.asks s.pio1);
+  dma = told rests.dma (dma_asks.asks s.dma.block);
+  pio0 = told rests.pio0 (pio.asks s.pio0.block);
+  pio1 = told rests.pio1 (pio.asks s.pio1.block);
   outer = told rests.outer (outer.asks s.outer s.cycle);
 }
 
@@ -56,9 +56,9 @@ abbrev pub left_by : Rests → State → Rests
 left_by rests s = record {
   core0 = left rests.core0 (core_asks.asks s.core0 s.cycle);
   core1 = left rests.core1 (core_asks.asks s.core1 s.cycle);
-  dma = left rests.dma (dma_asks.asks s.dma);
-  pio0 = left rests.pio0 (pio.asks s.pio0);
-  pio1 = left rests.pio1 (pio.asks s.pio1);
+  dma = left rests.dma (dma_asks.asks s.dma.block);
+  pio0 = left rests.pio0 (pio.asks s.pio0.block);
+  pio1 = left rests.pio1 (pio.asks s.pio1.block);
   outer = left rests.outer (outer.asks s.outer s.cycle);
 }
 
@@ -67,9 +67,9 @@ abbrev pub differs_by : Rests → State → Bool
 differs_by rests s =
     differs (answer_of 0 s) (talk rests.core0 (core_asks.asks s.core0 s.cycle))
     || (differs (answer_of 1 s) (talk rests.core1 (core_asks.asks s.core1 s.cycle))
-    || (differs (answer_of 2 s) (talk rests.dma (dma_asks.asks s.dma))
-    || (differs (answer_of 3 s) (talk rests.pio0 (pio.asks s.pio0))
-    || (differs (answer_of 4 s) (talk rests.pio1 (pio.asks s.pio1))
+    || (differs (answer_of 2 s) (talk rests.dma (dma_asks.asks s.dma.block))
+    || (differs (answer_of 3 s) (talk rests.pio0 (pio.asks s.pio0.block))
+    || (differs (answer_of 4 s) (talk rests.pio1 (pio.asks s.pio1.block))
     || (differs (answer_of 5 s) (talk rests.outer (outer.asks s.outer s.cycle)) || false)))))
 
 -- the wants of the lanes
@@ -121,9 +121,9 @@ end_at runs k =
 pub record AreRunsAlone (w : Setting) (s : State) (runs : Runs) : Type 0 where
   pub core0 : IsRunAlone core_lane 0 s.core0 s (longest w s) runs.core0.now
   pub core1 : IsRunAlone core_lane 1 s.core1 s (core1_bound s (longest w s)) runs.core1.now
-  pub dma : IsRunAlone dma_lane 2 s.dma s (longest w s) runs.dma.now
-  pub pio0 : IsRunAlone pio_lane 3 s.pio0 s (longest w s) runs.pio0.now
-  pub pio1 : IsRunAlone pio_lane 4 s.pio1 s (longest w s) runs.pio1.now
+  pub dma : IsRunAlone dma_lane 2 s.dma.block s (longest w s) runs.dma.now
+  pub pio0 : IsRunAlone pio_lane 3 s.pio0.block s (longest w s) runs.pio0.now
+  pub pio1 : IsRunAlone pio_lane 4 s.pio1.block s (longest w s) runs.pio1.now
   pub outer : IsRunAlone (peripheral_lane w) 5 s.outer s (longest w s) runs.outer.now
 
 -- ---- from one position of a run to the next

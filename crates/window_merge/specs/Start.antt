@@ -46,7 +46,7 @@ with_counts counts start = record start { counts = counts }
 -- that is kept, but for the counts that pace DMA channels where the DMA engine cannot come to ask for them: no other lane does
 pub record IsStart (start : Start) (s : State) : Type 0 where
   pub same : start ≡ with_counts start.counts (start_of s)
-  pub counts : may_ask_counts s.dma ≡ true → start.counts ≡ counts_of s
+  pub counts : may_ask_counts s.dma.block ≡ true → start.counts ≡ counts_of s
 
 -- the word of a spot; 0 where it is not in SRAM
 abbrev pub word_by : (ℕ → ℕ) → Spot → ℕ
@@ -79,9 +79,9 @@ abbrev pub begun_from : Start → Notes → State → Begun
 begun_from start n s = record {
   core0 = answered (guess 0 start (seen_of 0 n s.sram)) (core_asks.asks s.core0 s.cycle);
   core1 = answered (guess 1 start (seen_of 1 n s.sram)) (core_asks.asks s.core1 s.cycle);
-  dma = answered (guess 2 start (seen_of 2 n s.sram)) (dma_asks.asks s.dma);
-  pio0 = answered (guess 3 start (seen_of 3 n s.sram)) (pio.asks s.pio0);
-  pio1 = answered (guess 4 start (seen_of 4 n s.sram)) (pio.asks s.pio1);
+  dma = answered (guess 2 start (seen_of 2 n s.sram)) (dma_asks.asks s.dma.block);
+  pio0 = answered (guess 3 start (seen_of 3 n s.sram)) (pio.asks s.pio0.block);
+  pio1 = answered (guess 4 start (seen_of 4 n s.sram)) (pio.asks s.pio1.block);
   outer = answered (guess 5 start (seen_of 5 n s.sram)) (outer.asks s.outer s.cycle);
 }
 
@@ -97,9 +97,9 @@ abbrev pub differs_from : Start → Notes → State → Bool
 differs_from start n s =
     differs_core0 start n s
     || (differs (answer_of 1 s) (asked (guess 1 start (seen_of 1 n s.sram)) (core_asks.asks s.core1 s.cycle))
-    || (differs (answer_of 2 s) (asked (guess 2 start (seen_of 2 n s.sram)) (dma_asks.asks s.dma))
-    || (differs (answer_of 3 s) (asked (guess 3 start (seen_of 3 n s.sram)) (pio.asks s.pio0))
-    || (differs (answer_of 4 s) (asked (guess 4 start (seen_of 4 n s.sram)) (pio.asks s.pio1))
+    || (differs (answer_of 2 s) (asked (guess 2 start (seen_of 2 n s.sram)) (dma_asks.asks s.dma.block))
+    || (differs (answer_of 3 s) (asked (guess 3 start (seen_of 3 n s.sram)) (pio.asks s.pio0.block))
+    || (differs (answer_of 4 s) (asked (guess 4 start (seen_of 4 n s.sram)) (pio.asks s.pio1.block))
     || (differs_outer start n s || false)))))
 
 -- ---- whether a cycle is one of the window

@@ -88,14 +88,14 @@ fn judge_dma(
     requires cycles { report.now.length ≤ 256 }
     requires number { machine.now.cycle + report.now.length < 2 ^ 64 }
     ensures { Judges
-        (IsRunAlone dma_lane number machine.now.dma machine.now at_most report.now)
-        (IsUnlike dma_lane number machine.now.dma machine.now report.now) result }
+        (IsRunAlone dma_lane number machine.now.dma.block machine.now at_most report.now)
+        (IsUnlike dma_lane number machine.now.dma.block machine.now report.now) result }
 {
-    if !report.before.is_same(&machine.dma) {
+    if !report.before.is_same(&machine.dma.block) {
         return Err(None);
     }
     let mut lane = Dma::new();
-    Lane::<()>::copy_from(&mut lane, &machine.dma);
+    Lane::<()>::copy_from(&mut lane, &machine.dma.block);
     let outcome = compare_run(lane, machine, number, &report.log, report.length, at_most);
     verdict(outcome)
 }
@@ -115,9 +115,9 @@ fn judge_pio(
         (IsUnlike pio_lane number (block_of number machine.now) machine.now report.now) result }
 {
     let block = if number == 3 {
-        &machine.pio0
+        &machine.pio0.block
     } else {
-        &machine.pio1
+        &machine.pio1.block
     };
     if !report.before.is_same(block) {
         return Err(None);

@@ -146,9 +146,30 @@ pub(crate) fn compare<X: Device>(
         &runs.core1.log,
         indices.core1,
     );
-    let dma = begin_compared(&machine.dma, &(), 2, machine, &runs.dma.log, indices.dma);
-    let pio0 = begin_compared(&machine.pio0, &(), 3, machine, &runs.pio0.log, indices.pio0);
-    let pio1 = begin_compared(&machine.pio1, &(), 4, machine, &runs.pio1.log, indices.pio1);
+    let dma = begin_compared(
+        &machine.dma.block,
+        &(),
+        2,
+        machine,
+        &runs.dma.log,
+        indices.dma,
+    );
+    let pio0 = begin_compared(
+        &machine.pio0.block,
+        &(),
+        3,
+        machine,
+        &runs.pio0.log,
+        indices.pio0,
+    );
+    let pio1 = begin_compared(
+        &machine.pio1.block,
+        &(),
+        4,
+        machine,
+        &runs.pio1.log,
+        indices.pio1,
+    );
     let outer = begin_compared(
         &machine.outer,
         world,

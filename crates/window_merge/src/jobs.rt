@@ -35,12 +35,12 @@ pub(crate) fn take_lane(machine: &Machine, lane: u8, run: &mut LaneRun)
             };
             Lane::<()>::copy_from(&mut report.before, core);
         }
-        LaneRun::Dma(report) => Lane::<()>::copy_from(&mut report.before, &machine.dma),
+        LaneRun::Dma(report) => Lane::<()>::copy_from(&mut report.before, &machine.dma.block),
         LaneRun::Pio(report) => {
             let block = if lane == 3 {
-                &machine.pio0
+                &machine.pio0.block
             } else {
-                &machine.pio1
+                &machine.pio1.block
             };
             Lane::<()>::copy_from(&mut report.before, block);
         }

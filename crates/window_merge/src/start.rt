@@ -63,9 +63,9 @@ fn lines_told(machine: &Machine, number: u8, core: &Core, doing: &Doing) -> u128
 /// The counts that pace DMA channels, where the DMA engine may come to ask for them; elsewhere none are found.
 #[inline(always)]
 fn counts_told(machine: &Machine) -> Counts
-    ensures { may_ask_counts machine.now.dma ≡ true → result ≡ counts_of machine.now }
+    ensures { may_ask_counts machine.now.dma.block ≡ true → result ≡ counts_of machine.now }
 {
-    if machine.dma.may_ask_counts() {
+    if machine.dma.block.may_ask_counts() {
         return machine.counts();
     }
     Counts {
@@ -271,11 +271,11 @@ fn begin_dma(
     begun: &mut BegunTransfer,
     same: &mut bool,
 )
-    ensures begun { begun.new ≡ answered (answer_of 2 machine.now) (dma.asks machine.now.dma) }
+    ensures begun { begun.new ≡ answered (answer_of 2 machine.now) (dma.asks machine.now.dma.block) }
     ensures same { same.new ≡ (same.old && not (differs
         (answer_of 2 machine.now)
         (asked (guess 2 start.now (seen_of 2 notes.now machine.now.sram))
-        (dma.asks machine.now.dma)))) }
+        (dma.asks machine.now.dma.block)))) }
 {
     let mut look = Matcher {
         machine,
@@ -284,7 +284,7 @@ fn begin_dma(
         notes,
         same: *same,
     };
-    machine.dma.begin_into(&mut look, begun);
+    machine.dma.block.begin_into(&mut look, begun);
     *same = look.same;
 }
 
@@ -355,7 +355,7 @@ pub(crate) fn begin_later<X: Device>(
         same,
     );
     begin_dma(machine, start, notes, &mut lanes.dma, same);
-    lanes.pio0 = begin_by(&machine.pio0, &(), 3, machine, start, notes, same);
-    lanes.pio1 = begin_by(&machine.pio1, &(), 4, machine, start, notes, same);
+    lanes.pio0 = begin_by(&machine.pio0.block, &(), 3, machine, start, notes, same);
+    lanes.pio1 = begin_by(&machine.pio1.block, &(), 4, machine, start, notes, same);
     begin_outer(machine, world, start, notes, &mut lanes.outer, same);
 }

@@ -158,8 +158,8 @@ pub what_is_accepted : WhatIsAcceptedIsTheRunAlone
 what_is_accepted w s bound = record {
   core0 = λ report truth. one core_lane 0 s.core0 s bound report truth;
   core1 = λ report truth. one core_lane 1 s.core1 s bound report truth;
-  dma = λ report truth. one dma_lane 2 s.dma s bound report truth;
-  pio0 = λ report truth. one pio_lane 3 s.pio0 s bound report truth;
-  pio1 = λ report truth. one pio_lane 4 s.pio1 s bound report truth;
+  dma = λ report truth. one dma_lane 2 s.dma.block s bound report truth;
+  pio0 = λ report truth. one pio_lane 3 s.pio0.block s bound report truth;
+  pio1 = λ report truth. one pio_lane 4 s.pio1.block s bound report truth;
   outer = λ report truth. one (peripheral_lane w) 5 s.outer s bound report truth;
 }

@@ -78,9 +78,9 @@ first_at w s six h = record {
   stands = stands_first w s (lengths_of six) (logs_of six) [] h.free h.knows
       (lane_first core_lane 0 s.core0 s six.core0.length six.core0.log h.alone.core0.same_log)
       (lane_first core_lane 1 s.core1 s six.core1.length six.core1.log h.alone.core1.same_log)
-      (lane_first dma_lane 2 s.dma s six.dma.length six.dma.log h.alone.dma.same_log)
-      (lane_first pio_lane 3 s.pio0 s six.pio0.length six.pio0.log h.alone.pio0.same_log)
-      (lane_first pio_lane 4 s.pio1 s six.pio1.length six.pio1.log h.alone.pio1.same_log)
+      (lane_first dma_lane 2 s.dma.block s six.dma.length six.dma.log h.alone.dma.same_log)
+      (lane_first pio_lane 3 s.pio0.block s six.pio0.length six.pio0.log h.alone.pio0.same_log)
+      (lane_first pio_lane 4 s.pio1.block s six.pio1.length six.pio1.log h.alone.pio1.same_log)
       (lane_first (peripheral_lane w) 5 s.outer s six.outer.length six.outer.log h.alone.outer.same_log) refl;
 }
 

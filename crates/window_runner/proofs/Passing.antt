@@ -101,9 +101,9 @@ a_commit_has_an_outcome w r legal none =
     let came = (λ (lane : ℕ). found_of r.came (6 * r.commits + lane)) in
     some_taken core_lane 0 s.core0 s (bound_under w s) w.limit (core0_in (came 0)) (λ core0 h0.
     some_taken core_lane 1 s.core1 s (core1_under w s) w.limit (core1_in (came 1)) (λ core1 h1.
-    some_taken dma_lane 2 s.dma s (bound_under w s) w.limit (dma_in (came 2)) (λ dma h2.
-    some_taken pio_lane 3 s.pio0 s (bound_under w s) w.limit (pio0_in (came 3)) (λ pio0 h3.
-    some_taken pio_lane 4 s.pio1 s (bound_under w s) w.limit (pio1_in (came 4)) (λ pio1 h4.
+    some_taken dma_lane 2 s.dma.block s (bound_under w s) w.limit (dma_in (came 2)) (λ dma h2.
+    some_taken pio_lane 3 s.pio0.block s (bound_under w s) w.limit (pio0_in (came 3)) (λ pio0 h3.
+    some_taken pio_lane 4 s.pio1.block s (bound_under w s) w.limit (pio1_in (came 4)) (λ pio1 h4.
     some_taken (peripheral_lane w) 5 s.outer s (bound_under w s) w.limit (outer_in (came 5)) (λ outer h5.
     let six : SixReports = record { core0 = core0; core1 = core1; dma = dma; pio0 = pio0; pio1 = pio1; outer = outer } in
     none (record r { position = next_tried w (by_merge w six r.position); commits = r.commits + 1 })
@@ -115,9 +115,9 @@ abbrev six_of : Setting → State → SixReports
 six_of w s = record {
   core0 = report_of core_lane 0 s.core0 s (bound_under w s w.limit);
   core1 = report_of core_lane 1 s.core1 s (core1_under w s w.limit);
-  dma = report_of dma_lane 2 s.dma s (bound_under w s w.limit);
-  pio0 = report_of pio_lane 3 s.pio0 s (bound_under w s w.limit);
-  pio1 = report_of pio_lane 4 s.pio1 s (bound_under w s w.limit);
+  dma = report_of dma_lane 2 s.dma.block s (bound_under w s w.limit);
+  pio0 = report_of pio_lane 3 s.pio0.block s (bound_under w s w.limit);
+  pio1 = report_of pio_lane 4 s.pio1.block s (bound_under w s w.limit);
   outer = report_of (peripheral_lane w) 5 s.outer s (bound_under w s w.limit);
 }
 
@@ -125,9 +125,9 @@ six_alone : (w : Setting) (s : State) → AreRunsAlone w s (six_of w s)
 six_alone w s = record {
   core0 = is_alone core_lane 0 s.core0 s (longest w s);
   core1 = is_alone core_lane 1 s.core1 s (core1_bound s (longest w s));
-  dma = is_alone dma_lane 2 s.dma s (longest w s);
-  pio0 = is_alone pio_lane 3 s.pio0 s (longest w s);
-  pio1 = is_alone pio_lane 4 s.pio1 s (longest w s);
+  dma = is_alone dma_lane 2 s.dma.block s (longest w s);
+  pio0 = is_alone pio_lane 3 s.pio0.block s (longest w s);
+  pio1 = is_alone pio_lane 4 s.pio1.block s (longest w s);
   outer = is_alone (peripheral_lane w) 5 s.outer s (longest w s);
 }
 
@@ -267,9 +267,9 @@ none_taken : (w : Setting) (s : State)
 none_taken w s = record {
   core0 = taken_of core_lane 0 s.core0 s (bound_under w s) w.limit;
   core1 = taken_of core_lane 1 s.core1 s (core1_under w s) w.limit;
-  dma = taken_of dma_lane 2 s.dma s (bound_under w s) w.limit;
-  pio0 = taken_of pio_lane 3 s.pio0 s (bound_under w s) w.limit;
-  pio1 = taken_of pio_lane 4 s.pio1 s (bound_under w s) w.limit;
+  dma = taken_of dma_lane 2 s.dma.block s (bound_under w s) w.limit;
+  pio0 = taken_of pio_lane 3 s.pio0.block s (bound_under w s) w.limit;
+  pio1 = taken_of pio_lane 4 s.pio1.block s (bound_under w s) w.limit;
   outer = taken_of (peripheral_lane w) 5 s.outer s (bound_under w s) w.limit;
 }
 
@@ -324,9 +324,9 @@ six_true w s le lt words =
     record {
       core0 = (refl, is_true core_lane 0 s.core0 s (longest w s) few number);
       core1 = (refl, is_true core_lane 1 s.core1 s (core1_bound s (longest w s)) (omega (arith, less, few)) (omega (arith, less, number)));
-      dma = (refl, is_true dma_lane 2 s.dma s (longest w s) few number);
-      pio0 = (refl, is_true pio_lane 3 s.pio0 s (longest w s) few number);
-      pio1 = (refl, is_true pio_lane 4 s.pio1 s (longest w s) few number);
+      dma = (refl, is_true dma_lane 2 s.dma.block s (longest w s) few number);
+      pio0 = (refl, is_true pio_lane 3 s.pio0.block s (longest w s) few number);
+      pio1 = (refl, is_true pio_lane 4 s.pio1.block s (longest w s) few number);
       outer = (
         refl,
         ap (λ (o : OuterState). length o.device) (before_as (peripheral_lane w) 5 s.outer s (longest w s)) ∙ words,
@@ -339,9 +339,9 @@ six_came : (w : Setting) (s : State)
 six_came w s = record {
   core0 = came_of core_lane 0 s.core0 s (bound_under w s) w.limit;
   core1 = came_of core_lane 1 s.core1 s (core1_under w s) w.limit;
-  dma = came_of dma_lane 2 s.dma s (bound_under w s) w.limit;
-  pio0 = came_of pio_lane 3 s.pio0 s (bound_under w s) w.limit;
-  pio1 = came_of pio_lane 4 s.pio1 s (bound_under w s) w.limit;
+  dma = came_of dma_lane 2 s.dma.block s (bound_under w s) w.limit;
+  pio0 = came_of pio_lane 3 s.pio0.block s (bound_under w s) w.limit;
+  pio1 = came_of pio_lane 4 s.pio1.block s (bound_under w s) w.limit;
   outer = came_of (peripheral_lane w) 5 s.outer s (bound_under w s) w.limit;
 }
 

@@ -86,8 +86,8 @@ pub all_alone : (w : Setting) (s : State) (came : ℕ → Option OneReport) (six
 all_alone w s came six truth h = record {
   core0 = taken_alone core_lane 0 s.core0 s (bound_under w s) w.limit (core0_in (came 0)) six.core0 (core0_true w (came 0) (truth 0)) h.core0;
   core1 = taken_alone core_lane 1 s.core1 s (λ limit. core1_bound s (bound_under w s limit)) w.limit (core1_in (came 1)) six.core1 (core1_true w (came 1) (truth 1)) h.core1;
-  dma = taken_alone dma_lane 2 s.dma s (bound_under w s) w.limit (dma_in (came 2)) six.dma (dma_true w (came 2) (truth 2)) h.dma;
-  pio0 = taken_alone pio_lane 3 s.pio0 s (bound_under w s) w.limit (pio0_in (came 3)) six.pio0 (pio0_true w (came 3) (truth 3)) h.pio0;
-  pio1 = taken_alone pio_lane 4 s.pio1 s (bound_under w s) w.limit (pio1_in (came 4)) six.pio1 (pio1_true w (came 4) (truth 4)) h.pio1;
+  dma = taken_alone dma_lane 2 s.dma.block s (bound_under w s) w.limit (dma_in (came 2)) six.dma (dma_true w (came 2) (truth 2)) h.dma;
+  pio0 = taken_alone pio_lane 3 s.pio0.block s (bound_under w s) w.limit (pio0_in (came 3)) six.pio0 (pio0_true w (came 3) (truth 3)) h.pio0;
+  pio1 = taken_alone pio_lane 4 s.pio1.block s (bound_under w s) w.limit (pio1_in (came 4)) six.pio1 (pio1_true w (came 4) (truth 4)) h.pio1;
   outer = taken_alone (peripheral_lane w) 5 s.outer s (bound_under w s) w.limit (outer_in (came 5)) six.outer (outer_true w (came 5) (truth 5)) h.outer;
 }

@@ -21,9 +21,9 @@ pub record IsOne {S B : Type 0} (m : Meaning (Unit {0}) S B) (lane : ℕ) (befor
 pub record AreOne (w : Setting) (s : State) (bound : ℕ) : Type 0 where
   pub core0 : (report : Report Core) → IsTrue core_lane tt report → IsOne core_lane 0 s.core0 s bound report
   pub core1 : (report : Report Core) → IsTrue core_lane tt report → IsOne core_lane 1 s.core1 s bound report
-  pub dma : (report : Report Engine) → IsTrue dma_lane tt report → IsOne dma_lane 2 s.dma s bound report
-  pub pio0 : (report : Report Pio) → IsTrue pio_lane tt report → IsOne pio_lane 3 s.pio0 s bound report
-  pub pio1 : (report : Report Pio) → IsTrue pio_lane tt report → IsOne pio_lane 4 s.pio1 s bound report
+  pub dma : (report : Report Engine) → IsTrue dma_lane tt report → IsOne dma_lane 2 s.dma.block s bound report
+  pub pio0 : (report : Report Pio) → IsTrue pio_lane tt report → IsOne pio_lane 3 s.pio0.block s bound report
+  pub pio1 : (report : Report Pio) → IsTrue pio_lane tt report → IsOne pio_lane 4 s.pio1.block s bound report
   pub outer : (report : Report OuterState) → IsTrue (peripheral_lane w) tt report → IsOne (peripheral_lane w) 5 s.outer s bound report
 
 abbrev pub WhatIsAcceptedIsTheRunAlone : Type 0

@@ -129,9 +129,9 @@ pub record AreTaken (w : Setting) (s : State) (came : ℕ → Option OneReport) 
   pub core0 : IsTaken core_lane 0 s.core0 s (bound_under w s) w.limit (core0_in (came 0)) six.core0
   pub core1 : IsTaken core_lane 1 s.core1 s (λ limit. core1_bound s (bound_under w s limit))
       w.limit (core1_in (came 1)) six.core1
-  pub dma : IsTaken dma_lane 2 s.dma s (bound_under w s) w.limit (dma_in (came 2)) six.dma
-  pub pio0 : IsTaken pio_lane 3 s.pio0 s (bound_under w s) w.limit (pio0_in (came 3)) six.pio0
-  pub pio1 : IsTaken pio_lane 4 s.pio1 s (bound_under w s) w.limit (pio1_in (came 4)) six.pio1
+  pub dma : IsTaken dma_lane 2 s.dma.block s (bound_under w s) w.limit (dma_in (came 2)) six.dma
+  pub pio0 : IsTaken pio_lane 3 s.pio0.block s (bound_under w s) w.limit (pio0_in (came 3)) six.pio0
+  pub pio1 : IsTaken pio_lane 4 s.pio1.block s (bound_under w s) w.limit (pio1_in (came 4)) six.pio1
   pub outer : IsTaken (peripheral_lane w) 5 s.outer s (bound_under w s)
       w.limit (outer_in (came 5)) six.outer
 
@@ -141,9 +141,9 @@ pub record AllCame (w : Setting) (s : State) (came : ℕ → Option OneReport) (
   pub core0 : CameAccepted core_lane 0 s.core0 s (bound_under w s) (core0_in (came 0)) six.core0
   pub core1 : CameAccepted core_lane 1 s.core1 s (λ limit. core1_bound s (bound_under w s limit))
       (core1_in (came 1)) six.core1
-  pub dma : CameAccepted dma_lane 2 s.dma s (bound_under w s) (dma_in (came 2)) six.dma
-  pub pio0 : CameAccepted pio_lane 3 s.pio0 s (bound_under w s) (pio0_in (came 3)) six.pio0
-  pub pio1 : CameAccepted pio_lane 4 s.pio1 s (bound_under w s) (pio1_in (came 4)) six.pio1
+  pub dma : CameAccepted dma_lane 2 s.dma.block s (bound_under w s) (dma_in (came 2)) six.dma
+  pub pio0 : CameAccepted pio_lane 3 s.pio0.block s (bound_under w s) (pio0_in (came 3)) six.pio0
+  pub pio1 : CameAccepted pio_lane 4 s.pio1.block s (bound_under w s) (pio1_in (came 4)) six.pio1
   pub outer : CameAccepted (peripheral_lane w) 5 s.outer s (bound_under w s) (outer_in (came 5))
       six.outer
 
@@ -151,7 +151,7 @@ pub record AllCame (w : Setting) (s : State) (came : ℕ → Option OneReport) (
 pub record AreRunsAlone (w : Setting) (s : State) (six : SixReports) : Type 0 where
   pub core0 : IsRunAlone core_lane 0 s.core0 s (longest w s) six.core0
   pub core1 : IsRunAlone core_lane 1 s.core1 s (core1_bound s (longest w s)) six.core1
-  pub dma : IsRunAlone dma_lane 2 s.dma s (longest w s) six.dma
-  pub pio0 : IsRunAlone pio_lane 3 s.pio0 s (longest w s) six.pio0
-  pub pio1 : IsRunAlone pio_lane 4 s.pio1 s (longest w s) six.pio1
+  pub dma : IsRunAlone dma_lane 2 s.dma.block s (longest w s) six.dma
+  pub pio0 : IsRunAlone pio_lane 3 s.pio0.block s (longest w s) six.pio0
+  pub pio1 : IsRunAlone pio_lane 4 s.pio1.block s (longest w s) six.pio1
   pub outer : IsRunAlone (peripheral_lane w) 5 s.outer s (longest w s) six.outer

@@ -4,4 +4,4 @@ use Rattle.dma_engine.proofs.engine.Engine.finish_with_credits.Goals as goal
 pub returns : goal.returns
 returns c =
     finished c.args.self.now c.transfer.new.self c.step_timers.new.self c.args.begun.now c.args.turns.now c.credited-credited.result
-    c.requires.held c.credited-credited.ensures c.transfer.ensures.after c.step_timers.ensures
+    c.credited-credited.ensures c.transfer.ensures.after c.step_timers.ensures

@@ -1,11 +1,6 @@
 use Rattle.rp_machine.specs.contracts.machine.Machine.{the_view}
-use Rattle.rp_machine.proofs.Going.{copies_stay, passed_by}
+use Rattle.rp_machine.proofs.Going.{passed_by}
 use Rattle.rp_machine.proofs.machine.Machine.pass_blocks.Goals as goal
-
-pub invariant_of-self : goal.invariant_of-self
-invariant_of-self c =
-    copies_stay (the_view c.self.inside) c.args.n c.pass.new.self c.pass-2.new.self c.pass-3.new.self c.pass.ensures c.pass-2.ensures c.pass-3.ensures
-    c.self.invariant
 
 pub returns : goal.returns
 returns c =

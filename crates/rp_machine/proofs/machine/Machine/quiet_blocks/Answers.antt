@@ -16,5 +16,5 @@ returns c =
     let low = c.min-pio.ensures in
     let least = c.min.ensures in
     quiet_by (the_view c.self.inside) s c.quiet-3.result c.quiet.result c.quiet-2.result c.min.result c.self.view_is
-    (c.quiet-3.ensures (answer_of 2 s) (c.begin_dma.ensures ∙ ap (λ (x : State). answered (answer_of 2 s) (dma.asks x.dma)) (sym c.self.view_is)))
+    (c.quiet-3.ensures (answer_of 2 s) (c.begin_dma.ensures ∙ ap (λ (x : State). answered (answer_of 2 s) (dma.asks x.dma.block)) (sym c.self.view_is)))
     c.quiet.ensures c.quiet-2.ensures (omega arith) (omega arith) (omega arith)

@@ -1,6 +1,6 @@
 use Rattle.std.proofs.Common.{sym, ◌∙◌}
 use Rattle.dma_engine.proofs.Rows.{low_word, high_word}
-use Rattle.dma_engine.proofs.engine.Engine.listed.Goals as goal
+use Rattle.dma_engine.proofs.engine.Engine.read.Goals as goal
 
 pub returns-then-offset-lt-CHANNELS_END : goal.returns-then-offset-lt-CHANNELS_END
 returns-then-offset-lt-CHANNELS_END c =
