@@ -3,6 +3,7 @@ pub mod Beats
 pub mod Conditions
 pub mod Effects
 pub mod Instructions
+pub mod Patterns
 pub mod Registers
 pub mod Shapes
 pub mod Special

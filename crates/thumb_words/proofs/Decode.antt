@@ -7,7 +7,9 @@ use Rattle.std.proofs.lemmas.Nat.Bits.{and_high_mask}
 use Rattle.rp_base.specs.Word.{bit_number}
 use Rattle.rp_base.specs.declared.op.Op.{Op}
 use Rattle.rp_base.specs.declared.op.Op.TheVariants.{AddHigh, CmpHigh, MovHigh, Push, Pop, Bl, Undefined}
-use Rattle.thumb_rows.specs.Rows.{Encoding, Entry, Half, Halfword, begins_long, encoding_of, half_fits, operation_by_runs, row_of, runs_of, table, test_of, width_of}
+use Rattle.m0_beats.specs.Patterns.{Encoding, Halfword, runs_of, width_of}
+use Rattle.m0_beats.specs.Instructions.{encoding_of}
+use Rattle.thumb_rows.specs.Rows.{Entry, Half, begins_long, half_fits, operation_by_runs, row_of, table, test_of}
 use Rattle.thumb_rows.proofs.Apart.{and_left, and_right, eq_of, fits_inside, half_apart, half_apart-false, half_pattern, has_patterns, inside, or_false, pattern_of}
 use Rattle.thumb_rows.proofs.Laws.{begins, leading, listed, long_law, short_law}
 use Rattle.thumb_words.specs.declared.halfwords.Code.{Code}

@@ -5,7 +5,8 @@ use Rattle.std.specs.Prelude.{bit_and, nat_lt}
 use Rattle.std.proofs.lemmas.Nat.{and_block, and_le_r, field_of, mul-add-lt, pow_pos, shr_high}
 use native.Mathlib.Nat.{mul-add-mod_self_right}
 use Rattle.rp_base.specs.Word.{bit_number}
-use Rattle.thumb_rows.specs.Rows.{Halfword, Segment, Fixed, Operand, is_left_out, mask_of, operands_in, runs_of, test_of, value_of, width_of}
+use Rattle.m0_beats.specs.Patterns.{Halfword, Segment, Fixed, Operand, mask_of, operands_in, runs_of, value_of, width_of}
+use Rattle.thumb_rows.specs.Rows.{is_left_out, test_of}
 use Rattle.thumb_rows.proofs.Laws.{Fits}
 use Rattle.thumb_rows.proofs.Apart.{and_both, and_left, and_right, eqb_of}
 use Rattle.thumb_words.specs.Codes.{all_fit, can_hold, filled, placed}

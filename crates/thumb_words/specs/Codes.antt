@@ -3,7 +3,9 @@
 use Rattle.std.specs.Prelude.{ℕ, ◌+◌, ◌*◌, ◌^◌, ◌≡◌, ◌&&◌, nat_lt, not, Bool, false, if◌then◌else◌, List, [], ◌∷◌, Option, Some, None, is_some}
 use Rattle.std.specs.Option.{option_map_or}
 use Rattle.rp_base.specs.declared.op.Op.{Op}
-use Rattle.thumb_rows.specs.Rows.{Halfword, begins_long, encoding_of, is_left_out, operation_of, runs_of, test_of, value_of}
+use Rattle.m0_beats.specs.Patterns.{Halfword, runs_of, value_of}
+use Rattle.m0_beats.specs.Instructions.{encoding_of}
+use Rattle.thumb_rows.specs.Rows.{begins_long, is_left_out, operation_of, test_of}
 use Rattle.thumb_words.specs.declared.halfwords.Code.{Code}
 
 -- each operand fits the count of its letters, there is one for each run, and one more test passes
