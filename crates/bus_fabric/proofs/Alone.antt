@@ -8,7 +8,7 @@ use Rattle.rp_base.specs.declared.Master.{Master}
 use Rattle.rp_base.specs.declared.Master.TheVariants.{Core0, Core1, DmaRead, DmaWrite}
 use Rattle.bus_fabric.specs.declared.Hold.{Hold}
 use Rattle.bus_fabric.specs.Masters.{masters, Access, asks_on}
-use Rattle.bus_fabric.specs.State.{Crossbar, has_hold, last_on}
+use Rattle.bus_fabric.specs.State.{State, has_hold, last_on}
 use Rattle.bus_fabric.specs.Grant.{apb, is_high, wins, is_free, winner_after, winner_on, hold_of, hold_after, last_from, after_grant}
 use Rattle.bus_fabric.specs.Alone.{nobody, at_most_core0}
 use Rattle.bus_fabric.proofs.Arbitration.{arbitrated}
@@ -26,18 +26,18 @@ either_none false o h = refl
 not_asking : (high : Master → Bool) (last : Master) (asks : Master → Bool) (m : Master) → asks m ≡ false → wins high last asks m ≡ false
 not_asking high last asks m h = rw h refl
 
-no_winner : (last : Master) (asked : List (Option Access)) (s : Crossbar) (port : ℕ) → ((m : Master) → asks_on asked port m ≡ false) →
+no_winner : (last : Master) (asked : List (Option Access)) (s : State) (port : ℕ) → ((m : Master) → asks_on asked port m ≡ false) →
     winner_after last asked s port ≡ None
 no_winner last asked s port h =
     either_none (is_free s.hold port) _
     (find_none _ (λ m. not_asking (is_high s.priority) last (asks_on asked port) m (h m)))
 
-hold_stays : (asked : List (Option Access)) (s : Crossbar) (hold : Option Hold) → is_some hold ≡ false → winner_on asked s apb ≡ None →
+hold_stays : (asked : List (Option Access)) (s : State) (hold : Option Hold) → is_some hold ≡ false → winner_on asked s apb ≡ None →
     hold_after asked s hold ≡ hold
 hold_stays asked s None e h = ap (hold_of asked) h
 hold_stays asked s (Some hold) e h = cc
 
-last_from-none : (asked : List (Option Access)) (s : Crossbar) (first : ℕ) (ms : List Master) →
+last_from-none : (asked : List (Option Access)) (s : State) (first : ℕ) (ms : List Master) →
     ((last : Master) (port : ℕ) → first ≤ port → winner_after last asked s port ≡ None) → last_from asked s first ms ≡ ms
 last_from-none asked s first [] h = refl
 last_from-none asked s first (m ∷ ms) h =
@@ -52,7 +52,7 @@ nobody_on port Core1 = refl
 nobody_on port DmaRead = refl
 nobody_on port DmaWrite = refl
 
-pub nobody-after : (s : Crossbar) → has_hold s ≡ false → after_grant nobody s ≡ s
+pub nobody-after : (s : State) → has_hold s ≡ false → after_grant nobody s ≡ s
 nobody-after s free =
     ap (λ h. record s { hold = h; last = last_from nobody s 0 s.last })
     (hold_stays nobody s s.hold free (no_winner (last_on apb s) nobody s apb (nobody_on apb)))
@@ -76,11 +76,11 @@ none_elsewhere a port Core1 e = refl
 none_elsewhere a port DmaRead e = refl
 none_elsewhere a port DmaWrite e = refl
 
-wins_there : (last : Master) (a : Access) (s : Crossbar) → wins (is_high s.priority) last (asks_on (core0 a) a.0) Core0 ≡ true
+wins_there : (last : Master) (a : Access) (s : State) → wins (is_high s.priority) last (asks_on (core0 a) a.0) Core0 ≡ true
 wins_there last a s =
     (arbitrated (is_high s.priority) last (asks_on (core0 a) a.0)).alone Core0 (eq-eqb a.0 a.0 refl) (others_do_not a a.0)
 
-none_at : (last : Master) (a : Access) (s : Crossbar) (port : ℕ) → a.0 ≢ port → winner_after last (core0 a) s port ≡ None
+none_at : (last : Master) (a : Access) (s : State) (port : ℕ) → a.0 ≢ port → winner_after last (core0 a) s port ≡ None
 none_at last a s port ne =
     elim (eqb_tells a.0 port) [
       | inl same ↦ absurd (ne same.1)
@@ -90,19 +90,19 @@ none_at last a s port ne =
 found_first : (test : Master → Bool) → test Core0 ≡ true → find test masters ≡ Some Core0
 found_first test h = rw h refl
 
-core0_wins : (last : Master) (a : Access) (s : Crossbar) → is_free s.hold a.0 ≡ true → winner_after last (core0 a) s a.0 ≡ Some Core0
+core0_wins : (last : Master) (a : Access) (s : State) → is_free s.hold a.0 ≡ true → winner_after last (core0 a) s a.0 ≡ Some Core0
 core0_wins last a s free =
     ap (λ b. cond b (find (wins (is_high s.priority) last (asks_on (core0 a) a.0)) masters) None) free
     ∙ found_first (wins (is_high s.priority) last (asks_on (core0 a) a.0)) (wins_there last a s)
 
-none_on : (last : Master) (a : Access) (s : Crossbar) (port : ℕ) → is_free s.hold a.0 ≡ false → winner_after last (core0 a) s port ≡ None
+none_on : (last : Master) (a : Access) (s : State) (port : ℕ) → is_free s.hold a.0 ≡ false → winner_after last (core0 a) s port ≡ None
 none_on last a s port held =
     elim (eqb_tells a.0 port) [
       | inl same ↦ ap (λ k. winner_after last (core0 a) s k) (sym same.1) ∙ ap (λ b. cond b (find (wins (is_high s.priority) last (asks_on (core0 a) a.0)) masters) None) held
       | inr other ↦ no_winner last (core0 a) s port (λ n. none_elsewhere a port n other.0)
     ]
 
-last_from-core0 : (a : Access) (s : Crossbar) (first p : ℕ) (ms : List Master) → is_free s.hold a.0 ≡ true → a.0 ≡ first + p →
+last_from-core0 : (a : Access) (s : State) (first p : ℕ) (ms : List Master) → is_free s.hold a.0 ≡ true → a.0 ≡ first + p →
     last_from (core0 a) s first ms ≡ slice_set ms p Core0
 last_from-core0 a s first zero [] free is = refl
 last_from-core0 a s first (suc p) [] free is = refl
@@ -118,14 +118,14 @@ last_from-core0 a s first (suc p) (x ∷ ms) free is =
     ∙ ap (λ l. x ∷ l) (last_from-core0 a s (suc first) p ms free (omega arith))
 
 -- nobody asks: the hold alone goes on
-pub after_none : (access : Option Access) (hold : Option Hold) (s : Crossbar) → access ≡ None → hold ≡ hold_after (at_most_core0 access) s s.hold →
+pub after_none : (access : Option Access) (hold : Option Hold) (s : State) → access ≡ None → hold ≡ hold_after (at_most_core0 access) s s.hold →
     record s { hold = hold } ≡ after_grant (at_most_core0 access) s
 after_none access hold s none is =
     rw (is, none) (sym (ap (λ l. record s { hold = hold_after nobody s s.hold; last = l })
     (last_from-none nobody s 0 s.last (λ last port low. no_winner last nobody s port (nobody_on port)))))
 
 -- core 0 has the port that it asks for
-pub after_won : (access : Option Access) (port : ℕ) (writes : Bool) (hold : Option Hold) (s : Crossbar) → access ≡ Some (port, writes) →
+pub after_won : (access : Option Access) (port : ℕ) (writes : Bool) (hold : Option Hold) (s : State) → access ≡ Some (port, writes) →
     hold ≡ hold_after (at_most_core0 access) s s.hold → is_free s.hold port ≡ true →
     record s { hold = hold; last = slice_set s.last port Core0 } ≡ after_grant (at_most_core0 access) s
 after_won access port writes hold s asks is free =
@@ -133,7 +133,7 @@ after_won access port writes hold s asks is free =
     (last_from-core0 (port, writes) s 0 port s.last free (omega arith))))
 
 -- the port is held
-pub after_held : (access : Option Access) (port : ℕ) (writes : Bool) (hold : Option Hold) (s : Crossbar) → access ≡ Some (port, writes) →
+pub after_held : (access : Option Access) (port : ℕ) (writes : Bool) (hold : Option Hold) (s : State) → access ≡ Some (port, writes) →
     hold ≡ hold_after (at_most_core0 access) s s.hold → is_free s.hold port ≡ false →
     record s { hold = hold } ≡ after_grant (at_most_core0 access) s
 after_held access port writes hold s asks is held =
@@ -141,7 +141,7 @@ after_held access port writes hold s asks is held =
     (last_from-none (core0 (port, writes)) s 0 s.last (λ last port' low. none_on last (port, writes) s port' held))))
 
 -- the same where no access lasts, on a port on which none does
-pub after_short : (access : Option Access) (port : ℕ) (writes : Bool) (s : Crossbar) → access ≡ Some (port, writes) → has_hold s ≡ false → port ≢ apb →
+pub after_short : (access : Option Access) (port : ℕ) (writes : Bool) (s : State) → access ≡ Some (port, writes) → has_hold s ≡ false → port ≢ apb →
     record s { last = slice_set s.last port Core0 } ≡ after_grant (at_most_core0 access) s
 after_short access port writes s asks free ne =
     let a : Access = (port, writes) in

@@ -7,13 +7,13 @@ use Rattle.std.proofs.lemmas.Bool.Decides.{eqb_tells}
 use Rattle.rp_base.specs.declared.Master.{Master}
 use Rattle.rp_base.specs.declared.Master.TheVariants.{Core0, Core1, DmaRead, DmaWrite}
 use Rattle.bus_fabric.specs.Masters.{masters, Access, access_of, is_on, asks_on}
-use Rattle.bus_fabric.specs.State.{Crossbar, last_on}
+use Rattle.bus_fabric.specs.State.{State, last_on}
 use Rattle.bus_fabric.specs.Grant.{apb, is_high, wins, winner_after, is_free, is_access_done, is_done, after_grant}
 use Rattle.bus_fabric.specs.Laws.{Remembers, TakesTurns, FairnessLaw}
 use Rattle.bus_fabric.proofs.Arbitration.{arbitrated}
 use Rattle.bus_fabric.proofs.Remembering.{last_from-at}
 
-remembers : (asked : List (Option Access)) (s : Crossbar) (port : ℕ) → port < length s.last → Remembers asked s port
+remembers : (asked : List (Option Access)) (s : State) (port : ℕ) → port < length s.last → Remembers asked s port
 remembers asked s port low = last_from-at asked s 0 s.last port port (omega arith) low
 
 -- ---- the winner
@@ -41,7 +41,7 @@ find_one test DmaWrite is only =
 pub other_port : (hold : Bool) (port : ℕ) → port ≢ apb → (not (port == apb) || hold) ≡ true
 other_port hold port ne = elim (eqb_tells port apb) [ inl same ↦ absurd (ne same.1) | inr other ↦ rw other.0 refl ]
 
-pub winner_by : (last : Master) (asked : List (Option Access)) (s : Crossbar) (port : ℕ) (m : Master) → port ≢ apb →
+pub winner_by : (last : Master) (asked : List (Option Access)) (s : State) (port : ℕ) (m : Master) → port ≢ apb →
     wins (is_high s.priority) last (asks_on asked port) m ≡ true → winner_after last asked s port ≡ Some m
 winner_by last asked s port m ne won =
     let one = (arbitrated (is_high s.priority) last (asks_on asked port)).one in
@@ -52,7 +52,7 @@ winner_by last asked s port m ne won =
 -- ---- what is done
 
 -- on a port without holds an access is done where it wins
-done_by : (asked : List (Option Access)) (s : Crossbar) (m : Master) (port : ℕ) (a : Option Access) → port ≢ apb → is_on port a ≡ true →
+done_by : (asked : List (Option Access)) (s : State) (m : Master) (port : ℕ) (a : Option Access) → port ≢ apb → is_on port a ≡ true →
     is_access_done asked s m a ≡ wins (is_high s.priority) (last_on port s) (asks_on asked port) m
 done_by asked s m port None ne is = cc
 done_by asked s m port (Some access) ne is =
@@ -62,11 +62,11 @@ done_by asked s m port (Some access) ne is =
       | inr e ↦ rw e.0 (ap (λ k. wins (is_high s.priority) (last_on k s) (asks_on asked k) m) same)
     ]
 
-pub done_is : (asked : List (Option Access)) (s : Crossbar) (m : Master) (port : ℕ) → port ≢ apb → asks_on asked port m ≡ true →
+pub done_is : (asked : List (Option Access)) (s : State) (m : Master) (port : ℕ) → port ≢ apb → asks_on asked port m ≡ true →
     is_done asked s m ≡ wins (is_high s.priority) (last_on port s) (asks_on asked port) m
 done_is asked s m port ne is = done_by asked s m port (access_of asked m) ne is
 
-takes_turns : (asked next : List (Option Access)) (s : Crossbar) (port : ℕ) → port < length s.last → port ≢ apb → TakesTurns asked next s port
+takes_turns : (asked next : List (Option Access)) (s : State) (port : ℕ) → port < length s.last → port ≢ apb → TakesTurns asked next s port
 takes_turns asked next s port low other m n ne is done again waits same =
     let won : wins (is_high s.priority) (last_on port s) (asks_on asked port) m ≡ true =
     sym (done_is asked s m port other is) ∙ done in

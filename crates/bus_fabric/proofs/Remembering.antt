@@ -8,18 +8,18 @@ use Rattle.std.proofs.lemmas.Bool.Decides.{eqb_tells}
 use Rattle.rp_base.specs.declared.Master.{Master}
 use Rattle.rp_base.specs.declared.Master.TheVariants.{Core0, Core1, DmaRead, DmaWrite}
 use Rattle.bus_fabric.specs.Masters.{Access, access_of, is_on, asks_on}
-use Rattle.bus_fabric.specs.State.{Crossbar, last_on}
+use Rattle.bus_fabric.specs.State.{State, last_on}
 use Rattle.bus_fabric.specs.Grant.{is_free, winner_after, last_from}
 use Rattle.bus_fabric.specs.Winners.{wins_on, has_won_by, has_won, remembered}
 
 -- ---- the list that a cycle leaves
 
-pub length-last_from : (asked : List (Option Access)) (s : Crossbar) (port : ℕ) (ms : List Master) →
+pub length-last_from : (asked : List (Option Access)) (s : State) (port : ℕ) (ms : List Master) →
     length (last_from asked s port ms) ≡ length ms
 length-last_from asked s port [] = refl
 length-last_from asked s port (m ∷ ms) = ap suc (length-last_from asked s (suc port) ms)
 
-pub last_from-at : (asked : List (Option Access)) (s : Crossbar) (first : ℕ) (ms : List Master) (p port : ℕ) → port ≡ first + p → p < length ms →
+pub last_from-at : (asked : List (Option Access)) (s : State) (first : ℕ) (ms : List Master) (p port : ℕ) → port ≡ first + p → p < length ms →
     get_or (last_from asked s first ms) p DmaWrite
     ≡ unwrap_or (winner_after (get_or ms p DmaWrite) asked s port) (get_or ms p DmaWrite)
 last_from-at asked s first [] p port is low = absurd (omega arith)
@@ -45,11 +45,11 @@ not_asking true true b h = cc
 not_asking true false b h = refl
 not_asking false a b h = refl
 
-wins_on-not_asking : (asked : List (Option Access)) (s : Crossbar) (p : ℕ) (m : Master) → asks_on asked p m ≡ false →
+wins_on-not_asking : (asked : List (Option Access)) (s : State) (p : ℕ) (m : Master) → asks_on asked p m ≡ false →
     wins_on asked s p m ≡ false
 wins_on-not_asking asked s p m none = not_asking (is_free s.hold p) (asks_on asked p m) _ none
 
-by_access : (asked : List (Option Access)) (s : Crossbar) (m : Master) (l : List Master) (p : ℕ) (a : Option Access) →
+by_access : (asked : List (Option Access)) (s : State) (m : Master) (l : List Master) (p : ℕ) (a : Option Access) →
     access_of asked m ≡ a → p < length l →
     get_or (remembered (has_won_by asked s m a) a m l) p DmaWrite ≡ cond (wins_on asked s p m) m (get_or l p DmaWrite)
 by_access asked s m l p None is low =
@@ -66,10 +66,10 @@ by_access asked s m l p (Some access) is low =
     ]
 
 -- what the ports remember once this master has been looked at
-abbrev looked_at : List (Option Access) → Crossbar → Master → List Master → List Master
+abbrev looked_at : List (Option Access) → State → Master → List Master → List Master
 looked_at asked s m l = remembered (has_won asked s m) (access_of asked m) m l
 
-looked_at-at : (asked : List (Option Access)) (s : Crossbar) (m : Master) (l : List Master) (p : ℕ) → p < length l →
+looked_at-at : (asked : List (Option Access)) (s : State) (m : Master) (l : List Master) (p : ℕ) → p < length l →
     get_or (looked_at asked s m l) p DmaWrite ≡ cond (wins_on asked s p m) m (get_or l p DmaWrite)
 looked_at-at asked s m l p low = by_access asked s m l p (access_of asked m) refl low
 
@@ -91,7 +91,7 @@ by_find true false false true d last = refl
 by_find true false false false true last = refl
 by_find true false false false false last = refl
 
-pub all_remembered : (asked : List (Option Access)) (s : Crossbar) →
+pub all_remembered : (asked : List (Option Access)) (s : State) →
     remembered (has_won asked s Core0) (access_of asked Core0) Core0
     (remembered (has_won asked s Core1) (access_of asked Core1) Core1
     (remembered (has_won asked s DmaRead) (access_of asked DmaRead) DmaRead

@@ -8,7 +8,7 @@ use Rattle.rp_base.specs.declared.Master.{Master}
 use Rattle.rp_base.specs.declared.Master.TheVariants.{Core0, Core1, DmaRead, DmaWrite}
 use Rattle.bus_fabric.specs.declared.Hold.{Hold}
 use Rattle.bus_fabric.specs.Masters.{masters, number_of, distance, Access, access_of, is_on, asks_on}
-use Rattle.bus_fabric.specs.State.{Crossbar, last_on}
+use Rattle.bus_fabric.specs.State.{State, last_on}
 use Rattle.bus_fabric.specs.Grant.{is_high, wins, winner_on, is_served, cycles_left, hold_of, shortened, hold_after, is_access_done, is_done, after_grant}
 use Rattle.bus_fabric.specs.WaitLaws.{fabric_at, is_done_in, ApbLaw, WaitLaw}
 use Rattle.bus_fabric.proofs.Arbitration.{and_left, and_right, round, arbitrated, or_cases, of_equals}
@@ -20,14 +20,14 @@ none_of : (hold : Option Hold) → is_some hold ≡ false → hold ≡ None
 none_of None h = refl
 none_of (Some hold) h = cc
 
-done_on_apb : (asked : List (Option Access)) (s : Crossbar) (m : Master) (writes : Bool) → access_of asked m ≡ Some (6, writes) →
+done_on_apb : (asked : List (Option Access)) (s : State) (m : Master) (writes : Bool) → access_of asked m ≡ Some (6, writes) →
     is_done asked s m ≡ is_served s.hold m
 done_on_apb asked s m writes asks = ap (is_access_done asked s m) asks
 
 asks_apb : (asked : List (Option Access)) (m : Master) (writes : Bool) → access_of asked m ≡ Some (6, writes) → asks_on asked 6 m ≡ true
 asks_apb asked m writes asks = ap (is_on 6) asks
 
-wins_apb : (asked : List (Option Access)) (s : Crossbar) (m : Master) → s.hold ≡ None → asks_on asked 6 m ≡ true →
+wins_apb : (asked : List (Option Access)) (s : State) (m : Master) → s.hold ≡ None → asks_on asked 6 m ≡ true →
     ((other : Master) → other ≢ m → asks_on asked 6 other ≡ false) → winner_on asked s 6 ≡ Some m
 wins_apb asked s m free asks alone =
     let law = arbitrated (is_high s.priority) (last_on 6 s) (asks_on asked 6) in
@@ -38,7 +38,7 @@ wins_apb asked s m free asks alone =
 abbrev held : Master → ℕ → Option Hold
 held m left = Some (record { holder = Some m; left = left })
 
-hold_begins : (asked : List (Option Access)) (s : Crossbar) (m : Master) (writes : Bool) → s.hold ≡ None →
+hold_begins : (asked : List (Option Access)) (s : State) (m : Master) (writes : Bool) → s.hold ≡ None →
     access_of asked m ≡ Some (6, writes) → ((other : Master) → other ≢ m → asks_on asked 6 other ≡ false) →
     (after_grant asked s).hold ≡ held m (cond writes 3 2)
 hold_begins asked s m writes free asks alone =
@@ -46,7 +46,7 @@ hold_begins asked s m writes free asks alone =
     ∙ ap (hold_of asked) (wins_apb asked s m free (asks_apb asked m writes asks) alone)
     ∙ ap (λ a. held m (cycles_left a)) asks
 
-hold_goes_on : (asked : List (Option Access)) (s : Crossbar) (m : Master) (writes : Bool) (left : ℕ) → s.hold ≡ held m left →
+hold_goes_on : (asked : List (Option Access)) (s : State) (m : Master) (writes : Bool) (left : ℕ) → s.hold ≡ held m left →
     nat_le left 1 ≡ false → access_of asked m ≡ Some (6, writes) → (after_grant asked s).hold ≡ held m (left - 1)
 hold_goes_on asked s m writes left h later asks =
     ap (hold_after asked s) h
@@ -71,7 +71,7 @@ below_3 test a b c (suc (suc zero)) low = c
 below_3 test a b c (suc (suc (suc n))) low = absurd (omega arith)
 
 -- what is told of an access whose hold is known
-told : (asked : List (Option Access)) (s : Crossbar) (m : Master) (writes : Bool) (hold : Option Hold) → access_of asked m ≡ Some (6, writes) →
+told : (asked : List (Option Access)) (s : State) (m : Master) (writes : Bool) (hold : Option Hold) → access_of asked m ≡ Some (6, writes) →
     s.hold ≡ hold → is_done asked s m ≡ is_served hold m
 told asked s m writes hold asks is = done_on_apb asked s m writes asks ∙ ap (λ h. is_served h m) is
 

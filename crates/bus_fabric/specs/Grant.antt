@@ -7,7 +7,7 @@ use Rattle.rp_base.specs.declared.Master.{Master}
 use Rattle.rp_base.specs.Word.{has_bit}
 use Rattle.bus_fabric.specs.declared.Hold.{Hold}
 use Rattle.bus_fabric.specs.Masters.{masters, number_of, distance, Access, access_of, asks_on}
-use Rattle.bus_fabric.specs.State.{Crossbar, last_on}
+use Rattle.bus_fabric.specs.State.{State, last_on}
 
 -- ---- one port
 
@@ -74,38 +74,38 @@ abbrev pub is_free : Option Hold → ℕ → Bool
 is_free hold port = not (port == apb) || is_none hold
 
 -- the winner of a port that remembers `last`
-abbrev pub winner_after : Master → List (Option Access) → Crossbar → ℕ → Option Master
+abbrev pub winner_after : Master → List (Option Access) → State → ℕ → Option Master
 winner_after last asked s port =
     if is_free s.hold port then winner_of (is_high s.priority) last (asks_on asked port) else None
 
-abbrev pub winner_on : List (Option Access) → Crossbar → ℕ → Option Master
+abbrev pub winner_on : List (Option Access) → State → ℕ → Option Master
 winner_on asked s port = winner_after (last_on port s) asked s port
 
 -- ---- a cycle
 
-abbrev pub hold_after : List (Option Access) → Crossbar → Option Hold → Option Hold
+abbrev pub hold_after : List (Option Access) → State → Option Hold → Option Hold
 hold_after asked s None = hold_of asked (winner_on asked s apb)
 hold_after asked s (Some hold) = if is_last hold then None else Some (shortened (asks_on asked apb) hold)
 
 -- a port that has a winner remembers it, from this port on
-abbrev pub last_from : List (Option Access) → Crossbar → ℕ → List Master → List Master
+abbrev pub last_from : List (Option Access) → State → ℕ → List Master → List Master
 last_from asked s port [] = []
 last_from asked s port (last ∷ others) =
     unwrap_or (winner_after last asked s port) last ∷ last_from asked s (suc port) others
 
 -- the access of a master is done: on APB at the end of its hold, on every other port where it wins
-abbrev pub is_access_done : List (Option Access) → Crossbar → Master → Option Access → Bool
+abbrev pub is_access_done : List (Option Access) → State → Master → Option Access → Bool
 is_access_done asked s m None = false
 is_access_done asked s m (Some access) =
     if access.0 == apb then is_served s.hold m else
     wins (is_high s.priority) (last_on access.0 s) (asks_on asked access.0) m
 
-abbrev pub is_done : List (Option Access) → Crossbar → Master → Bool
+abbrev pub is_done : List (Option Access) → State → Master → Bool
 is_done asked s m = is_access_done asked s m (access_of asked m)
 
 -- whose access is done, in the order of the masters
-abbrev pub done_of : List (Option Access) → Crossbar → List Bool
+abbrev pub done_of : List (Option Access) → State → List Bool
 done_of asked s = map (is_done asked s) masters
 
-abbrev pub after_grant : List (Option Access) → Crossbar → Crossbar
+abbrev pub after_grant : List (Option Access) → State → State
 after_grant asked s = record s { hold = hold_after asked s s.hold; last = last_from asked s 0 s.last }

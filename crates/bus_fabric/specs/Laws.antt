@@ -3,7 +3,7 @@ use Rattle.std.specs.Prelude.{◌≡◌, ◌≢◌, ℕ, zero, suc, ◌<◌, ◌
 use Rattle.rp_base.specs.declared.Master.{Master}
 use Rattle.rp_base.specs.declared.Master.TheVariants.{Core0, Core1, DmaRead, DmaWrite}
 use Rattle.bus_fabric.specs.Masters.{distance, Access, asks_on}
-use Rattle.bus_fabric.specs.State.{Crossbar, last_on}
+use Rattle.bus_fabric.specs.State.{State, last_on}
 use Rattle.bus_fabric.specs.Grant.{apb, is_high, beats, wins, winner_on, is_done, after_grant}
 
 -- ---- the round
@@ -48,20 +48,20 @@ ArbitrationLaw = (high : Master → Bool) (last : Master) (asks : Master → Boo
 -- ---- two cycles
 
 -- a port that has a winner remembers it, and one that has none what it remembered
-abbrev pub Remembers : List (Option Access) → Crossbar → ℕ → Type 0
+abbrev pub Remembers : List (Option Access) → State → ℕ → Type 0
 Remembers asked s port = last_on port (after_grant asked s) ≡ unwrap_or (winner_on asked s port) (last_on port s)
 
 -- on a port of SRAM or AHB-Lite a master whose access was done is not served in the next cycle, where another one of its
 -- priority waits then
-abbrev pub TakesTurns : List (Option Access) → List (Option Access) → Crossbar → ℕ → Type 0
+abbrev pub TakesTurns : List (Option Access) → List (Option Access) → State → ℕ → Type 0
 TakesTurns asked next s port =
     (m n : Master) → n ≢ m → asks_on asked port m ≡ true → is_done asked s m ≡ true → asks_on next port m ≡ true →
     asks_on next port n ≡ true → is_high s.priority n ≡ is_high s.priority m → is_done next (after_grant asked s) m ≡ false
 
-pub record IsFair (asked next : List (Option Access)) (s : Crossbar) (port : ℕ) : Type 0 where
+pub record IsFair (asked next : List (Option Access)) (s : State) (port : ℕ) : Type 0 where
   pub remembers : Remembers asked s port
   pub in_turn : port ≢ apb → TakesTurns asked next s port
 
 abbrev pub FairnessLaw : Type 0
 FairnessLaw =
-    (asked next : List (Option Access)) (s : Crossbar) (port : ℕ) → port < length s.last → IsFair asked next s port
+    (asked next : List (Option Access)) (s : State) (port : ℕ) → port < length s.last → IsFair asked next s port

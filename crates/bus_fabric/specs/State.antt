@@ -5,7 +5,7 @@ use Rattle.rp_base.specs.declared.Master.{Master}
 use Rattle.rp_base.specs.declared.Master.TheVariants.{DmaWrite}
 use Rattle.bus_fabric.specs.declared.Hold.{Hold}
 
-pub record Crossbar : Type 0 where
+pub record State : Type 0 where
   -- the access that lasts on APB, the one port on which accesses last longer than a cycle
   pub hold : Option Hold
   -- BUS_PRIORITY
@@ -13,19 +13,19 @@ pub record Crossbar : Type 0 where
   -- of each of the eight ports the master that won it last, port 0 first
   pub last : List Master
 
-abbrev pub at_reset : Crossbar
+abbrev pub at_reset : State
 at_reset = record { hold = None; priority = 0; last = replicate 8 DmaWrite }
 
-abbrev pub has_hold : Crossbar → Bool
+abbrev pub has_hold : State → Bool
 has_hold s = is_some s.hold
 
 -- BUS_PRIORITY keeps the bits of the four masters
-abbrev pub with_priority : ℕ → Crossbar → Crossbar
+abbrev pub with_priority : ℕ → State → State
 with_priority bits s = record s { priority = bit_and bits 0x1111 }
 
 -- the master that a port remembers
-abbrev pub last_on : ℕ → Crossbar → Master
+abbrev pub last_on : ℕ → State → Master
 last_on port s = slice_index_or s.last port DmaWrite
 
-abbrev pub with_last : ℕ → Master → Crossbar → Crossbar
+abbrev pub with_last : ℕ → Master → State → State
 with_last port master s = record s { last = slice_set s.last port master }

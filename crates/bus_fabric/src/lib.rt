@@ -39,10 +39,10 @@ pub struct Fabric {
 }
 
 impl Model for Fabric {
-    ghost use Rattle.bus_fabric.specs.State.{Crossbar};
+    ghost use Rattle.bus_fabric.specs.State.{State};
     ghost use Rattle.std.specs.Prelude.{◌≡◌, length};
 
-    ghost Value = { Crossbar };
+    ghost Value = { State };
 
     ghost view = { λ fabric. record {
       hold = fabric.hold;

@@ -8,7 +8,7 @@ use Rattle.m0_beats.specs.declared.registers.Regs.{Regs}
 use Rattle.m0_beats.specs.declared.timing.Beat.{Beat}
 use Rattle.m0_beats.specs.declared.timing.Beat.TheVariants.{Inner}
 use Rattle.m0_beats.specs.Beats.{access}
-use Rattle.m0_nvic.specs.State.{Exceptions}
+use Rattle.m0_nvic.specs.State.{State as Exceptions}
 use Rattle.m0_nvic.specs.Numbers.{numbers_from, is_number, minus}
 use Rattle.m0_nvic.specs.Changes.{entered, left, pended, with_pending}
 use Rattle.m0_nvic.specs.Cycle as nvic

@@ -8,7 +8,7 @@ use Rattle.rp_base.specs.declared.op.Op.{Op}
 use Rattle.rp_base.specs.Word.{has_bit}
 use Rattle.rp_base.proofs.Rows.{Kept, keeps}
 use Rattle.m0_nvic.specs.Exceptions.{SVCALL}
-use Rattle.m0_nvic.specs.State.{Exceptions}
+use Rattle.m0_nvic.specs.State.{State as Exceptions}
 use Rattle.m0_nvic.specs.Numbers.{is_number, is_member, minus, of_interrupts}
 use Rattle.m0_nvic.specs.Changes.{with_pending, without_pending, pended}
 use Rattle.m0_nvic.specs.Cycle as nvic

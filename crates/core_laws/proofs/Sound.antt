@@ -24,7 +24,7 @@ use Rattle.m0_beats.specs.Registers.{is_thread}
 use Rattle.m0_beats.specs.Beats.{access}
 use Rattle.m0_beats.specs.Instructions.{beats_of, effect_of, return_of}
 use Rattle.m0_nvic.specs.Exceptions.{HARDFAULT}
-use Rattle.m0_nvic.specs.State.{Exceptions}
+use Rattle.m0_nvic.specs.State.{State as Exceptions}
 use Rattle.m0_nvic.specs.Numbers.{is_number, is_member, minus}
 use Rattle.m0_nvic.specs.Changes.{pended, entered, left}
 use Rattle.m0_nvic.specs.Cycle as nvic

@@ -13,7 +13,7 @@ use Rattle.rp_base.specs.Word.{has_bit}
 use Rattle.m0_beats.specs.declared.registers.Regs.{Regs}
 use Rattle.m0_beats.specs.declared.timing.Beat.TheVariants.{Inner}
 use Rattle.m0_beats.specs.Instructions.{beats_of, return_of}
-use Rattle.m0_nvic.specs.State.{Exceptions}
+use Rattle.m0_nvic.specs.State.{State as Exceptions}
 use Rattle.m0_nvic.specs.Numbers.{is_member, members}
 use Rattle.m0_nvic.specs.Changes.{pended, with_pending}
 use Rattle.m0_nvic.specs.Priority.{rank_of, precedes, nearer, least, least_of, IsLeast, best_of, rank_or_none, active_priority, priority_of, comes_before, wakes_of}

@@ -13,7 +13,7 @@ use Rattle.m0_beats.specs.declared.registers.Regs.{Regs}
 use Rattle.m0_beats.specs.declared.timing.Beat.{Beat}
 use Rattle.m0_beats.specs.declared.timing.Beat.TheVariants.{Inner, Access}
 use Rattle.m0_beats.specs.Instructions.{beats_of, effect_of, return_of}
-use Rattle.m0_nvic.specs.State.{Exceptions}
+use Rattle.m0_nvic.specs.State.{State as Exceptions}
 use Rattle.m0_nvic.specs.Cycle as nvic
 use Rattle.m0_nvic.specs.Priority.{wakes_of}
 use Rattle.m0_nvic.specs.Words.{is_allowed}

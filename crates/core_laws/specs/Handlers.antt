@@ -8,7 +8,7 @@ use Rattle.m0_beats.specs.declared.timing.Beat.{Beat}
 use Rattle.m0_beats.specs.declared.timing.Beat.TheVariants.{Inner, Access}
 use Rattle.m0_beats.specs.Registers.{sp_of}
 use Rattle.m0_nvic.specs.Exceptions.{INTERRUPT_0}
-use Rattle.m0_nvic.specs.State.{Exceptions}
+use Rattle.m0_nvic.specs.State.{State as Exceptions}
 use Rattle.m0_nvic.specs.Numbers.{numbers_from, is_member}
 use Rattle.m0_nvic.specs.Changes.{entered, left}
 use Rattle.m0_nvic.specs.Cycle as nvic

@@ -12,7 +12,7 @@ use Rattle.thumb_rows.specs.Rows.{begins_long, operation_of}
 use Rattle.m0_beats.specs.declared.timing.Beat.{Beat}
 use Rattle.m0_beats.specs.declared.timing.Beat.TheVariants.{Inner, Access}
 use Rattle.m0_beats.specs.Instructions.{beats_of, effect_of, return_of}
-use Rattle.m0_nvic.specs.State.{Exceptions}
+use Rattle.m0_nvic.specs.State.{State as Exceptions}
 use Rattle.m0_nvic.specs.Words as words
 use Rattle.m0_nvic.specs.Cycle as nvic
 use Rattle.lane_look.specs.declared.lane.Ask.{Ask}

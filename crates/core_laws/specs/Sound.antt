@@ -6,7 +6,7 @@ use Rattle.lane_look.specs.declared.lane.Turn.{Turn}
 use Rattle.lane_look.specs.Asking.{answered}
 use Rattle.m0_beats.specs.declared.registers.Regs.{Regs}
 use Rattle.m0_beats.specs.Registers.{is_thread}
-use Rattle.m0_nvic.specs.State.{Exceptions}
+use Rattle.m0_nvic.specs.State.{State as Exceptions}
 use Rattle.m0_nvic.specs.Numbers.{is_member}
 use Rattle.m0_nvic.specs.Changes.{left}
 use Rattle.m0_core.specs.declared.doing.Work.{Work}

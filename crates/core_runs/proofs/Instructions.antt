@@ -10,7 +10,7 @@ use Rattle.rp_base.specs.Map.{place_of}
 use Rattle.m0_beats.specs.declared.timing.Beat.{Beat}
 use Rattle.m0_beats.specs.declared.timing.Beat.TheVariants.{Inner, Access}
 use Rattle.m0_beats.specs.Instructions.{beats_of, effect_of, return_of}
-use Rattle.m0_nvic.specs.State.{Exceptions}
+use Rattle.m0_nvic.specs.State.{State as Exceptions}
 use Rattle.m0_nvic.specs.Cycle as nvic
 use Rattle.m0_nvic.specs.Priority.{comes_before, priority_of}
 use Rattle.lane_look.specs.declared.lane.Want.{Want}

@@ -3,7 +3,7 @@ use Rattle.std.proofs.Common.{◌≡◌, ℕ, ◌-◌, Bool, true, false, List, 
 use Rattle.std.specs.Prelude.{◌&&◌, ◌==◌, bit_and, bit_or, Option, Some, None, if◌then◌else◌}
 use Rattle.std.specs.Int.Bits.{or_zero_r}
 use Rattle.m0_nvic.specs.declared.systick.SysTick.{SysTick}
-use Rattle.m0_nvic.specs.State.{Exceptions}
+use Rattle.m0_nvic.specs.State.{State as Exceptions}
 use Rattle.m0_nvic.specs.Priority.{best_of, least_of, least, nearer}
 use Rattle.m0_nvic.specs.Numbers.{members}
 use Rattle.m0_nvic.specs.Cycle.{counts_in, count_of, timer_after, timer_pends, with_timer, after_timer, after_lines, after_cycle, with_none_arrived, risen}

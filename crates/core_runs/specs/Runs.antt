@@ -3,7 +3,7 @@
 use Rattle.std.specs.List.{list_any}
 use Rattle.std.specs.Prelude.{◌≡◌, ℕ, zero, suc, ◌+◌, ◌<◌, Bool, false, List, [], ◌∷◌, ◌++◌, None}
 use Rattle.m0_beats.specs.declared.registers.Regs.{Regs}
-use Rattle.m0_nvic.specs.State.{Exceptions}
+use Rattle.m0_nvic.specs.State.{State as Exceptions}
 use Rattle.m0_nvic.specs.Priority.{best_of}
 use Rattle.m0_nvic.specs.Cycle as nvic
 use Rattle.lane_look.specs.Replay.{Meaning, meaning}

@@ -19,7 +19,7 @@ use Rattle.dma_engine.specs.Choice.{is_ready, first_in_turn, choice_of}
 use Rattle.dma_engine.specs.Cycle.{want_of, after_ends, with_read, after_read_of, after_write_of, after_choice, after_transfers, next}
 use Rattle.dma_engine.specs.Timer.{gets_credit, after_timers}
 use Rattle.dma_engine.specs.Transfer.{advanced, moved, data_of, read_of, write_after, request_of}
-use Rattle.dma_engine.specs.State.{Engine}
+use Rattle.dma_engine.specs.State.{State}
 use Rattle.dma_engine.specs.TransferLaws.{copier, alone, told, granted, begun_by, engine_after, written_by, writes, copies, AreInSram, ACopyIsExact, ARingKeepsItsHighBits, AnAbortRaisesNothing}
 
 -- ---- what is begun
@@ -33,7 +33,7 @@ reading address word = access.Read (record { address = address; size = sizes.Wor
 abbrev writing : ℕ → ℕ → Access
 writing address value = access.Write (record { address = address; size = sizes.Word; write = Some value })
 
-abbrev busy : ℕ → ℕ → ℕ → ℕ → Option ℕ → List WaitingWrite → Engine
+abbrev busy : ℕ → ℕ → ℕ → ℕ → Option ℕ → List WaitingWrite → State
 busy m r w k chosen waiting = alone (copier m r w k true) chosen waiting 0
 
 begun_none : (memory : ℕ → ℕ) (m r w k : ℕ) → begun_by memory (busy m r w k None []) ≡ begun_with 0 access.Nothing access.Nothing
@@ -60,7 +60,7 @@ begun_write memory m r w k j c x v g =
 
 -- ---- a cycle of a busy channel, by its parts
 
-goes : (s t : Engine) (begun : BegunTransfer) (choice : Option ℕ) → after_ends s ≡ s → choice_of begun.counts s ≡ choice →
+goes : (s t : State) (begun : BegunTransfer) (choice : Option ℕ) → after_ends s ≡ s → choice_of begun.counts s ≡ choice →
     after_timers (gets_credit s) (after_choice choice (after_write_of begun (Done 0 ∷ Done 0 ∷ []) (after_read_of begun (Done 0 ∷ Done 0 ∷ []) s))) ≡ t →
     next s begun (Done 0 ∷ Done 0 ∷ []) ≡ t
 unfolding next after_transfers
@@ -135,23 +135,23 @@ begun_still memory m r w raised = refl
 
 -- ---- cycles in turn
 
-record Steps (memory : ℕ → ℕ) (s t : Engine) (done : List (ℕ × ℕ)) : Type 0 where
+record Steps (memory : ℕ → ℕ) (s t : State) (done : List (ℕ × ℕ)) : Type 0 where
   next_is : granted memory s ≡ t
   written : written_by (want_of (begun_by memory s).write) ≡ done
 
-steps : (memory : ℕ → ℕ) (s t : Engine) (b : BegunTransfer) → begun_by memory s ≡ b → next s b (Done 0 ∷ Done 0 ∷ []) ≡ t → Steps memory s t (written_by (want_of b.write))
+steps : (memory : ℕ → ℕ) (s t : State) (b : BegunTransfer) → begun_by memory s ≡ b → next s b (Done 0 ∷ Done 0 ∷ []) ≡ t → Steps memory s t (written_by (want_of b.write))
 steps memory s t b is goes = record {
   next_is = ap (λ x. next s x (Done 0 ∷ Done 0 ∷ [])) is ∙ goes;
   written = ap (λ (x : BegunTransfer). written_by (want_of x.write)) is;
 }
 
-then_writes : (memory : ℕ → ℕ) (n : ℕ) (s t : Engine) (done : List (ℕ × ℕ)) → Steps memory s t done → writes memory (suc n) s ≡ done ++ writes memory n t
+then_writes : (memory : ℕ → ℕ) (n : ℕ) (s t : State) (done : List (ℕ × ℕ)) → Steps memory s t done → writes memory (suc n) s ≡ done ++ writes memory n t
 then_writes memory n s t done h = ap₂ (λ a b. a ++ b) h.written (ap (writes memory n) h.next_is)
 
-then_after : (memory : ℕ → ℕ) (n : ℕ) (s t : Engine) (done : List (ℕ × ℕ)) → Steps memory s t done → engine_after memory (suc n) s ≡ engine_after memory n t
+then_after : (memory : ℕ → ℕ) (n : ℕ) (s t : State) (done : List (ℕ × ℕ)) → Steps memory s t done → engine_after memory (suc n) s ≡ engine_after memory n t
 then_after memory n s t done h = ap (engine_after memory n) h.next_is
 
-after-add : (memory : ℕ → ℕ) (a b : ℕ) (s : Engine) → engine_after memory (a + b) s ≡ engine_after memory b (engine_after memory a s)
+after-add : (memory : ℕ → ℕ) (a b : ℕ) (s : State) → engine_after memory (a + b) s ≡ engine_after memory b (engine_after memory a s)
 after-add memory zero b s = let e : 0 + b ≡ b = omega arith in ap (λ i. engine_after memory i s) e
 after-add memory (suc a) b s =
     let e : suc a + b ≡ suc (a + b) = omega arith in ap (λ i. engine_after memory i s) e ∙ after-add memory a b (granted memory s)
@@ -259,11 +259,11 @@ writes_last memory m r w x v f =
     steps memory _ _ (begun_with 0 access.Nothing (writing x v)) (begun_write memory m r w 0 _ _ x v (place x f)) (write_end m r w x v)
 
 -- what is left where a write waits
-record Copied (memory : ℕ → ℕ) (m n r w cycles : ℕ) (s : Engine) (done : List (ℕ × ℕ)) : Type 0 where
+record Copied (memory : ℕ → ℕ) (m n r w cycles : ℕ) (s : State) (done : List (ℕ × ℕ)) : Type 0 where
   all : writes memory cycles s ≡ done
   ends : engine_after memory cycles s ≡ busy m (r + 4 * n) (w + 4 * n) 0 None []
 
-then_copied : (memory : ℕ → ℕ) (m n r w r' w' n' cycles : ℕ) (s t : Engine) (done more : List (ℕ × ℕ)) → Steps memory s t done →
+then_copied : (memory : ℕ → ℕ) (m n r w r' w' n' cycles : ℕ) (s t : State) (done more : List (ℕ × ℕ)) → Steps memory s t done →
     Copied memory m n r w cycles t more → r + 4 * n ≡ r' + 4 * n' → w + 4 * n ≡ w' + 4 * n' → Copied memory m n' r' w' (suc cycles) s (done ++ more)
 then_copied memory m n r w r' w' n' cycles s t done more h c e f = record {
   all = then_writes memory cycles s t done h ∙ ap (λ l. done ++ l) c.all;
@@ -338,7 +338,7 @@ copied memory n m r w few h g =
     let all = from_start memory m n r w few h g in
     record {
       copied = ap (λ i. writes memory i (busy m r w n None [])) (two_more n) ∙ all.all;
-      not_yet = ap (λ i. (engine_after memory i (busy m r w n None [])).raised) (two_more n) ∙ ap (λ (e : Engine). e.raised) all.ends;
+      not_yet = ap (λ i. (engine_after memory i (busy m r w n None [])).raised) (two_more n) ∙ ap (λ (e : State). e.raised) all.ends;
       ended = ap (λ i. engine_after memory i (busy m r w n None [])) (three_more n) ∙ after-add memory (suc (suc n)) 1 (busy m r w n None [])
           ∙ ap (engine_after memory 1) all.ends ∙ ends_so memory m (r + 4 * n) (w + 4 * n);
       still = λ k. (writes_none memory m (r + 4 * n) (w + 4 * n) 1 k, stays_so memory m (r + 4 * n) (w + 4 * n) 1 k);
@@ -363,7 +363,7 @@ ring_kept n bytes address h =
 
 -- ---- an abort
 
-abbrev aborted : ℕ → ℕ → ℕ → Engine
+abbrev aborted : ℕ → ℕ → ℕ → State
 aborted m r w = alone (record (copier m r w 0 true) { aborted = true }) None [] 0
 
 abort_is : (m r w n : ℕ) → with_abort 0 (busy m r w n None []) ≡ aborted m r w
@@ -388,7 +388,7 @@ abort_writes memory m r w (suc k) = then_writes memory k _ _ [] (after_abort mem
 abort_raises : (memory : ℕ → ℕ) (m r w k : ℕ) → (engine_after memory k (aborted m r w)).raised ≡ 0
 abort_raises memory m r w zero = refl
 abort_raises memory m r w (suc k) =
-    ap (λ (e : Engine). e.raised) (then_after memory k _ _ [] (after_abort memory m r w) ∙ stays_so memory m r w 0 k)
+    ap (λ (e : State). e.raised) (then_after memory k _ _ [] (after_abort memory m r w) ∙ stays_so memory m r w 0 k)
 
 pub aborted_law : AnAbortRaisesNothing
 aborted_law memory n m r w k = (

@@ -11,7 +11,7 @@ use Rattle.lane_look.specs.Asking.{Asking}
 use Rattle.dma_engine.specs.declared.channel.Channel.{Channel}
 use Rattle.dma_engine.specs.declared.begun.Access.{Access}
 use Rattle.dma_engine.specs.declared.begun.BegunTransfer.{BegunTransfer}
-use Rattle.dma_engine.specs.State.{Engine, idle_channel, channel_at}
+use Rattle.dma_engine.specs.State.{State, idle_channel, channel_at}
 use Rattle.dma_engine.specs.Control.{is_enabled, treq_of, is_quiet, chain_of}
 use Rattle.dma_engine.specs.Channel.{triggered, idle, changed, with_trigger, with_report, with_chain, with_end_of, with_end, in_turn}
 use Rattle.dma_engine.specs.Transfer.{moved}
@@ -58,7 +58,7 @@ moved_waits c h = h
 
 -- ---- all channels
 
-abbrev NoneWaits : Engine → Type 0
+abbrev NoneWaits : State → Type 0
 NoneWaits e = list_any may_wait e.channels ≡ false
 
 none_left : (a b : Bool) → (a || b) ≡ false → a ≡ false
@@ -85,18 +85,18 @@ set_waits (x ∷ xs) zero c h e = none_of (may_wait c) _ e (none_right (may_wait
 set_waits (x ∷ xs) (suc n) c h e =
     none_of (may_wait x) _ (none_left (may_wait x) _ h) (set_waits xs n c (none_right (may_wait x) _ h) e)
 
-either_waits : (b : Bool) (x y : Engine) → NoneWaits x → NoneWaits y → NoneWaits (if b then x else y)
+either_waits : (b : Bool) (x y : State) → NoneWaits x → NoneWaits y → NoneWaits (if b then x else y)
 either_waits true x y h i = h
 either_waits false x y h i = i
 
-changed_waits : (f : Channel → Channel) (n : ℕ) (e : Engine) → ((c : Channel) → may_wait c ≡ false → may_wait (f c) ≡ false) →
+changed_waits : (f : Channel → Channel) (n : ℕ) (e : State) → ((c : Channel) → may_wait c ≡ false → may_wait (f c) ≡ false) →
     NoneWaits e → NoneWaits (changed f n e)
 changed_waits f n e keeps h =
     either_waits (nat_lt n 12) (record e { channels = slice_set e.channels n (f (channel_at n e)) }) e
     (set_waits e.channels n (f (channel_at n e)) h (keeps (channel_at n e) (at_waits e.channels n h))) h
 
-turns_wait : (test : ℕ → Bool) (act : ℕ → Engine → Engine) (n : ℕ) (e : Engine) →
-    ((k : ℕ) (x : Engine) → NoneWaits x → NoneWaits (act k x)) → NoneWaits e → NoneWaits (in_turn test act n e)
+turns_wait : (test : ℕ → Bool) (act : ℕ → State → State) (n : ℕ) (e : State) →
+    ((k : ℕ) (x : State) → NoneWaits x → NoneWaits (act k x)) → NoneWaits e → NoneWaits (in_turn test act n e)
 unfolding in_turn
 turns_wait test act zero e keeps h = h
 turns_wait test act (suc n) e keeps h =
@@ -105,58 +105,58 @@ turns_wait test act (suc n) e keeps h =
 
 -- ---- the parts of a cycle
 
-trigger_waits : (n : ℕ) (e : Engine) → NoneWaits e → NoneWaits (with_trigger n e)
+trigger_waits : (n : ℕ) (e : State) → NoneWaits e → NoneWaits (with_trigger n e)
 unfolding with_trigger
 trigger_waits n e h = changed_waits triggered n e triggered_waits h
 
-report_waits : (b : Bool) (n : ℕ) (e : Engine) (raised : ℕ) → NoneWaits e → NoneWaits (if b then e else record e { raised = raised })
+report_waits : (b : Bool) (n : ℕ) (e : State) (raised : ℕ) → NoneWaits e → NoneWaits (if b then e else record e { raised = raised })
 report_waits b n e raised h = either_waits b e (record e { raised = raised }) h h
 
-end_of_waits : (n : ℕ) (c : Channel) (e : Engine) → NoneWaits e → NoneWaits (with_end_of n c e)
+end_of_waits : (n : ℕ) (c : Channel) (e : State) → NoneWaits e → NoneWaits (with_end_of n c e)
 end_of_waits n c e h =
     let reported : NoneWaits (with_report n c e) = report_waits (is_quiet c) n e _ h in
     either_waits c.aborted e (with_chain n c (with_report n c e)) h
     (either_waits _ (with_report n c e) (with_trigger (chain_of c) (with_report n c e)) reported
     (trigger_waits (chain_of c) (with_report n c e) reported))
 
-end_waits : (n : ℕ) (e : Engine) → NoneWaits e → NoneWaits (with_end n e)
+end_waits : (n : ℕ) (e : State) → NoneWaits e → NoneWaits (with_end n e)
 unfolding with_end
 end_waits n e h = end_of_waits n (channel_at n e) (changed idle n e) (changed_waits idle n e idle_waits h)
 
-ends_wait : (s : Engine) → NoneWaits s → NoneWaits (after_ends s)
+ends_wait : (s : State) → NoneWaits s → NoneWaits (after_ends s)
 unfolding after_ends
 ends_wait s h = turns_wait (is_over s) with_end 12 s end_waits h
 
-data_waits : (word n : ℕ) (e : Engine) → NoneWaits e → NoneWaits (with_data word n (channel_at n e) e)
+data_waits : (word n : ℕ) (e : State) → NoneWaits e → NoneWaits (with_data word n (channel_at n e) e)
 data_waits word n e h =
     set_waits e.channels n (moved (channel_at n e)) h (moved_waits (channel_at n e) (at_waits e.channels n h))
 
-read_by_waits : (word : ℕ) (chosen : Option ℕ) (e : Engine) → NoneWaits e → NoneWaits (with_read_by word chosen e)
+read_by_waits : (word : ℕ) (chosen : Option ℕ) (e : State) → NoneWaits e → NoneWaits (with_read_by word chosen e)
 read_by_waits word None e h = h
 read_by_waits word (Some n) e h = either_waits (nat_lt n 12) (with_data word n (channel_at n e) e) e (data_waits word n e h) h
 
-read_waits : (word : ℕ) (e : Engine) → NoneWaits e → NoneWaits (with_read word e)
+read_waits : (word : ℕ) (e : State) → NoneWaits e → NoneWaits (with_read word e)
 unfolding with_read
 read_waits word e h =
     either_waits (nat_lt (length e.waiting) 2) (with_read_by word e.chosen e) e (read_by_waits word e.chosen e h) h
 
-after_read_waits : (word : Option ℕ) (e : Engine) → NoneWaits e → NoneWaits (after_read word e)
+after_read_waits : (word : Option ℕ) (e : State) → NoneWaits e → NoneWaits (after_read word e)
 after_read_waits None e h = h
 after_read_waits (Some word) e h = read_waits word e h
 
-after_write_waits : (done : Bool) (e : Engine) → NoneWaits e → NoneWaits (after_write done e)
+after_write_waits : (done : Bool) (e : State) → NoneWaits e → NoneWaits (after_write done e)
 after_write_waits true e h = h
 after_write_waits false e h = h
 
-choice_waits : (choice : Option ℕ) (e : Engine) → NoneWaits e → NoneWaits (with_choice choice e)
+choice_waits : (choice : Option ℕ) (e : State) → NoneWaits e → NoneWaits (with_choice choice e)
 choice_waits None e h = h
 choice_waits (Some n) e h = changed_waits counted n e (λ c i. i) h
 
-where_none_waits : (chosen choice : Option ℕ) (e : Engine) → NoneWaits e → NoneWaits (choice_where_none chosen choice e)
+where_none_waits : (chosen choice : Option ℕ) (e : State) → NoneWaits e → NoneWaits (choice_where_none chosen choice e)
 where_none_waits None choice e h = choice_waits choice e h
 where_none_waits (Some n) choice e h = h
 
-transfers_wait : (s : Engine) (begun : BegunTransfer) (turns : List Turn) → NoneWaits s → NoneWaits (after_transfers s begun turns)
+transfers_wait : (s : State) (begun : BegunTransfer) (turns : List Turn) → NoneWaits s → NoneWaits (after_transfers s begun turns)
 unfolding after_transfers
 transfers_wait s begun turns h =
     let read : NoneWaits (after_read_of begun turns (after_ends s)) =
@@ -166,14 +166,14 @@ transfers_wait s begun turns h =
     where_none_waits (after_write_of begun turns (after_read_of begun turns (after_ends s))).chosen (choice_of begun.counts s)
     (after_write_of begun turns (after_read_of begun turns (after_ends s))) write
 
-timers_wait : (test : ℕ → Bool) (e : Engine) → NoneWaits e → NoneWaits (after_timers test e)
+timers_wait : (test : ℕ → Bool) (e : State) → NoneWaits e → NoneWaits (after_timers test e)
 unfolding after_timers
 timers_wait test e h =
     turns_wait test with_credit 12 (with_stepped_timers e) (λ k x i. changed_waits credited k x (λ c j. j) i) h
 
 -- ---- the cycle
 
-pub next-no_counts : (s : Engine) (begun : BegunTransfer) (turns : List Turn) → may_ask_counts s ≡ false →
+pub next-no_counts : (s : State) (begun : BegunTransfer) (turns : List Turn) → may_ask_counts s ≡ false →
     may_ask_counts (next s begun turns) ≡ false
 unfolding may_ask_counts next
 next-no_counts s begun turns h =
@@ -202,7 +202,7 @@ countless_for : (counts : ℕ) (write : Access) (request : Option Request) → C
 countless_for counts write None = record { none = tt }
 countless_for counts write (Some request) = countless_at counts write request (place_of request.address)
 
-countless_read : (counts : ℕ) (s : Engine) → Countless (asks_read counts s)
+countless_read : (counts : ℕ) (s : State) → Countless (asks_read counts s)
 unfolding asks_read
 countless_read counts s = countless_for counts (write_begun s) (next_request s)
 
@@ -210,12 +210,12 @@ told_or : {B : Type 0} (b : Bool) (t u : Asking B) → b ≡ false → Countless
 told_or true t u e h = absurd (cc e)
 told_or false t u e h = h
 
-countless : (s : Engine) → may_ask_counts s ≡ false → Countless (asks s)
+countless : (s : State) → may_ask_counts s ≡ false → Countless (asks s)
 unfolding asks may_ask_counts
 countless s h =
     told_or (list_any waits_for_counts s.channels) _ _ (none_waits s.channels h) (countless_read 0 s)
 
-pub asks-no_counts : (s : Engine) → may_ask_counts s ≡ false → AsksNoCounts (asks s)
+pub asks-no_counts : (s : State) → may_ask_counts s ≡ false → AsksNoCounts (asks s)
 asks-no_counts s h = (countless s h).none
 
 pub ruleset counts = (next-no_counts)

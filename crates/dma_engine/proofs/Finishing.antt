@@ -2,12 +2,12 @@
 use Rattle.std.proofs.Common.{◌≡◌, ℕ, ◌<◌, Bool, true, false, cond, List, refl, ap, sym, ◌∙◌, get_or}
 use Rattle.lane_look.specs.declared.lane.Turn.{Turn}
 use Rattle.dma_engine.specs.declared.begun.BegunTransfer.{BegunTransfer}
-use Rattle.dma_engine.specs.State.{Engine}
+use Rattle.dma_engine.specs.State.{State}
 use Rattle.dma_engine.specs.Timer.{gets_credit, after_timers}
 use Rattle.dma_engine.specs.Cycle.{after_transfers, next}
 use Rattle.dma_engine.proofs.InTurn.{after_timers-same}
 
-pub finished : (s moved new : Engine) (begun : BegunTransfer) (turns : List Turn) (credits : List Bool) →
+pub finished : (s moved new : State) (begun : BegunTransfer) (turns : List Turn) (credits : List Bool) →
     ((k : ℕ) → k < 12 → get_or credits k false ≡ gets_credit s k) → moved ≡ after_transfers s begun turns →
     new ≡ after_timers (λ k. get_or credits k false) moved → new ≡ next s begun turns
 unfolding next

@@ -1,6 +1,6 @@
 -- What is found first in turn has its turn before all others that pass.
 use Rattle.std.proofs.Common.{◌≡◌, ℕ, zero, suc, ◌+◌, ◌-◌, ◌%◌, ◌<◌, ◌≤◌, ◌⊎◌, inl, inr, Bool, true, false, cond, refl, ap, sym, subst, ◌∙◌, arith, Option, Some, None}
-use Rattle.dma_engine.specs.State.{Engine}
+use Rattle.dma_engine.specs.State.{State}
 use Rattle.dma_engine.specs.Choice.{is_candidate, first_in_turn, next_candidate, or_else, choice_of}
 use Rattle.dma_engine.specs.Laws.{turns_before, IsFirst, IsChoice, TheChoiceComesFirst}
 
@@ -99,7 +99,7 @@ none_before test last n m h low e =
           (subst (λ k. test k ≡ false) (turn_of last m low) (h.before (turns_before last m) (omega arith)))
     ]
 
-first_is : (high : Bool) (counts : ℕ) (s : Engine) (n : ℕ) → PassesAt (is_candidate high counts s) (s.last_chosen + 1) 12 n →
+first_is : (high : Bool) (counts : ℕ) (s : State) (n : ℕ) → PassesAt (is_candidate high counts s) (s.last_chosen + 1) 12 n →
     IsFirst high counts s n
 first_is high counts s n h = record {
   number = subst (λ k. k < 12) (sym h.is) (omega arith);
@@ -107,7 +107,7 @@ first_is high counts s n h = record {
   first = λ m low e. none_before (is_candidate high counts s) s.last_chosen n m h low e;
 }
 
-choice_by : (counts : ℕ) (s : Engine) (first other : Option ℕ) →
+choice_by : (counts : ℕ) (s : State) (first other : Option ℕ) →
     IsFound (is_candidate true counts s) (s.last_chosen + 1) 12 first →
     IsFound (is_candidate false counts s) (s.last_chosen + 1) 12 other → IsChoice counts s (or_else first other)
 choice_by counts s (Some n) other h i = inl (first_is true counts s n h)

@@ -5,7 +5,7 @@ use Rattle.lane_look.specs.declared.lane.Turn.{Turn}
 use Rattle.dma_engine.specs.declared.begun.BegunTransfer.{BegunTransfer}
 use Rattle.dma_engine.specs.declared.begun.Access.{Access}
 use Rattle.dma_engine.specs.declared.begun.Access.TheVariants as access
-use Rattle.dma_engine.specs.State.{Engine}
+use Rattle.dma_engine.specs.State.{State}
 use Rattle.dma_engine.specs.Choice.{is_candidate, choice_of}
 use Rattle.dma_engine.specs.Timer.{given_by, gets_credit, with_credit, with_stepped_timers, after_timers}
 use Rattle.dma_engine.specs.Cycle.{is_over, word_read, is_written, after_ends, after_read, after_read_of, after_write, after_write_of, choice_where_none, after_choice, after_transfers, next}
@@ -27,16 +27,16 @@ none_written (Some word) = refl
 nothing_written : (a : Access) (word : Option ℕ) → a ≡ access.Nothing → is_written a word ≡ false
 nothing_written a word h = rw h (none_written word)
 
-none_chosen : (chosen : Option ℕ) (s : Engine) → choice_where_none chosen None s ≡ s
+none_chosen : (chosen : Option ℕ) (s : State) → choice_where_none chosen None s ≡ s
 none_chosen None s = refl
 none_chosen (Some n) s = refl
 
 -- none of the channels below a number can be chosen or is over
-pub record AreIdle (counts : ℕ) (s : Engine) (n : ℕ) : Type 0 where
+pub record AreIdle (counts : ℕ) (s : State) (n : ℕ) : Type 0 where
   pub choice : (k : ℕ) → k < n → is_candidate false counts s k ≡ false
   pub ends : (k : ℕ) → k < n → is_over s k ≡ false
 
-pub nothing_moves : (s : Engine) (begun : BegunTransfer) (turns : List Turn) →
+pub nothing_moves : (s : State) (begun : BegunTransfer) (turns : List Turn) →
     begun.read ≡ access.Nothing → begun.write ≡ access.Nothing →
     ((k : ℕ) → k < 12 → is_candidate false begun.counts s k ≡ false) → ((k : ℕ) → k < 12 → is_over s k ≡ false) →
     after_transfers s begun turns ≡ s
@@ -51,7 +51,7 @@ nothing_moves s begun turns read write choice ends =
     ∙ ap (λ o. after_choice o s) (no_choice begun.counts s choice) ∙ none_chosen s.chosen s
 
 -- and where no timer gives a credit the timers step alone
-pub finished_without : (s moved new : Engine) (begun : BegunTransfer) (turns : List Turn) (given : List Bool) →
+pub finished_without : (s moved new : State) (begun : BegunTransfer) (turns : List Turn) (given : List Bool) →
     given ≡ given_by s.timers → list_any (λ b. b) given ≡ false → moved ≡ after_transfers s begun turns →
     new ≡ with_stepped_timers moved → new ≡ next s begun turns
 unfolding next after_timers

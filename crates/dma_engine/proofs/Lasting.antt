@@ -19,7 +19,7 @@ use Rattle.dma_engine.specs.declared.timer.PacingTimer.{PacingTimer}
 use Rattle.dma_engine.specs.declared.begun.Access.{Access}
 use Rattle.dma_engine.specs.declared.begun.Access.TheVariants as access
 use Rattle.dma_engine.specs.declared.begun.BegunTransfer.{BegunTransfer}
-use Rattle.dma_engine.specs.State.{Engine}
+use Rattle.dma_engine.specs.State.{State}
 use Rattle.dma_engine.specs.Timer.{runs, step_of, gives, stepped}
 use Rattle.dma_engine.specs.Asks.{asks, asks_read, asks_for, asks_at, idle_begun, waits_for_counts, may_ask_counts, write_begun, next_request}
 use Rattle.dma_engine.specs.Cycle.{wanted, next}
@@ -187,19 +187,19 @@ step_more (t ∷ ts) k = ap (λ xs. timer_after (suc k) t ∷ xs) (step_more ts 
 
 -- ---- the engine, whose timers stand still
 
-pub engine_still : (s : Engine) (n : ℕ) → list_all is_idle_timer s.timers ≡ true → engine_after n s ≡ s
+pub engine_still : (s : State) (n : ℕ) → list_all is_idle_timer s.timers ≡ true → engine_after n s ≡ s
 engine_still s n h = ap (λ ts. record s { timers = ts }) (all_still s.timers n h)
 
-gives_none : (s : Engine) (n : ℕ) → list_all is_idle_timer s.timers ≡ true → GivesNone s n
+gives_none : (s : State) (n : ℕ) → list_all is_idle_timer s.timers ≡ true → GivesNone s n
 gives_none s n h = record { credits = λ k lt. ap (list_any gives) (all_still s.timers k h) ∙ none_give s.timers h }
 
 -- what it begins and does in one cycle it does in each
-record StaysIn (counts : ℕ) (s : Engine) : Type 0 where
+record StaysIn (counts : ℕ) (s : State) : Type 0 where
   idle : list_all is_idle_timer s.timers ≡ true
   wants : (answer : Ask → ℕ) → answer Pacing ≡ counts → wanted (answered answer (asks s)) ≡ want.Nothing ∷ want.Nothing ∷ []
   stays : (answer : Ask → ℕ) → answer Pacing ≡ counts → (turns : List Turn) → next s (answered answer (asks s)) turns ≡ s
 
-stays_quiet : (counts : ℕ) (s : Engine) (n : ℕ) → StaysIn counts s → IsQuiet counts s n
+stays_quiet : (counts : ℕ) (s : State) (n : ℕ) → StaysIn counts s → IsQuiet counts s n
 stays_quiet counts s n h = record {
   credits = gives_none s n h.idle;
   wants = λ k lt answer e. ap (λ x. wanted (answered answer (asks x))) (engine_still s k h.idle) ∙ h.wants answer e;
@@ -207,10 +207,10 @@ stays_quiet counts s n h = record {
       ap (λ x. next x (answered answer (asks x)) turns) (engine_still s k h.idle) ∙ h.stays answer e turns ∙ sym (engine_still s (suc k) h.idle);
 }
 
-timers_at_rest : (s : Engine) → is_still s ≡ true → list_all is_idle_timer s.timers ≡ true
+timers_at_rest : (s : State) → is_still s ≡ true → list_all is_idle_timer s.timers ≡ true
 timers_at_rest s h = rests_timers s (both_left (is_at_rest s) _ h)
 
-pub still_quiet : (counts : ℕ) (s : Engine) (n : ℕ) → is_still s ≡ true → IsQuiet counts s n
+pub still_quiet : (counts : ℕ) (s : State) (n : ℕ) → is_still s ≡ true → IsQuiet counts s n
 still_quiet counts s n h =
     let r = stays_still s h in
     stays_quiet counts s n (record {
@@ -219,16 +219,16 @@ still_quiet counts s n h =
       stays = λ answer e turns. r.stays (answered answer (asks s)) turns;
     })
 
-pub still_after : (s : Engine) (n : ℕ) → is_still s ≡ true → engine_after n s ≡ s
+pub still_after : (s : State) (n : ℕ) → is_still s ≡ true → engine_after n s ≡ s
 still_after s n h = engine_still s n (timers_at_rest s h)
 
 -- ---- the engine that lacks credits
 
-paused_on : (s : Engine) (k : ℕ) → is_paused s ≡ true → is_paused (engine_after k s) ≡ true
+paused_on : (s : State) (k : ℕ) → is_paused s ≡ true → is_paused (engine_after k s) ≡ true
 unfolding is_paused
 paused_on s k h = h
 
-pub paused_quiet : (counts : ℕ) (s : Engine) (n : ℕ) → is_paused s ≡ true → GivesNone s n → IsQuiet counts s n
+pub paused_quiet : (counts : ℕ) (s : State) (n : ℕ) → is_paused s ≡ true → GivesNone s n → IsQuiet counts s n
 paused_quiet counts s n h none = record {
   credits = none;
   wants = λ k lt answer e. rw (asks-paused (engine_after k s) (paused_on s k h)) refl;
@@ -254,24 +254,24 @@ same_for : (f g : Ask → ℕ) (counts : ℕ) (write : Access) (r : Option Reque
 same_for f g counts write None h = refl
 same_for f g counts write (Some request) h = same_at f g counts write request (place_of request.address) h
 
-same_read : (f g : Ask → ℕ) (counts : ℕ) (s : Engine) → (answered f (asks_read counts s)).read ≡ access.Nothing → answered g (asks_read counts s) ≡ answered f (asks_read counts s)
+same_read : (f g : Ask → ℕ) (counts : ℕ) (s : State) → (answered f (asks_read counts s)).read ≡ access.Nothing → answered g (asks_read counts s) ≡ answered f (asks_read counts s)
 unfolding asks_read
 same_read f g counts s h = same_for f g counts (write_begun s) (next_request s) h
 
 -- what it asks, by whether it waits for the counts
-abbrev asks_by : Bool → Engine → Asking BegunTransfer
+abbrev asks_by : Bool → State → Asking BegunTransfer
 asks_by waits s = if waits then Question Pacing (λ counts. asks_read counts s) else asks_read 0 s
 
-same_by : (waits : Bool) (f g : Ask → ℕ) (s : Engine) → g Pacing ≡ f Pacing → (answered f (asks_by waits s)).read ≡ access.Nothing
+same_by : (waits : Bool) (f g : Ask → ℕ) (s : State) → g Pacing ≡ f Pacing → (answered f (asks_by waits s)).read ≡ access.Nothing
     → answered g (asks_by waits s) ≡ answered f (asks_by waits s)
 same_by true f g s e h = ap (λ (counts : ℕ). answered g (asks_read counts s)) e ∙ same_read f g (f Pacing) s h
 same_by false f g s e h = same_read f g 0 s h
 
-same_begun : (f g : Ask → ℕ) (s : Engine) → g Pacing ≡ f Pacing → (answered f (asks s)).read ≡ access.Nothing → answered g (asks s) ≡ answered f (asks s)
+same_begun : (f g : Ask → ℕ) (s : State) → g Pacing ≡ f Pacing → (answered f (asks s)).read ≡ access.Nothing → answered g (asks s) ≡ answered f (asks s)
 unfolding asks
 same_begun f g s e h = same_by (list_any waits_for_counts s.channels) f g s e h
 
-pub unmoved_quiet : (s : Engine) (begun : BegunTransfer) (counts n : ℕ) (f : Ask → ℕ) → begun ≡ answered f (asks s) → StaysBy counts s → begun.counts ≡ counts
+pub unmoved_quiet : (s : State) (begun : BegunTransfer) (counts n : ℕ) (f : Ask → ℕ) → begun ≡ answered f (asks s) → StaysBy counts s → begun.counts ≡ counts
     → begun.read ≡ access.Nothing → begun.write ≡ access.Nothing → IsQuiet (f Pacing) s n
 unmoved_quiet s begun counts n f e by same read write =
     let begins : (g : Ask → ℕ) → g Pacing ≡ f Pacing → answered g (asks s) ≡ begun =
@@ -293,22 +293,22 @@ all_on : (ts : List PacingTimer) (n : ℕ) → list_all is_idle_timer (map (time
 all_on [] n = refl
 all_on (t ∷ ts) n = rw (still_on t n, all_on ts n) refl
 
-pub rest_stays : (s : Engine) (n : ℕ) → is_still (engine_after n s) ≡ is_still s
+pub rest_stays : (s : State) (n : ℕ) → is_still (engine_after n s) ≡ is_still s
 unfolding is_at_rest
 rest_stays s n = rw (all_on s.timers n) refl
 
-pub pause_stays : (s : Engine) (n : ℕ) → is_paused (engine_after n s) ≡ is_paused s
+pub pause_stays : (s : State) (n : ℕ) → is_paused (engine_after n s) ≡ is_paused s
 unfolding is_paused
 pause_stays s n = refl
 
-pub counts_stay : (s : Engine) (n : ℕ) → may_ask_counts (engine_after n s) ≡ may_ask_counts s
+pub counts_stay : (s : State) (n : ℕ) → may_ask_counts (engine_after n s) ≡ may_ask_counts s
 unfolding may_ask_counts
 counts_stay s n = refl
 
-none_fewer : (s : Engine) (n k : ℕ) → GivesNone s n → k ≤ n → GivesNone s k
+none_fewer : (s : State) (n k : ℕ) → GivesNone s n → k ≤ n → GivesNone s k
 none_fewer s n k h le = record { credits = λ i lt. h.credits i (omega arith) }
 
-pub fewer : (counts : ℕ) (s : Engine) (n k : ℕ) → IsQuiet counts s n → k ≤ n → IsQuiet counts s k
+pub fewer : (counts : ℕ) (s : State) (n k : ℕ) → IsQuiet counts s n → k ≤ n → IsQuiet counts s k
 fewer counts s n k h le = record {
   credits = none_fewer s n k h.credits le;
   wants = λ i lt. h.wants i (omega arith);
@@ -316,7 +316,7 @@ fewer counts s n k h le = record {
 }
 
 -- in no cycle
-pub engine_none : (s : Engine) → engine_after 0 s ≡ s
+pub engine_none : (s : State) → engine_after 0 s ≡ s
 unfolding times
 engine_none s = ap (λ ts. record s { timers = ts }) (none_steps s.timers)
   where
@@ -324,7 +324,7 @@ engine_none s = ap (λ ts. record s { timers = ts }) (none_steps s.timers)
     none_steps [] = refl
     none_steps (t ∷ ts) = ap (λ xs. t ∷ xs) (none_steps ts)
 
-pub none_quiet : (counts : ℕ) (s : Engine) → IsQuiet counts s 0
+pub none_quiet : (counts : ℕ) (s : State) → IsQuiet counts s 0
 none_quiet counts s = record {
   credits = record { credits = λ k lt. absurd (omega arith) };
   wants = λ k lt. absurd (omega arith);
@@ -338,19 +338,19 @@ pub four_none : (ts : List PacingTimer) (k : ℕ) (d : PacingTimer) → length t
 four_none (a ∷ b ∷ c ∷ e ∷ []) k d h p q r s = rw (p, q, r, s) refl
 four_none _ k d h p q r s = absurd (omega arith)
 
-pub none_by_timers : (i s : Engine) (n : ℕ) → i ≡ s → ((k : ℕ) → k < n → list_any gives (map (timer_after k) i.timers) ≡ false) → GivesNone s n
-none_by_timers i s n e h = record { credits = λ k lt. ap (λ (x : Engine). list_any gives (map (timer_after k) x.timers)) (sym e) ∙ h k lt }
+pub none_by_timers : (i s : State) (n : ℕ) → i ≡ s → ((k : ℕ) → k < n → list_any gives (map (timer_after k) i.timers) ≡ false) → GivesNone s n
+none_by_timers i s n e h = record { credits = λ k lt. ap (λ (x : State). list_any gives (map (timer_after k) x.timers)) (sym e) ∙ h k lt }
 
-pub stands_by : (i s : Engine) (n : ℕ) → i ≡ s → engine_after n i ≡ i → s ≡ engine_after n s
+pub stands_by : (i s : State) (n : ℕ) → i ≡ s → engine_after n i ≡ i → s ≡ engine_after n s
 stands_by i s n e h = sym (ap (engine_after n) (sym e) ∙ h ∙ e)
 
-pub rest_passed : (i s : Engine) (n : ℕ) (ts : List PacingTimer) → i ≡ s → ts ≡ map (timer_after n) i.timers → is_still (record i { timers = ts }) ≡ is_still s
+pub rest_passed : (i s : State) (n : ℕ) (ts : List PacingTimer) → i ≡ s → ts ≡ map (timer_after n) i.timers → is_still (record i { timers = ts }) ≡ is_still s
 rest_passed i s n ts e passed = ap (λ xs. is_still (record i { timers = xs })) passed ∙ rest_stays i n ∙ ap is_still e
 
-pub pause_passed : (i s : Engine) (n : ℕ) (ts : List PacingTimer) → i ≡ s → ts ≡ map (timer_after n) i.timers → is_paused (record i { timers = ts }) ≡ is_paused s
+pub pause_passed : (i s : State) (n : ℕ) (ts : List PacingTimer) → i ≡ s → ts ≡ map (timer_after n) i.timers → is_paused (record i { timers = ts }) ≡ is_paused s
 pause_passed i s n ts e passed = ap (λ xs. is_paused (record i { timers = xs })) passed ∙ pause_stays i n ∙ ap is_paused e
 
-pub counts_passed : (i s : Engine) (n : ℕ) (ts : List PacingTimer) → i ≡ s → ts ≡ map (timer_after n) i.timers → may_ask_counts (record i { timers = ts }) ≡ may_ask_counts s
+pub counts_passed : (i s : State) (n : ℕ) (ts : List PacingTimer) → i ≡ s → ts ≡ map (timer_after n) i.timers → may_ask_counts (record i { timers = ts }) ≡ may_ask_counts s
 counts_passed i s n ts e passed = ap (λ xs. may_ask_counts (record i { timers = xs })) passed ∙ counts_stay i n ∙ ap may_ask_counts e
 
 -- what a call of one timer reckons, whose step and sum so far are these

@@ -12,7 +12,7 @@ use Rattle.dma_engine.specs.declared.begun.BegunTransfer.{BegunTransfer}
 use Rattle.dma_engine.specs.declared.begun.Access.TheVariants as access
 use Rattle.dma_engine.specs.declared.waiting.WaitingWrite.{WaitingWrite}
 use Rattle.dma_engine.specs.declared.timer.PacingTimer.{PacingTimer}
-use Rattle.dma_engine.specs.State.{Engine, idle_channel, channel_at}
+use Rattle.dma_engine.specs.State.{State, idle_channel, channel_at}
 use Rattle.dma_engine.specs.Control.{treq_of}
 use Rattle.dma_engine.specs.Asks.{waits_for_counts, write_begun, next_request, asks_read, asks, begun_with, idle_begun}
 use Rattle.dma_engine.specs.Choice.{is_ready_by, is_ready, is_candidate}
@@ -26,7 +26,7 @@ use Rattle.dma_engine.proofs.Idle.{nothing_moves, finished_without}
 
 -- ---- what a paused engine is
 
-record Pauses (s : Engine) : Type 0 where
+record Pauses (s : State) : Type 0 where
   chosen : s.chosen ≡ None
   waiting : s.waiting ≡ []
   channels : list_all is_paused_channel s.channels ≡ true
@@ -39,7 +39,7 @@ empty_is : (ws : List WaitingWrite) → nat_eq (length ws) 0 ≡ true → ws ≡
 empty_is [] h = refl
 empty_is (w ∷ ws) h = absurd (grind (arith, nat_tests, common_steps))
 
-pauses : (s : Engine) → is_paused s ≡ true → Pauses s
+pauses : (s : State) → is_paused s ≡ true → Pauses s
 unfolding is_paused
 pauses s h =
     let last : (nat_eq (length s.waiting) 0 && list_all is_paused_channel s.channels) ≡ true =
@@ -61,7 +61,7 @@ none_left : (n : ℕ) → nat_eq n 0 ≡ true → nat_lt 0 n ≡ false
 none_left zero h = refl
 none_left (suc n) h = absurd (grind (arith, nat_tests, common_steps))
 
-not_ready_by : (p : Pace) (treq counts : ℕ) (c : Channel) (s : Engine) → uses_credits p ≡ true → nat_eq c.credits 0 ≡ true →
+not_ready_by : (p : Pace) (treq counts : ℕ) (c : Channel) (s : State) → uses_credits p ≡ true → nat_eq c.credits 0 ≡ true →
     is_ready_by p treq counts c s ≡ false
 not_ready_by (Timer k) treq counts c s h e = none_left c.credits e
 not_ready_by (Sender index) treq counts c s h e = absurd (cc)
@@ -69,7 +69,7 @@ not_ready_by (Receiver index) treq counts c s h e = absurd (cc)
 not_ready_by Always treq counts c s h e = absurd (cc)
 not_ready_by Never treq counts c s h e = absurd (cc)
 
-not_ready : (c : Channel) (counts : ℕ) (s : Engine) → lacks_credit c ≡ true → is_ready counts c s ≡ false
+not_ready : (c : Channel) (counts : ℕ) (s : State) → lacks_credit c ≡ true → is_ready counts c s ≡ false
 unfolding is_ready
 not_ready c counts s h =
     not_ready_by (pace_of (treq_of c)) (treq_of c) counts c s (both_left (uses_credits (pace_of (treq_of c))) _ h)
@@ -81,7 +81,7 @@ no_candidate_by false left lacks ready h f = refl
 no_candidate_by true false lacks ready h f = refl
 no_candidate_by true true lacks ready h f = f h
 
-not_candidate : (s : Engine) (counts n : ℕ) → Pauses s → is_candidate false counts s n ≡ false
+not_candidate : (s : State) (counts n : ℕ) → Pauses s → is_candidate false counts s n ≡ false
 not_candidate s counts n p =
     no_candidate_by (channel_at n s).busy (not (nat_eq (channel_at n s).count 0)) (lacks_credit (channel_at n s))
     (is_ready counts (channel_at n s) s) (paused_at s.channels n p.channels) (not_ready (channel_at n s) counts s)
@@ -91,7 +91,7 @@ not_over_by false empty lacks flies h = refl
 not_over_by true false lacks flies h = refl
 not_over_by true true lacks flies h = absurd (cc)
 
-not_over : (s : Engine) (n : ℕ) → Pauses s → is_over s n ≡ false
+not_over : (s : State) (n : ℕ) → Pauses s → is_over s n ≡ false
 not_over s n p =
     not_over_by (channel_at n s).busy (nat_eq (channel_at n s).count 0) (lacks_credit (channel_at n s)) _
     (paused_at s.channels n p.channels)
@@ -119,14 +119,14 @@ none_since true None h e = refl
 none_since true (Some n) h e = absurd (cc)
 none_since false o h e = absurd (cc)
 
-pub begins_nothing : (s : Engine) (counts : ℕ) (r : Bool) → not r ≡ is_some s.chosen → r ≡ true →
+pub begins_nothing : (s : State) (counts : ℕ) (r : Bool) → not r ≡ is_some s.chosen → r ≡ true →
     nat_eq (length s.waiting) 0 ≡ true → asks_read counts s ≡ Ready (begun_with counts access.Nothing access.Nothing)
 unfolding asks_read write_begun next_request
 begins_nothing s counts r h i e = rw (none_since r s.chosen h i, empty_is s.waiting e) refl
 
 -- ---- what it asks
 
-no_write : (s : Engine) → Pauses s → write_begun s ≡ access.Nothing
+no_write : (s : State) → Pauses s → write_begun s ≡ access.Nothing
 unfolding write_begun
 no_write s p = rw p.waiting refl
 
@@ -137,15 +137,15 @@ no_either : (b : Bool) → cond b no_read no_read ≡ no_read
 no_either true = refl
 no_either false = refl
 
-no_request : (s : Engine) → Pauses s → next_request s ≡ None
+no_request : (s : State) → Pauses s → next_request s ≡ None
 unfolding next_request
 no_request s p = rw p.chosen (no_either (nat_lt (length s.waiting) 2))
 
-reads_nothing : (s : Engine) → Pauses s → asks_read 0 s ≡ Ready idle_begun
+reads_nothing : (s : State) → Pauses s → asks_read 0 s ≡ Ready idle_begun
 unfolding asks_read
 reads_nothing s p = rw (no_write s p, no_request s p) refl
 
-pub asks-paused : (s : Engine) → is_paused s ≡ true → asks s ≡ Ready idle_begun
+pub asks-paused : (s : State) → is_paused s ≡ true → asks s ≡ Ready idle_begun
 unfolding asks
 asks-paused s h =
     let p : Pauses s = pauses s h in
@@ -162,7 +162,7 @@ none_given [] h = refl
 none_given (t ∷ ts) h = either_none (gives t) (list_any gives ts) (list_any (λ b. b) (given_by ts)) h (none_given ts)
 
 -- where nothing was begun and no timer gives a credit the timers step alone
-next-paused : (s new : Engine) (begun : BegunTransfer) (turns : List Turn) → is_paused s ≡ true →
+next-paused : (s new : State) (begun : BegunTransfer) (turns : List Turn) → is_paused s ≡ true →
     begun.read ≡ access.Nothing → begun.write ≡ access.Nothing → list_any gives s.timers ≡ false →
     new ≡ with_stepped_timers s → new ≡ next s begun turns
 next-paused s new begun turns h read write none last =
@@ -171,21 +171,21 @@ next-paused s new begun turns h read write none last =
     (sym (nothing_moves s begun turns read write (λ k low. not_candidate s begun.counts k p) (λ k low. not_over s k p))) last
 
 -- the same of an engine that was opened
-pub next-passed : (e s : Engine) (begun : BegunTransfer) (turns : List Turn) (timers : List PacingTimer) → e ≡ s →
+pub next-passed : (e s : State) (begun : BegunTransfer) (turns : List Turn) (timers : List PacingTimer) → e ≡ s →
     is_paused s ≡ true → begun.read ≡ access.Nothing → begun.write ≡ access.Nothing → list_any gives e.timers ≡ false →
     timers ≡ map stepped e.timers → record e { timers = timers } ≡ next s begun turns
 next-passed e s begun turns timers is h read write none last =
     next-paused s (record e { timers = timers }) begun turns h read write
-    (sym (ap (λ (x : Engine). list_any gives x.timers) is) ∙ none)
+    (sym (ap (λ (x : State). list_any gives x.timers) is) ∙ none)
     (ap (λ ts. record e { timers = ts }) last ∙ ap with_stepped_timers is)
 
 -- and the engine stays paused
-stays_paused : (s : Engine) (timers : List PacingTimer) → is_paused s ≡ true → is_paused (record s { timers = timers }) ≡ true
+stays_paused : (s : State) (timers : List PacingTimer) → is_paused s ≡ true → is_paused (record s { timers = timers }) ≡ true
 unfolding is_paused
 stays_paused s timers h = h
 
-pub stays_passed : (e s : Engine) (timers : List PacingTimer) → e ≡ s → is_paused s ≡ true → is_paused (record e { timers = timers }) ≡ true
+pub stays_passed : (e s : State) (timers : List PacingTimer) → e ≡ s → is_paused s ≡ true → is_paused (record e { timers = timers }) ≡ true
 stays_passed e s timers is h =
-    ap (λ (x : Engine). is_paused (record x { timers = timers })) is ∙ stays_paused s timers h
+    ap (λ (x : State). is_paused (record x { timers = timers })) is ∙ stays_paused s timers h
 
 pub ruleset paused = (asks-paused)

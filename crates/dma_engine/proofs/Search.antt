@@ -1,6 +1,6 @@
 -- The choice is found in one pass over the channels in turn, from the first one on.
 use Rattle.std.proofs.Common.{◌≡◌, ℕ, zero, suc, ◌+◌, ◌-◌, ◌%◌, ◌<◌, ◌≤◌, Bool, true, false, ◌&&◌, refl, ap, subst, sym, ◌∙◌, arith, Option, Some, None}
-use Rattle.dma_engine.specs.State.{Engine, channel_at}
+use Rattle.dma_engine.specs.State.{State, channel_at}
 use Rattle.dma_engine.specs.Control.{is_high}
 use Rattle.dma_engine.specs.Choice.{is_ready, is_candidate, first_in_turn, next_candidate, or_else, choice_of}
 
@@ -54,11 +54,11 @@ without_high true true false r e = refl
 without_high true false h r e = refl
 without_high false b h r e = refl
 
-high_of : (counts : ℕ) (s : Engine) (n : ℕ) → is_candidate false counts s n ≡ true →
+high_of : (counts : ℕ) (s : State) (n : ℕ) → is_candidate false counts s n ≡ true →
     is_candidate true counts s n ≡ is_high (channel_at n s)
 high_of counts s n h = with_high (channel_at n s).busy _ (is_high (channel_at n s)) (is_ready counts (channel_at n s) s) h
 
-pub not_of : (counts : ℕ) (s : Engine) (n : ℕ) → is_candidate false counts s n ≡ false → is_candidate true counts s n ≡ false
+pub not_of : (counts : ℕ) (s : State) (n : ℕ) → is_candidate false counts s n ≡ false → is_candidate true counts s n ≡ false
 not_of counts s n h = without_high (channel_at n s).busy _ (is_high (channel_at n s)) (is_ready counts (channel_at n s) s) h
 
 -- ---- no candidate
@@ -68,7 +68,7 @@ unfolding first_in_turn
 none_in_turn test n zero h = refl
 none_in_turn test n (suc left) h = let low : n % 12 < 12 = omega arith in rw (h (n % 12) low) (none_in_turn test (n + 1) left h)
 
-pub no_choice : (counts : ℕ) (s : Engine) → ((k : ℕ) → k < 12 → is_candidate false counts s k ≡ false) → choice_of counts s ≡ None
+pub no_choice : (counts : ℕ) (s : State) → ((k : ℕ) → k < 12 → is_candidate false counts s k ≡ false) → choice_of counts s ≡ None
 unfolding choice_of
 no_choice counts s h =
     let high : next_candidate true counts s ≡ None =
@@ -79,17 +79,17 @@ no_choice counts s h =
 -- ---- the pass
 
 -- no channel of high priority was passed, and this is the first of the others that were
-pub record IsPassing (counts : ℕ) (s : Engine) (other : Option ℕ) (passed : ℕ) : Type 0 where
+pub record IsPassing (counts : ℕ) (s : State) (other : Option ℕ) (passed : ℕ) : Type 0 where
   pub high : found_after (is_candidate true counts s) s.last_chosen passed ≡ next_candidate true counts s
   pub others : or_else other (found_after (is_candidate false counts s) s.last_chosen passed) ≡ next_candidate false counts s
 
-pub passing-none : (counts : ℕ) (s : Engine) → IsPassing counts s None 0
+pub passing-none : (counts : ℕ) (s : State) → IsPassing counts s None 0
 passing-none counts s = record {
   high = found_after-none (is_candidate true counts s) s.last_chosen;
   others = found_after-none (is_candidate false counts s) s.last_chosen;
 }
 
-pub passing-other : (counts : ℕ) (s : Engine) (other : Option ℕ) (p : ℕ) → IsPassing counts s other p → p < 12 →
+pub passing-other : (counts : ℕ) (s : State) (other : Option ℕ) (p : ℕ) → IsPassing counts s other p → p < 12 →
     is_candidate false counts s ((s.last_chosen + 1 + p) % 12) ≡ false → IsPassing counts s other (p + 1)
 passing-other counts s other p h low e = record {
   high =
@@ -102,7 +102,7 @@ or_else-some : (other : Option ℕ) (n : ℕ) (o : Option ℕ) → or_else (or_e
 or_else-some None n o = refl
 or_else-some (Some m) n o = refl
 
-pub passing-candidate : (counts : ℕ) (s : Engine) (other : Option ℕ) (p : ℕ) → IsPassing counts s other p → p < 12 →
+pub passing-candidate : (counts : ℕ) (s : State) (other : Option ℕ) (p : ℕ) → IsPassing counts s other p → p < 12 →
     is_candidate false counts s ((s.last_chosen + 1 + p) % 12) ≡ true →
     is_high (channel_at ((s.last_chosen + 1 + p) % 12) s) ≡ false →
     IsPassing counts s (or_else other (Some ((s.last_chosen + 1 + p) % 12))) (p + 1)
@@ -114,7 +114,7 @@ passing-candidate counts s other p h low e high = record {
       ∙ ap (λ o. or_else other o) (sym (found_after-found (is_candidate false counts s) s.last_chosen p low e)) ∙ h.others;
 }
 
-pub passing-high : (counts : ℕ) (s : Engine) (other : Option ℕ) (p : ℕ) → IsPassing counts s other p → p < 12 →
+pub passing-high : (counts : ℕ) (s : State) (other : Option ℕ) (p : ℕ) → IsPassing counts s other p → p < 12 →
     is_candidate false counts s ((s.last_chosen + 1 + p) % 12) ≡ true →
     is_high (channel_at ((s.last_chosen + 1 + p) % 12) s) ≡ true → Some ((s.last_chosen + 1 + p) % 12) ≡ choice_of counts s
 unfolding choice_of
@@ -127,7 +127,7 @@ or_else-none : (other : Option ℕ) → or_else other None ≡ other
 or_else-none None = refl
 or_else-none (Some n) = refl
 
-pub passing-all : (counts : ℕ) (s : Engine) (other : Option ℕ) (p : ℕ) → IsPassing counts s other p → 12 ≤ p → other ≡ choice_of counts s
+pub passing-all : (counts : ℕ) (s : State) (other : Option ℕ) (p : ℕ) → IsPassing counts s other p → 12 ≤ p → other ≡ choice_of counts s
 unfolding choice_of
 passing-all counts s other p h low =
     let none : next_candidate true counts s ≡ None =
@@ -138,12 +138,12 @@ passing-all counts s other p h low =
     others ∙ ap (λ o. or_else o (next_candidate false counts s)) (sym none)
 
 -- the same for the number of that channel
-pub passing-other_at : (counts : ℕ) (s : Engine) (other : Option ℕ) (p n : ℕ) → n ≡ (s.last_chosen + 1 + p) % 12 →
+pub passing-other_at : (counts : ℕ) (s : State) (other : Option ℕ) (p n : ℕ) → n ≡ (s.last_chosen + 1 + p) % 12 →
     IsPassing counts s other p → p < 12 → is_candidate false counts s n ≡ false → IsPassing counts s other (p + 1)
 passing-other_at counts s other p n is h low e =
     passing-other counts s other p h low (subst (λ k. is_candidate false counts s k ≡ false) is e)
 
-pub passing-candidate_at : (counts : ℕ) (s : Engine) (other : Option ℕ) (p n : ℕ) → n ≡ (s.last_chosen + 1 + p) % 12 →
+pub passing-candidate_at : (counts : ℕ) (s : State) (other : Option ℕ) (p n : ℕ) → n ≡ (s.last_chosen + 1 + p) % 12 →
     IsPassing counts s other p → p < 12 → is_candidate false counts s n ≡ true → is_high (channel_at n s) ≡ false →
     IsPassing counts s (or_else other (Some n)) (p + 1)
 passing-candidate_at counts s other p n is h low e high =

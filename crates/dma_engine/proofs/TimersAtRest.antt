@@ -3,7 +3,7 @@ use Rattle.std.proofs.Common.{◌≡◌, ℕ, zero, suc, Bool, true, false, not,
 use Rattle.std.specs.Prelude.{is_none, map}
 use Rattle.std.specs.List.{list_all, list_any}
 use Rattle.dma_engine.specs.declared.timer.PacingTimer.{PacingTimer}
-use Rattle.dma_engine.specs.State.{Engine, channel_at}
+use Rattle.dma_engine.specs.State.{State, channel_at}
 use Rattle.dma_engine.specs.Control.{treq_of}
 use Rattle.dma_engine.specs.Requests.{Pace, pace_of}
 use Rattle.dma_engine.specs.Requests.Pace.{Sender, Receiver, Timer, Always, Never}
@@ -53,13 +53,13 @@ is_given-none given Always h = refl
 is_given-none given Never h = refl
 
 -- no channel gets a credit
-gets_no_credit : (s : Engine) → list_all is_idle_timer s.timers ≡ true → (n : ℕ) → gets_credit s n ≡ false
+gets_no_credit : (s : State) → list_all is_idle_timer s.timers ≡ true → (n : ℕ) → gets_credit s n ≡ false
 gets_no_credit s h n =
     both_not (channel_at n s).busy _
     (is_given-none (given_by s.timers) (pace_of (treq_of (channel_at n s))) (λ k. none_given s.timers k h))
 
 -- and the timers stay as they are
-pub after_timers-at_rest : (s e : Engine) → list_all is_idle_timer s.timers ≡ true → list_all is_idle_timer e.timers ≡ true →
+pub after_timers-at_rest : (s e : State) → list_all is_idle_timer s.timers ≡ true → list_all is_idle_timer e.timers ≡ true →
     after_timers (gets_credit s) e ≡ e
 unfolding after_timers
 after_timers-at_rest s e h i =
@@ -74,7 +74,7 @@ none_in (false ∷ l) h zero = refl
 none_in (false ∷ l) h (suc k) = none_in l h k
 
 -- where no timer gives a credit no channel gets one
-pub gets_none : (s : Engine) (given : List Bool) → given ≡ given_by s.timers → list_any (λ b. b) given ≡ false → (n : ℕ) →
+pub gets_none : (s : State) (given : List Bool) → given ≡ given_by s.timers → list_any (λ b. b) given ≡ false → (n : ℕ) →
     gets_credit s n ≡ false
 gets_none s given is h n =
     both_not (channel_at n s).busy _
@@ -95,27 +95,27 @@ run_on [] = refl
 run_on (t ∷ ts) =
     ap (λ b. b && list_all is_idle_timer (map stepped ts)) (runs_on t) ∙ ap (λ b. is_idle_timer t && b) (run_on ts)
 
-still_timers : (s : Engine) → is_at_rest (with_stepped_timers s) ≡ is_at_rest s
+still_timers : (s : State) → is_at_rest (with_stepped_timers s) ≡ is_at_rest s
 unfolding is_at_rest
 still_timers s =
     ap (λ b. is_none s.chosen && (nat_eq (length s.waiting) 0 && (list_all is_idle_channel s.channels && b))) (run_on s.timers)
 
-paused_timers : (s : Engine) → is_paused (with_stepped_timers s) ≡ is_paused s
+paused_timers : (s : State) → is_paused (with_stepped_timers s) ≡ is_paused s
 unfolding is_paused
 paused_timers s = refl
 
 -- so the engine rests, or is paused, as before
-pub still-stepped : (s new : Engine) → new ≡ with_stepped_timers s → is_still new ≡ is_still s
+pub still-stepped : (s new : State) → new ≡ with_stepped_timers s → is_still new ≡ is_still s
 still-stepped s new h = ap is_still h ∙ ap (λ b. b && is_silent s) (still_timers s)
 
-pub paused-stepped : (s new : Engine) → new ≡ with_stepped_timers s → is_paused new ≡ is_paused s
+pub paused-stepped : (s new : State) → new ≡ with_stepped_timers s → is_paused new ≡ is_paused s
 paused-stepped s new h = ap is_paused h ∙ paused_timers s
 
-pub silent-stepped : (s new : Engine) → new ≡ with_stepped_timers s → is_silent new ≡ is_silent s
+pub silent-stepped : (s new : State) → new ≡ with_stepped_timers s → is_silent new ≡ is_silent s
 silent-stepped s new h = ap is_silent h
 
 -- the same of an engine that was opened, whose timers stepped or did not
-pub still-passed : (e s : Engine) (timers : List PacingTimer) (r : Bool) → e ≡ s → (r ≡ true → timers ≡ map stepped e.timers) →
+pub still-passed : (e s : State) (timers : List PacingTimer) (r : Bool) → e ≡ s → (r ≡ true → timers ≡ map stepped e.timers) →
     (r ≡ false → timers ≡ e.timers) → is_still (record e { timers = timers }) ≡ is_still s
 still-passed e s timers true is after before =
     ap (λ ts. is_still (record e { timers = ts })) (after refl) ∙ still-stepped e (with_stepped_timers e) refl ∙ ap is_still is

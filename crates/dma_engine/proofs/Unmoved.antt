@@ -7,13 +7,13 @@ use Rattle.dma_engine.specs.declared.begun.Access.TheVariants as access
 use Rattle.dma_engine.specs.Choice.{is_candidate}
 use Rattle.dma_engine.specs.Cycle.{is_over, next, after_transfers}
 use Rattle.dma_engine.specs.Rest.{is_idle_timer}
-use Rattle.dma_engine.specs.State.{Engine}
+use Rattle.dma_engine.specs.State.{State}
 use Rattle.dma_engine.specs.Timer.{gets_credit, after_timers}
 use Rattle.dma_engine.specs.Unmoved.{StaysBy}
 use Rattle.dma_engine.proofs.Idle.{nothing_moves}
 use Rattle.dma_engine.proofs.TimersAtRest.{after_timers-at_rest}
 
-pub stays_by : (s : Engine) (counts : ℕ) → list_all is_idle_timer s.timers ≡ true
+pub stays_by : (s : State) (counts : ℕ) → list_all is_idle_timer s.timers ≡ true
     → ((k : ℕ) → k < 12 → is_candidate false counts s k ≡ false) → ((k : ℕ) → k < 12 → is_over s k ≡ false) → StaysBy counts s
 unfolding next
 stays_by s counts timers choice ends = record {
@@ -24,7 +24,7 @@ stays_by s counts timers choice ends = record {
       ap (after_timers (gets_credit s)) moved ∙ after_timers-at_rest s s timers timers;
 }
 
-pub unmoved_cycle : (s : Engine) (begun : BegunTransfer) (counts : ℕ) → StaysBy counts s → begun.counts ≡ counts → begun.read ≡ access.Nothing
+pub unmoved_cycle : (s : State) (begun : BegunTransfer) (counts : ℕ) → StaysBy counts s → begun.counts ≡ counts → begun.read ≡ access.Nothing
     → begun.write ≡ access.Nothing → (turns : List Turn) → next s begun turns ≡ s
 unmoved_cycle s begun counts h same read write turns = h.stays begun same read write turns
 

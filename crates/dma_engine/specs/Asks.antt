@@ -20,7 +20,7 @@ use Rattle.dma_engine.specs.declared.begun.Access.TheVariants as access
 use Rattle.dma_engine.specs.declared.begun.BegunTransfer.{BegunTransfer}
 use Rattle.dma_engine.specs.Control.{is_enabled, treq_of}
 use Rattle.dma_engine.specs.Transfer.{read_of, request_of}
-use Rattle.dma_engine.specs.State.{Engine, channel_at}
+use Rattle.dma_engine.specs.State.{State, channel_at}
 
 -- ---- accesses
 
@@ -52,17 +52,17 @@ abbrev pub write_for : Option Request → Access
 write_for None = access.Nothing
 write_for (Some request) = write_at request (place_of request.address)
 
-unfoldable pub write_begun : Engine → Access
+unfoldable pub write_begun : State → Access
 write_begun s = write_for (first_write s.waiting)
 
 -- ---- the read
 
-abbrev pub read_for : Option ℕ → Engine → Option Request
+abbrev pub read_for : Option ℕ → State → Option Request
 read_for None s = None
 read_for (Some n) s = if nat_lt n 12 then Some (read_of (channel_at n s)) else None
 
 -- the chosen channel reads where fewer than two writes wait
-unfoldable pub next_request : Engine → Option Request
+unfoldable pub next_request : State → Option Request
 next_request s = if nat_lt (length s.waiting) 2 then read_for s.chosen s else None
 
 abbrev pub begun_with : ℕ → Access → Access → BegunTransfer
@@ -78,7 +78,7 @@ abbrev pub asks_for : ℕ → Access → Option Request → Asking BegunTransfer
 asks_for counts write None = Ready (begun_with counts access.Nothing write)
 asks_for counts write (Some request) = asks_at counts write request (place_of request.address)
 
-unfoldable pub asks_read : ℕ → Engine → Asking BegunTransfer
+unfoldable pub asks_read : ℕ → State → Asking BegunTransfer
 asks_read counts s = asks_for counts (write_begun s) (next_request s)
 
 -- ---- the cycle
@@ -93,13 +93,13 @@ abbrev pub may_wait : Channel → Bool
 may_wait c = (c.busy || is_enabled c) && nat_lt (treq_of c) 0x3B
 
 -- some channel may be paced by a FIFO now, or in a later cycle
-unfoldable pub may_ask_counts : Engine → Bool
+unfoldable pub may_ask_counts : State → Bool
 may_ask_counts s = list_any may_wait s.channels
 
 abbrev pub idle_begun : BegunTransfer
 idle_begun = begun_with 0 access.Nothing access.Nothing
 
-unfoldable pub asks : Engine → Asking BegunTransfer
+unfoldable pub asks : State → Asking BegunTransfer
 asks s =
     if list_any waits_for_counts s.channels
     then Question Pacing (λ counts. asks_read counts s)

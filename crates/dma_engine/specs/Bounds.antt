@@ -15,7 +15,7 @@ use Rattle.lane_look.specs.Steps.{without_words}
 use Rattle.dma_engine.specs.declared.begun.Access.{Access}
 use Rattle.dma_engine.specs.declared.begun.Access.TheVariants as access
 use Rattle.dma_engine.specs.declared.begun.BegunTransfer.{BegunTransfer}
-use Rattle.dma_engine.specs.State.{Engine}
+use Rattle.dma_engine.specs.State.{State}
 use Rattle.dma_engine.specs.Asks.{asks_at, asks_for, asks_read, write_begun, next_request, asks}
 use Rattle.dma_engine.specs.Cycle.{want_of, wanted, word_of, word_read, is_written, after_transfers, next}
 
@@ -32,18 +32,18 @@ few_for : (n counts : ℕ) (write : Access) (request : Option Request) → Few (
 few_for n counts write None = few_ready _ _
 few_for n counts write (Some request) = few_at n counts write request (place_of request.address)
 
-few_read : (n counts : ℕ) (s : Engine) → Few (suc n) (asks_read counts s)
+few_read : (n counts : ℕ) (s : State) → Few (suc n) (asks_read counts s)
 unfolding asks_read
 few_read n counts s = few_for n counts (write_begun s) (next_request s)
 
-asks_few : (s : Engine) → Few 2 (asks s)
+asks_few : (s : State) → Few 2 (asks s)
 unfolding asks
 asks_few s =
     few_if 2 _ _ _ (few_ready 2 _)
     (few_if 2 _ _ _ (few_ask 1 Pacing (λ counts. asks_read counts s) (λ counts. few_read 0 counts s)) (few_read 1 0 s))
 
 -- the counts, and a word of SRAM
-pub two_at_most : (s : Engine) → AsksAtMost 2 (asks s)
+pub two_at_most : (s : State) → AsksAtMost 2 (asks s)
 two_at_most s = (asks_few s).few
 
 -- ---- turns
@@ -74,7 +74,7 @@ write_alike (access.Outward request) want (t ∷ u ∷ us) = refl
 write_alike (access.Stopped cause) want (t ∷ u ∷ us) = refl
 
 -- an access to SRAM has told its word already
-pub reads_none : (s : Engine) (begun : BegunTransfer) (turns : List Turn) → next s begun (without_words (wanted begun) turns) ≡ next s begun turns
+pub reads_none : (s : State) (begun : BegunTransfer) (turns : List Turn) → next s begun (without_words (wanted begun) turns) ≡ next s begun turns
 unfolding next after_transfers
 reads_none s begun turns =
     rw (read_alike begun.read (want_of begun.write ∷ []) turns, write_alike begun.write (want_of begun.read) turns) refl

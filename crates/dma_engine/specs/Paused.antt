@@ -5,7 +5,7 @@ use Rattle.dma_engine.specs.declared.channel.Channel.{Channel}
 use Rattle.dma_engine.specs.Control.{treq_of}
 use Rattle.dma_engine.specs.Requests.{pace_of}
 use Rattle.dma_engine.specs.Cycle.{uses_credits}
-use Rattle.dma_engine.specs.State.{Engine}
+use Rattle.dma_engine.specs.State.{State}
 
 -- the channel is paced by a timer, and has no credit
 abbrev pub lacks_credit : Channel → Bool
@@ -16,5 +16,5 @@ abbrev pub is_paused_channel : Channel → Bool
 is_paused_channel c = not c.busy || (not (c.count == 0) && lacks_credit c)
 
 -- no channel is chosen, no write waits, and every channel is idle or lacks a credit
-unfoldable pub is_paused : Engine → Bool
+unfoldable pub is_paused : State → Bool
 is_paused s = is_none s.chosen && (length s.waiting == 0 && list_all is_paused_channel s.channels)

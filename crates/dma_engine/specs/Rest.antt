@@ -11,7 +11,7 @@ use Rattle.dma_engine.specs.declared.begun.BegunTransfer.{BegunTransfer}
 use Rattle.dma_engine.specs.Timer.{runs}
 use Rattle.dma_engine.specs.Asks.{asks, idle_begun}
 use Rattle.dma_engine.specs.Cycle.{wanted, next}
-use Rattle.dma_engine.specs.State.{Engine, at_reset}
+use Rattle.dma_engine.specs.State.{State, at_reset}
 use Rattle.dma_engine.specs.Words.{is_silent}
 
 abbrev pub is_idle_channel : Channel → Bool
@@ -21,17 +21,17 @@ abbrev pub is_idle_timer : PacingTimer → Bool
 is_idle_timer t = not (runs t)
 
 -- no channel is busy or chosen, no write waits, and no timer runs
-unfoldable pub is_at_rest : Engine → Bool
+unfoldable pub is_at_rest : State → Bool
 is_at_rest s =
     is_none s.chosen
     && (length s.waiting == 0 && (list_all is_idle_channel s.channels && list_all is_idle_timer s.timers))
 
 -- the engine is at rest, and no interrupt is raised or forced
-abbrev pub is_still : Engine → Bool
+abbrev pub is_still : State → Bool
 is_still s = is_at_rest s && is_silent s
 
 -- what the first comes to: the engine asks nothing, wants nothing, and stays as it is, whatever it began and the bus gave
-pub record StaysAtRest (s : Engine) : Type 0 where
+pub record StaysAtRest (s : State) : Type 0 where
   pub asks_nothing : asks s ≡ Ready idle_begun
   pub wants_nothing : wanted idle_begun ≡ want.Nothing ∷ want.Nothing ∷ []
   pub stays : (begun : BegunTransfer) (turns : List Turn) → next s begun turns ≡ s

@@ -5,7 +5,7 @@ use Rattle.dma_engine.specs.declared.waiting.WaitingWrite.{WaitingWrite}
 use Rattle.dma_engine.specs.declared.timer.PacingTimer.{PacingTimer}
 use Rattle.dma_engine.specs.declared.line.InterruptLine.{InterruptLine}
 
-pub record Engine : Type 0 where
+pub record State : Type 0 where
   -- the twelve channels
   pub channels : List Channel
   -- the channel that is chosen now, whose next read is not done yet
@@ -27,7 +27,7 @@ idle_channel =
     record { read = 0; write = 0; count = 0; reload = 0; ctrl = 0; busy = false; aborted = false; credits = 0 }
 
 -- a channel by its number
-abbrev pub channel_at : ℕ → Engine → Channel
+abbrev pub channel_at : ℕ → State → Channel
 channel_at n e = slice_index_or e.channels n idle_channel
 
 abbrev pub stopped_timer : PacingTimer
@@ -41,7 +41,7 @@ silent_line = record { enable = 0; force = 0 }
 
 -- after a reset nothing is in progress and every register is 0; the first channel to be looked at is channel 0, which
 -- follows channel 11
-abbrev pub at_reset : Engine
+abbrev pub at_reset : State
 at_reset =
     record {
       channels = replicate 12 idle_channel;

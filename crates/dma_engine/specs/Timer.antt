@@ -7,7 +7,7 @@ use Rattle.dma_engine.specs.Control.{treq_of}
 use Rattle.dma_engine.specs.Channel.{changed, in_turn}
 use Rattle.dma_engine.specs.Requests.{Pace, pace_of}
 use Rattle.dma_engine.specs.Requests.Pace.{Timer}
-use Rattle.dma_engine.specs.State.{Engine, channel_at}
+use Rattle.dma_engine.specs.State.{State, channel_at}
 
 -- a timer with X or Y 0 stands still
 abbrev pub runs : PacingTimer → Bool
@@ -39,7 +39,7 @@ is_given given (Timer k) = slice_index_or given k false
 is_given given _ = false
 
 -- the channels that were busy at the start of the cycle get the credit of their timer
-abbrev pub gets_credit : Engine → ℕ → Bool
+abbrev pub gets_credit : State → ℕ → Bool
 gets_credit s n = (channel_at n s).busy && is_given (given_by s.timers) (pace_of (treq_of (channel_at n s)))
 
 -- a channel has at most 63
@@ -49,12 +49,12 @@ more_credits credits = if nat_lt credits 63 then credits + 1 else 63
 abbrev pub credited : Channel → Channel
 credited c = record c { credits = more_credits c.credits }
 
-abbrev pub with_credit : ℕ → Engine → Engine
+abbrev pub with_credit : ℕ → State → State
 with_credit n e = changed credited n e
 
-abbrev pub with_stepped_timers : Engine → Engine
+abbrev pub with_stepped_timers : State → State
 with_stepped_timers e = record e { timers = map stepped e.timers }
 
 -- the timers step, and the channels that pass the test get a credit
-unfoldable pub after_timers : (ℕ → Bool) → Engine → Engine
+unfoldable pub after_timers : (ℕ → Bool) → State → State
 after_timers test e = in_turn test with_credit 12 (with_stepped_timers e)

@@ -13,7 +13,7 @@ use Rattle.dma_engine.specs.declared.begun.BegunTransfer.{BegunTransfer}
 use Rattle.dma_engine.specs.Asks.{asks}
 use Rattle.dma_engine.specs.Channel.{with_abort}
 use Rattle.dma_engine.specs.Cycle.{want_of, next}
-use Rattle.dma_engine.specs.State.{Engine, idle_channel, at_reset}
+use Rattle.dma_engine.specs.State.{State, idle_channel, at_reset}
 use Rattle.dma_engine.specs.Transfer.{advanced}
 
 -- ---- a copy of words
@@ -32,7 +32,7 @@ copier reload read write count busy = record {
 }
 
 -- channel 0 is such a one, and the others are as after a reset
-abbrev pub alone : Channel → Option ℕ → List WaitingWrite → ℕ → Engine
+abbrev pub alone : Channel → Option ℕ → List WaitingWrite → ℕ → State
 alone c chosen waiting raised =
     record at_reset {
       channels = c ∷ replicate 11 idle_channel;
@@ -47,13 +47,13 @@ abbrev pub told : (ℕ → ℕ) → Ask → ℕ
 told memory (Word address) = memory address
 told memory _ = 0
 
-abbrev pub begun_by : (ℕ → ℕ) → Engine → BegunTransfer
+abbrev pub begun_by : (ℕ → ℕ) → State → BegunTransfer
 begun_by memory s = answered (told memory) (asks s)
 
-abbrev pub granted : (ℕ → ℕ) → Engine → Engine
+abbrev pub granted : (ℕ → ℕ) → State → State
 granted memory s = next s (begun_by memory s) (Done 0 ∷ Done 0 ∷ [])
 
-abbrev pub engine_after : (ℕ → ℕ) → ℕ → Engine → Engine
+abbrev pub engine_after : (ℕ → ℕ) → ℕ → State → State
 engine_after memory zero s = s
 engine_after memory (suc n) s = engine_after memory n (granted memory s)
 
@@ -66,7 +66,7 @@ abbrev pub written_by : Want → List (ℕ × ℕ)
 written_by (want.Ram request) = data_written request.address request.write
 written_by _ = []
 
-abbrev pub writes : (ℕ → ℕ) → ℕ → Engine → List (ℕ × ℕ)
+abbrev pub writes : (ℕ → ℕ) → ℕ → State → List (ℕ × ℕ)
 writes memory zero s = []
 writes memory (suc n) s = written_by (want_of (begun_by memory s).write) ++ writes memory n (granted memory s)
 

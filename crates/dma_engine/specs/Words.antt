@@ -8,7 +8,7 @@ use Rattle.dma_engine.specs.declared.timer.PacingTimer.{PacingTimer}
 use Rattle.dma_engine.specs.declared.line.InterruptLine.{InterruptLine}
 use Rattle.dma_engine.specs.Control.{is_quiet}
 use Rattle.dma_engine.specs.Channel.{changed, with_trigger, with_abort, with_raised, in_turn}
-use Rattle.dma_engine.specs.State.{Engine, channel_at, timer_at}
+use Rattle.dma_engine.specs.State.{State, channel_at, timer_at}
 
 -- ---- channels
 
@@ -30,22 +30,22 @@ abbrev pub with_control : ℕ → Channel → Channel
 with_control w c = record c { ctrl = w % 2 ^ 23 }
 
 -- a 0 in a trigger word starts nothing; it raises the interrupt of a channel that is else quiet
-abbrev pub null_trigger : ℕ → Engine → Engine
+abbrev pub null_trigger : ℕ → State → State
 null_trigger n e = if is_quiet (channel_at n e) then with_raised n e else e
 
-abbrev pub trigger_word : ℕ → ℕ → Engine → Engine
+abbrev pub trigger_word : ℕ → ℕ → State → State
 trigger_word n w e = if w == 0 then null_trigger n e else with_trigger n e
 
 -- a register of channel n, and one whose write triggers the channel
-abbrev pub of_channel : {V : Type 0} → ℕ → String → (Channel → ℕ) → (ℕ → Channel → Channel) → ℕ → Row V Engine
+abbrev pub of_channel : {V : Type 0} → ℕ → String → (Channel → ℕ) → (ℕ → Channel → Channel) → ℕ → Row V State
 of_channel offset name reads write n = read_write offset name (λ e. reads (channel_at n e)) (λ w. changed (write w) n)
 
-abbrev pub triggering : {V : Type 0} → ℕ → String → (Channel → ℕ) → (ℕ → Channel → Channel) → ℕ → Row V Engine
+abbrev pub triggering : {V : Type 0} → ℕ → String → (Channel → ℕ) → (ℕ → Channel → Channel) → ℕ → Row V State
 triggering offset name reads write n =
     read_write offset name (λ e. reads (channel_at n e)) (λ w e. trigger_word n w (changed (write w) n e))
 
 -- the four registers of each channel in four orders, of which the last one triggers
-abbrev pub channel_rows : {V : Type 0} → List (Row V Engine)
+abbrev pub channel_rows : {V : Type 0} → List (Row V State)
 channel_rows =
     repeated 12 64 (of_channel 0x00 "CHn_READ_ADDR" (λ c. c.read) with_read_address)
     ∷ repeated 12 64 (of_channel 0x04 "CHn_WRITE_ADDR" (λ c. c.write) with_write_address)
@@ -71,7 +71,7 @@ abbrev pub status_of : ℕ → InterruptLine → ℕ
 status_of raised line = bit_or (bit_and raised line.enable) line.force
 
 -- a 1 in INTR or INTS clears the interrupt of a channel
-abbrev pub without_raised : ℕ → Engine → Engine
+abbrev pub without_raised : ℕ → State → State
 without_raised w e = record e { raised = bit_and e.raised (2 ^ 16 - 1 - w % 2 ^ 16) }
 
 abbrev pub with_enable : ℕ → InterruptLine → InterruptLine
@@ -87,11 +87,11 @@ word_of_timer t = t.x * 2 ^ 16 + t.y
 abbrev pub with_timer_word : ℕ → PacingTimer → PacingTimer
 with_timer_word w t = record t { x = w / 2 ^ 16; y = w % 2 ^ 16 }
 
-abbrev pub with_timer : ℕ → ℕ → Engine → Engine
+abbrev pub with_timer : ℕ → ℕ → State → State
 with_timer k w e = record e { timers = slice_set e.timers k (with_timer_word w (timer_at k e.timers)) }
 
 -- each bit of MULTI_CHAN_TRIGGER and CHAN_ABORT stands for a channel
-abbrev pub block_rows : {V : Type 0} → List (Row V Engine)
+abbrev pub block_rows : {V : Type 0} → List (Row V State)
 block_rows =
     read_write 0x400 "INTR" (λ e. e.raised) without_raised
     ∷ read_write 0x404 "INTE0" (λ e. e.line_0.enable) (λ w e. record e { line_0 = with_enable w e.line_0 })
@@ -107,17 +107,17 @@ block_rows =
     ∷ []
 
 -- the sniffer and the debug registers are left out
-abbrev pub dma_rows : List (Row ⊤ Engine)
+abbrev pub dma_rows : List (Row ⊤ State)
 dma_rows = channel_rows ++ block_rows
 
 -- what a word reads as; None where there is no such word
-unfoldable pub word_of : ℕ → Engine → Option ℕ
+unfoldable pub word_of : ℕ → State → Option ℕ
 word_of offset s = word_at dma_rows tt offset s
 
 unfoldable pub is_word : ℕ → Bool
 is_word offset = has_row dma_rows offset
 
-unfoldable pub effect_of : ℕ → Option ℕ → Engine → Engine
+unfoldable pub effect_of : ℕ → Option ℕ → State → State
 effect_of offset write s = effect_at dma_rows offset write s
 
 -- each register is what stands at its offset, and nothing stands at any other
@@ -134,9 +134,9 @@ AnEngineThatIsHeldIsStill = IsHeld dma_rows
 abbrev pub is_raised : ℕ → InterruptLine → Bool
 is_raised raised line = not (status_of raised line == 0)
 
-abbrev pub lines_of : Engine → List Bool
+abbrev pub lines_of : State → List Bool
 lines_of s = is_raised s.raised s.line_0 ∷ is_raised s.raised s.line_1 ∷ []
 
 -- nothing is raised and nothing forced
-abbrev pub is_silent : Engine → Bool
+abbrev pub is_silent : State → Bool
 is_silent s = s.raised == 0 && s.line_0.force == 0 && s.line_1.force == 0

@@ -28,7 +28,7 @@ pub struct Dma {
 
 impl Model for Dma {
     ghost use Rattle.std.specs.Prelude.{◌≡◌, false, IfSome};
-    ghost use Rattle.dma_engine.specs.State.{Engine as State};
+    ghost use Rattle.dma_engine.specs.State.{State};
     ghost use Rattle.dma_engine.specs.Unmoved.{StaysBy};
     ghost use Rattle.dma_engine.specs.Rest.{is_still};
     ghost use Rattle.dma_engine.specs.Paused.{is_paused};

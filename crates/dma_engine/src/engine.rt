@@ -26,7 +26,7 @@ pub(crate) struct Engine {
 }
 
 impl Model for Engine {
-    ghost use Rattle.dma_engine.specs.State.{Engine as State};
+    ghost use Rattle.dma_engine.specs.State.{State};
 
     ghost Value = { State };
 

@@ -25,7 +25,7 @@ use Rattle.dma_engine.specs.Choice.{is_ready, choice_of}
 use Rattle.dma_engine.specs.Control.{is_high}
 use Rattle.dma_engine.specs.Cycle.{want_of, is_chosen, has_write, is_in_flight, is_over, after_ends, word_of, word_read, with_data, with_read_by, with_read, after_read, is_written, after_write, counted, with_chosen, choice_where_none, after_choice, after_read_of, after_write_of, after_transfers, next}
 use Rattle.dma_engine.specs.Laws.{IsFirst, IsChoice}
-use Rattle.dma_engine.specs.State.{Engine, idle_channel, channel_at}
+use Rattle.dma_engine.specs.State.{State as Engine, idle_channel, channel_at}
 use Rattle.dma_engine.specs.Timer.{gets_credit, credited, with_credit, with_stepped_timers, after_timers}
 use Rattle.dma_engine.specs.Transfer.{rounded, moved, data_of, read_of, write_after, request_of}
 use Rattle.dma_engine.specs.Control.{size_by}

@@ -7,7 +7,7 @@ use Rattle.dma_engine.specs.declared.channel.Channel.{Channel}
 use Rattle.dma_engine.specs.Channel.{changed, in_turn, with_end}
 use Rattle.dma_engine.specs.Choice.{choice_of}
 use Rattle.dma_engine.specs.Cycle.{is_in_flight, is_over, after_ends, word_of, word_read, with_data, with_read_by, with_read, after_read, is_written, after_write, counted, choice_where_none, after_choice, after_read_of, after_write_of, after_transfers, next}
-use Rattle.dma_engine.specs.State.{Engine, idle_channel, channel_at}
+use Rattle.dma_engine.specs.State.{State as Engine, idle_channel, channel_at}
 use Rattle.dma_engine.specs.Timer.{gets_credit, credited, with_credit, with_stepped_timers, after_timers}
 use Rattle.dma_engine.specs.Transfer.{moved}
 use Rattle.dma_engine.proofs.InTurn.{in_turn-all_failing}

@@ -9,7 +9,7 @@ use Rattle.rp_base.specs.Word.{has_bit}
 use Rattle.dma_engine.specs.declared.channel.Channel.{Channel}
 use Rattle.dma_engine.specs.Control.{is_enabled, chain_of, is_quiet}
 use Rattle.dma_engine.specs.Channel.{triggered, idle, with_channels, changed, with_trigger, with_raised, with_report, with_chain, with_end_of, with_end, in_turn}
-use Rattle.dma_engine.specs.State.{Engine, idle_channel, channel_at}
+use Rattle.dma_engine.specs.State.{State as Engine, idle_channel, channel_at}
 
 pub equal_or_not : (m k : ℕ) → (m ≡ k) ⊎ (m ≢ k)
 equal_or_not m k = grind arith

@@ -15,7 +15,7 @@ use Rattle.dma_engine.specs.declared.begun.BegunTransfer.{BegunTransfer}
 use Rattle.dma_engine.specs.Asks.{asks}
 use Rattle.dma_engine.specs.Control.{is_quiet}
 use Rattle.dma_engine.specs.Cycle.{want_of, word_of, word_read, is_chosen, is_over, next}
-use Rattle.dma_engine.specs.State.{Engine, channel_at}
+use Rattle.dma_engine.specs.State.{State as Engine, channel_at}
 use Rattle.dma_engine.specs.Transfer.{moved, read_of, write_after, request_of}
 
 -- ---- a cycle

@@ -5,7 +5,7 @@ use Rattle.std.proofs.lemmas.Bool.Decides.{nat_tests}
 use Rattle.std.proofs.lemmas.Nat.Bits.{bit_at-zero, bit_at_or, same_from_bits}
 use Rattle.io_bank.specs.declared.events.Edges.{Edges}
 use Rattle.io_bank.specs.declared.outputs.Outs.{Outs}
-use Rattle.io_bank.specs.State.{Bank, no_edges}
+use Rattle.io_bank.specs.State.{State, no_edges}
 use Rattle.io_bank.specs.Edges.{edges_of, joined}
 use Rattle.io_bank.specs.Levels.{levels_of}
 use Rattle.io_bank.specs.Step.{after_step, is_at_rest}
@@ -23,12 +23,12 @@ none_by low high e l h = edges_go e.low e.high l h
     edges_go : (a b : ℕ) → a ≡ 0 → b ≡ 0 → no_edges ≡ record { low = a; high = b }
     edges_go a b l h = rw (l, h) refl
 
-same : (s : Bank) (edges : Edges) (levels : ℕ) → edges ≡ no_edges → no_edges ≡ s.fresh → levels ≡ s.current → s.first ≡ s.current → s.second ≡ s.first →
+same : (s : State) (edges : Edges) (levels : ℕ) → edges ≡ no_edges → no_edges ≡ s.fresh → levels ≡ s.current → s.first ≡ s.current → s.second ≡ s.first →
     record s { latched = joined s.latched edges; fresh = edges; current = levels; first = s.current; second = s.first } ≡ s
 same s edges levels e fresh l first second =
     rw (e, no_more s.latched, fresh, l) (ap (λ n. record s { first = n; second = s.first }) (sym first) ∙ ap (λ n. record s { second = n }) (sym second))
 
-pub rest_step : (outs : Outs) (f : ℕ → Option Bool) (s : Bank) → is_at_rest s ≡ true → levels_of outs f s ≡ s.current → after_step outs f s ≡ s
+pub rest_step : (outs : Outs) (f : ℕ → Option Bool) (s : State) → is_at_rest s ≡ true → levels_of outs f s ≡ s.current → after_step outs f s ≡ s
 rest_step outs f s at_rest levels =
     let first : s.first ≡ s.current = grind (arith, nat_tests) in
     let second : s.second ≡ s.first = grind (arith, nat_tests) in

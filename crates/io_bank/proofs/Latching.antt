@@ -7,7 +7,7 @@ use Rattle.io_bank.specs.declared.outputs.Outs.{Outs}
 use Rattle.io_bank.specs.declared.events.Edges.{Edges}
 use Rattle.io_bank.specs.declared.events.Events.{Events}
 use Rattle.io_bank.specs.declared.events.Interrupts.{Interrupts}
-use Rattle.io_bank.specs.State.{Bank}
+use Rattle.io_bank.specs.State.{State}
 use Rattle.io_bank.specs.Levels.{input_of}
 use Rattle.io_bank.specs.Interrupts.{kind_of, event_word, is_named, raw_of, shown, left_of, cleared}
 use Rattle.io_bank.specs.Edges.{falling, rising, joined}
@@ -17,8 +17,8 @@ use Rattle.io_bank.proofs.Bits.{has_and, has_or, bits_below-at}
 
 -- ---- the words
 
-abbrev IsRead : (Bank → Events) → ℕ → ℕ → Type 0
-IsRead of first n = (s : Bank) (outs : Outs) → read s outs (first + 4 * n) ≡ event_word (of s) n
+abbrev IsRead : (State → Events) → ℕ → ℕ → Type 0
+IsRead of first n = (s : State) (outs : Outs) → read s outs (first + 4 * n) ≡ event_word (of s) n
 
 below_4 : (P : ℕ → Type 0) → P 0 → P 1 → P 2 → P 3 → (n : ℕ) → n < 4 → P n
 below_4 P a b c d zero h = a
@@ -86,7 +86,7 @@ shown_right s outs n bit low small = record {
 -- ---- edges
 
 -- the bit of a pin and a kind in INTR
-raw_bit : (s : Bank) (outs : Outs) (pin kind : ℕ) → pin < 30 → kind < 4 →
+raw_bit : (s : State) (outs : Outs) (pin kind : ℕ) → pin < 30 → kind < 4 →
     has_bit (read s outs (0x0f0 + 4 * (pin / 8))) (4 * (pin % 8) + kind) ≡ has_bit (kind_of (raw_of s) kind) pin
 raw_bit s outs pin kind low few =
     let here : pin / 8 < 4 = omega arith in
@@ -97,13 +97,13 @@ raw_bit s outs pin kind low few =
     ∙ ap (λ k. has_bit (kind_of (raw_of s) k) (8 * (pin / 8) + (4 * (pin % 8) + kind) / 4)) of
     ∙ ap (λ i. has_bit (kind_of (raw_of s) kind) i) at
 
-fallen_is : (s : Bank) (outs : Outs) (pin : ℕ) → pin < 30 → has_fallen pin outs s ≡ has_bit s.latched.low pin
+fallen_is : (s : State) (outs : Outs) (pin : ℕ) → pin < 30 → has_fallen pin outs s ≡ has_bit s.latched.low pin
 fallen_is s outs pin low = raw_bit s outs pin 2 low (omega arith)
 
-risen_is : (s : Bank) (outs : Outs) (pin : ℕ) → pin < 30 → has_risen pin outs s ≡ has_bit s.latched.high pin
+risen_is : (s : State) (outs : Outs) (pin : ℕ) → pin < 30 → has_risen pin outs s ≡ has_bit s.latched.high pin
 risen_is s outs pin low = raw_bit s outs pin 3 low (omega arith)
 
-latches : (s : Bank) (c : Driven) → s.bank_held ≡ false → (stepped c s).latched ≡ joined s.latched (record { low = falling s; high = rising s })
+latches : (s : State) (c : Driven) → s.bank_held ≡ false → (stepped c s).latched ≡ joined s.latched (record { low = falling s; high = rising s })
 latches s c free = rw free refl
 
 pub latched_later : AnEdgeIsLatchedTwoCyclesLater
@@ -123,7 +123,7 @@ latched_later s a b c pin outs free low =
 -- ---- a write to INTR
 
 abbrev IsWritten : ℕ → Type 0
-IsWritten n = (s : Bank) (w : ℕ) → (after_any (0x0f0 + 4 * n) (Some w) s).latched ≡ cleared n w s.latched s.fresh
+IsWritten n = (s : State) (w : ℕ) → (after_any (0x0f0 + 4 * n) (Some w) s).latched ≡ cleared n w s.latched s.fresh
 
 writes_intr : (n : ℕ) → n < 4 → IsWritten n
 writes_intr = below_4 IsWritten (λ s w. refl) (λ s w. refl) (λ s w. refl) (λ s w. refl)

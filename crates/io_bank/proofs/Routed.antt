@@ -10,7 +10,7 @@ use Rattle.io_bank.specs.declared.outputs.Outs.{Outs}
 use Rattle.io_bank.specs.declared.events.Edges.{Edges}
 use Rattle.io_bank.specs.declared.routes.Override.{Override}
 use Rattle.io_bank.specs.Pins.{bits_below, pins_where, field, overridden}
-use Rattle.io_bank.specs.State.{Bank, no_edges}
+use Rattle.io_bank.specs.State.{State, no_edges}
 use Rattle.io_bank.specs.Levels.{peripheral, function_of, level_to, enable_to, level_outside, pad_level, levels_of, by_sets, level_sensed, input_of, inputs_of, by_list}
 use Rattle.io_bank.specs.Edges.{falling, rising, edges_of}
 use Rattle.io_bank.specs.Routes.{pins_with, override_of, routes_of, routed_override, routed_mix, routed_part, routed_driven, chosen, routed_levels, routed_inputs}
@@ -253,7 +253,7 @@ levels-at controls pads outs driven high i h =
     (has_bit outside i) (level_outside (by_sets driven high i) (slice_index pads i))
     (driven-at controls pads outs i h) (level-at controls pads outs i h) (outside-at controls pads driven high i h)
 
-pub routed_levels-is : (s : Bank) (outs : Outs) (driven high : ℕ) →
+pub routed_levels-is : (s : State) (outs : Outs) (driven high : ℕ) →
     routed_levels (routes_of s.controls s.pads) outs driven high ≡ levels_of outs (by_sets driven high) s
 routed_levels-is s outs driven high =
     bits_below-is (λ pin. pad_level outs (by_sets driven high pin) (slice_index s.controls pin) (slice_index s.pads pin) pin) 30
@@ -261,14 +261,14 @@ routed_levels-is s outs driven high =
     (masked-lt _)
     (λ i h. levels-at s.controls s.pads outs driven high i h)
 
-sensed-at : (s : Bank) (levels i : ℕ) → i < 30 →
+sensed-at : (s : State) (levels i : ℕ) → i < 30 →
     has_bit (bit_and levels (routes_of s.controls s.pads).senses) i ≡ level_sensed s levels i
 sensed-at s levels i h =
     has_and levels (routes_of s.controls s.pads).senses i
     ∙ ap (λ b. has_bit levels i && b) (senses-at s.controls s.pads i h)
     ∙ and_comm_bool (has_bit levels i) (has_bit (slice_index s.pads i) 6)
 
-inputs-at : (s : Bank) (levels i : ℕ) → i < 30 →
+inputs-at : (s : State) (levels i : ℕ) → i < 30 →
     has_bit (routed_inputs (routes_of s.controls s.pads) levels) i ≡ input_of s levels i
 unfolding routes_of
 inputs-at s levels i h =
@@ -285,11 +285,11 @@ override-lt controls low x =
     or_lt 30 (bit_and (bit_xor x (override_of controls low).flips) (override_of controls low).passes)
     (override_of controls low).sets (omega (arith, kept, passes)) (with-lt controls low 2 3)
 
-inputs-lt : (s : Bank) (levels : ℕ) → routed_inputs (routes_of s.controls s.pads) levels < 2 ^ 30
+inputs-lt : (s : State) (levels : ℕ) → routed_inputs (routes_of s.controls s.pads) levels < 2 ^ 30
 unfolding routes_of
 inputs-lt s levels = override-lt s.controls 16 (bit_and levels (routes_of s.controls s.pads).senses)
 
-pub routed_inputs-is : (s : Bank) (levels : ℕ) → routed_inputs (routes_of s.controls s.pads) levels ≡ inputs_of s levels
+pub routed_inputs-is : (s : State) (levels : ℕ) → routed_inputs (routes_of s.controls s.pads) levels ≡ inputs_of s levels
 routed_inputs-is s levels =
     bits_below-is (input_of s levels) 30 (routed_inputs (routes_of s.controls s.pads) levels) (inputs-lt s levels)
     (λ i h. inputs-at s levels i h)
@@ -355,7 +355,7 @@ edges-from true low high e h p q = absurd (grind (arith, common_steps))
 edges-from false low high e h p q = rw (p, q) refl
 
 -- the edges by the inputs before and after
-pub edges_of-changed : (s : Bank) → s.bank_held ≡ false →
+pub edges_of-changed : (s : State) → s.bank_held ≡ false →
     edges_of s ≡ record {
       low = bit_and (inputs_of s s.second) (bit_xor (inputs_of s s.second) (inputs_of s s.first));
       high = bit_and (inputs_of s s.first) (bit_xor (inputs_of s s.second) (inputs_of s s.first));
@@ -368,24 +368,24 @@ cond-same : (b : Bool) (e : Edges) → e ≡ no_edges → cond b no_edges e ≡ 
 cond-same true e h = refl
 cond-same false e h = h
 
-at_rest-low : (s : Bank) → s.first ≡ s.second → falling s ≡ 0
+at_rest-low : (s : State) → s.first ≡ s.second → falling s ≡ 0
 at_rest-low s e =
     bits_below-same (λ pin. input_of s s.second pin && not (input_of s s.first pin)) (λ pin. false) 30
     (λ i h. ap (λ n. input_of s s.second i && not (input_of s n i)) e ∙ nor-self (input_of s s.second i))
     ∙ no-pins 30
 
-at_rest-high : (s : Bank) → s.first ≡ s.second → rising s ≡ 0
+at_rest-high : (s : State) → s.first ≡ s.second → rising s ≡ 0
 at_rest-high s e =
     bits_below-same (λ pin. not (input_of s s.second pin) && input_of s s.first pin) (λ pin. false) 30
     (λ i h. ap (λ n. not (input_of s s.second i) && input_of s n i) e ∙ not-and_self (input_of s s.second i))
     ∙ no-pins 30
 
 -- no edge without a change
-pub edges_of-at_rest : (s : Bank) → s.first ≡ s.second → edges_of s ≡ no_edges
+pub edges_of-at_rest : (s : State) → s.first ≡ s.second → edges_of s ≡ no_edges
 edges_of-at_rest s e =
     cond-same s.bank_held (record { low = falling s; high = rising s }) (rw (at_rest-low s e, at_rest-high s e) refl)
 
-pub edges_of-held : (s : Bank) → s.bank_held ≡ true → edges_of s ≡ no_edges
+pub edges_of-held : (s : State) → s.bank_held ≡ true → edges_of s ≡ no_edges
 edges_of-held s h = ap (λ b. cond b no_edges (record { low = falling s; high = rising s })) h
 
 pub ruleset others = (others-is)
@@ -406,14 +406,14 @@ by_sets-list levels i h =
     (bits_below-at (λ pin. unwrap_or (by_list levels pin) false) 30 i h)
     ∙ by-is (by_list levels i)
 
-levels_of-same : (outs : Outs) (f g : ℕ → Option Bool) (s : Bank) → ((i : ℕ) → i < 30 → f i ≡ g i) →
+levels_of-same : (outs : Outs) (f g : ℕ → Option Bool) (s : State) → ((i : ℕ) → i < 30 → f i ≡ g i) →
     levels_of outs f s ≡ levels_of outs g s
 levels_of-same outs f g s h =
     bits_below-same (λ pin. pad_level outs (f pin) (slice_index s.controls pin) (slice_index s.pads pin) pin)
     (λ pin. pad_level outs (g pin) (slice_index s.controls pin) (slice_index s.pads pin) pin) 30
     (λ i lt. ap (λ o. pad_level outs o (slice_index s.controls i) (slice_index s.pads i) i) (h i lt))
 
-pub levels_of-list : (outs : Outs) (levels : List (Option Bool)) (driven high : ℕ) (s : Bank) →
+pub levels_of-list : (outs : Outs) (levels : List (Option Bool)) (driven high : ℕ) (s : State) →
     driven ≡ pins_where (λ pin. is_some (by_list levels pin)) → high ≡ pins_where (λ pin. unwrap_or (by_list levels pin) false) →
     levels_of outs (by_sets driven high) s ≡ levels_of outs (by_list levels) s
 levels_of-list outs levels driven high s d e =

@@ -6,10 +6,10 @@ use Rattle.std.proofs.lemmas.Bool.Decides.{nat_tests}
 use Rattle.rp_base.specs.Rows.{Each, is_at, number_at, Row, at_row, word_at, has_row, effect_at}
 use Rattle.rp_base.proofs.Rows.{cut, told}
 use Rattle.io_bank.specs.declared.outputs.Outs.{Outs}
-use Rattle.io_bank.specs.State.{Bank}
+use Rattle.io_bank.specs.State.{State}
 use Rattle.io_bank.specs.Words.{pin_rows, event_rows, pad_rows, bank_rows}
 
-parts : {A : Type 0} (none : A) (found : Row Outs Bank → ℕ → A) (at : ℕ)
+parts : {A : Type 0} (none : A) (found : Row Outs State → ℕ → A) (at : ℕ)
     → at_row none found bank_rows at
     ≡ (if nat_lt at 0x0f0 then at_row none found pin_rows at else
     if nat_lt at 0x1000 then at_row none found event_rows at else at_row none found pad_rows at)
@@ -17,11 +17,11 @@ parts none found at =
     cut none found 0x0f0 pin_rows (event_rows ++ pad_rows) at refl
     ∙ ap (λ x. if nat_lt at 0x0f0 then at_row none found pin_rows at else x) (cut none found 0x1000 event_rows pad_rows at refl)
 
-pub words : (outs : Outs) (at : ℕ) (s : Bank) → word_at bank_rows outs at s
+pub words : (outs : Outs) (at : ℕ) (s : State) → word_at bank_rows outs at s
     ≡ (if nat_lt at 0x0f0 then word_at pin_rows outs at s else if nat_lt at 0x1000 then word_at event_rows outs at s else word_at pad_rows outs at s)
 words outs at s = parts None (λ row n. Some (row.reads n outs s)) at
 
-pub writes : (at w : ℕ) (s : Bank) → effect_at bank_rows at (Some w) s
+pub writes : (at w : ℕ) (s : State) → effect_at bank_rows at (Some w) s
     ≡ (if nat_lt at 0x0f0 then effect_at pin_rows at (Some w) s else if nat_lt at 0x1000 then effect_at (event_rows {V = Outs}) at (Some w) s else effect_at (pad_rows {V = Outs}) at (Some w) s)
 writes at w s = parts s (λ row n. row.write_does n w s) at
 

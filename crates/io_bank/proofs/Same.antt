@@ -7,7 +7,7 @@ use Rattle.std.proofs.lemmas.Nat.Bits.{bit_at-lt, same_from_bits}
 use Rattle.rp_base.specs.Word.{has_bit}
 use Rattle.io_bank.specs.declared.outputs.Outs.{Outs}
 use Rattle.io_bank.specs.Pins.{overridden}
-use Rattle.io_bank.specs.State.{Bank}
+use Rattle.io_bank.specs.State.{State}
 use Rattle.io_bank.specs.Levels.{levels_of, by_sets, control_of, pad_of, pad_level, level_to, level_outside, function_of, out_override, enable_override, is_output_disabled, peripheral, enable_to, pins_of, IsSameAt}
 use Rattle.io_bank.proofs.Bits.{same_bit, has_and, bits_below-at, bits_below-same}
 use Rattle.io_bank.proofs.Routed.{and_true}
@@ -69,7 +69,7 @@ pwm_signal-same outs a b enables control k i e =
     (cond (eqb (function_of control) 5) outs.sio
     (cond (eqb (function_of control) 6) outs.pio0 (cond (eqb (function_of control) 7) outs.pio1 (0 ∷ 0 ∷ [])))) e
 
-pwm_pad-same : (s : Bank) (outs : Outs) (a b enables driven high i : ℕ) → i < 30 → IsSameAt (pins_of 4 s) a b →
+pwm_pad-same : (s : State) (outs : Outs) (a b enables driven high i : ℕ) → i < 30 → IsSameAt (pins_of 4 s) a b →
     pad_level (with_pwm outs a enables) (by_sets driven high i) (control_of s i) (pad_of s i) i
     ≡ pad_level (with_pwm outs b enables) (by_sets driven high i) (control_of s i) (pad_of s i) i
 pwm_pad-same s outs a b enables driven high i lt same =
@@ -84,7 +84,7 @@ pwm_pad-same s outs a b enables driven high i lt same =
     (pwm_signal-same outs a b enables control 1 i (λ _. refl)))
     (λ _. ap (overridden (out_override control)) (pwm_signal-same outs a b enables control 0 i (λ g. same i (in_set ∙ g))))
 
-pub pwm_levels-same : (s : Bank) (outs : Outs) (a b enables driven high : ℕ) → IsSameAt (pins_of 4 s) a b →
+pub pwm_levels-same : (s : State) (outs : Outs) (a b enables driven high : ℕ) → IsSameAt (pins_of 4 s) a b →
     levels_of (with_pwm outs a enables) (by_sets driven high) s ≡ levels_of (with_pwm outs b enables) (by_sets driven high) s
 pwm_levels-same s outs a b enables driven high same =
     bits_below-same

@@ -6,7 +6,7 @@ use Rattle.io_bank.specs.declared.events.Edges.{Edges}
 use Rattle.io_bank.specs.declared.events.Events.{Events}
 use Rattle.io_bank.specs.declared.events.Interrupts.{Interrupts}
 use Rattle.io_bank.specs.Pins.{bits_below, pins_where}
-use Rattle.io_bank.specs.State.{Bank}
+use Rattle.io_bank.specs.State.{State}
 use Rattle.io_bank.specs.Levels.{input_of}
 
 -- the pins of a kind of event, by its number among a pin's four bits
@@ -37,7 +37,7 @@ with_word number word e =
     }
 
 -- INTR: the levels of the inputs, and the latched edges
-abbrev pub raw_of : Bank → Events
+abbrev pub raw_of : State → Events
 raw_of s =
     record {
       level_low = pins_where (λ pin. not (input_of s s.second pin));
@@ -61,7 +61,7 @@ abbrev pub is_any : Events → Bool
 is_any e = not (e.level_low == 0 && e.level_high == 0 && e.edge_low == 0 && e.edge_high == 0)
 
 -- a core's interrupt line: a bit of its INTS is set
-abbrev pub line_of : Bank → Interrupts → Bool
+abbrev pub line_of : State → Interrupts → Bool
 line_of s i = is_any (shown (raw_of s) i)
 
 -- the edges that stay where a word is written to INTR: a 1 clears, but no edge of the same cycle

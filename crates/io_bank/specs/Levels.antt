@@ -4,7 +4,7 @@ use Rattle.std.specs.Prelude.{◌≡◌, ℕ, ◌+◌, ◌*◌, ◌^◌, Bool, t
 use Rattle.rp_base.specs.Word.{has_bit, bit_number}
 use Rattle.io_bank.specs.declared.outputs.Outs.{Outs}
 use Rattle.io_bank.specs.Pins.{pins_where, field, overridden}
-use Rattle.io_bank.specs.State.{Bank}
+use Rattle.io_bank.specs.State.{State}
 
 -- ---- a pin's control words
 
@@ -31,10 +31,10 @@ is_input_enabled pad = has_bit pad 6
 abbrev pub is_pulled_up : ℕ → Bool
 is_pulled_up pad = has_bit pad 3
 
-abbrev pub control_of : Bank → ℕ → ℕ
+abbrev pub control_of : State → ℕ → ℕ
 control_of s pin = slice_index s.controls pin
 
-abbrev pub pad_of : Bank → ℕ → ℕ
+abbrev pub pad_of : State → ℕ → ℕ
 pad_of s pin = slice_index s.pads pin
 
 -- ---- outputs
@@ -75,7 +75,7 @@ pad_level outs outside control pad pin =
     else level_outside outside pad
 
 -- the pads that are high
-abbrev pub levels_of : Outs → (ℕ → Option Bool) → Bank → ℕ
+abbrev pub levels_of : Outs → (ℕ → Option Bool) → State → ℕ
 levels_of outs outside s = pins_where (λ pin. pad_level outs (outside pin) (control_of s pin) (pad_of s pin) pin)
 
 -- the level from outside by a list, and by the pins that are driven and those that are driven high
@@ -88,22 +88,22 @@ by_sets driven high pin = if has_bit driven pin then Some (has_bit high pin) els
 -- ---- inputs
 
 -- a pad's level under IE, and then under INOVER
-abbrev pub level_sensed : Bank → ℕ → ℕ → Bool
+abbrev pub level_sensed : State → ℕ → ℕ → Bool
 level_sensed s levels pin = is_input_enabled (pad_of s pin) && has_bit levels pin
 
-abbrev pub input_of : Bank → ℕ → ℕ → Bool
+abbrev pub input_of : State → ℕ → ℕ → Bool
 input_of s levels pin = overridden (in_override (control_of s pin)) (level_sensed s levels pin)
 
-abbrev pub inputs_of : Bank → ℕ → ℕ
+abbrev pub inputs_of : State → ℕ → ℕ
 inputs_of s levels = pins_where (input_of s levels)
 
 -- ---- functions
 
 -- the pins that have a function
-abbrev pub pins_of : ℕ → Bank → ℕ
+abbrev pub pins_of : ℕ → State → ℕ
 pins_of function s = pins_where (λ pin. function_of (control_of s pin) == function)
 
-abbrev pub is_used : ℕ → Bank → Bool
+abbrev pub is_used : ℕ → State → Bool
 is_used function s = not (pins_of function s == 0)
 
 -- the first of some pins that is in a set
@@ -130,15 +130,15 @@ uart_outputs first second =
     ∷ (set_of (transmit_pins 0) + set_of (transmit_pins 1)) ∷ []
 
 -- a UART receives from the lowest of its RX pins that has its function
-abbrev pub receive_pin : ℕ → Bank → Option ℕ
+abbrev pub receive_pin : ℕ → State → Option ℕ
 receive_pin number s = first_in (pins_of 2 s) (receive_pins number)
 
 -- it sees the second level there; without such a pin its line is high
-abbrev pub level_at : Bank → Option ℕ → Bool
+abbrev pub level_at : State → Option ℕ → Bool
 level_at s None = true
 level_at s (Some pin) = has_bit (inputs_of s s.second) pin
 
-abbrev pub receive_level : ℕ → Bank → Bool
+abbrev pub receive_level : ℕ → State → Bool
 receive_level number s = level_at s (receive_pin number s)
 
 -- a signal to the pins, a bit each, is the same by two words at the pins of a set

@@ -4,7 +4,7 @@ use Rattle.io_bank.specs.declared.events.Edges.{Edges}
 use Rattle.io_bank.specs.declared.events.Events.{Events}
 use Rattle.io_bank.specs.declared.events.Interrupts.{Interrupts}
 
-pub record Bank : Type 0 where
+pub record State : Type 0 where
   -- the copies of the bits IO_BANK0 and PADS_BANK0 of RESETS
   pub bank_held : Bool
   pub pads_held : Bool
@@ -40,7 +40,7 @@ controls_at_reset = replicate 30 0x1F
 abbrev pub pads_at_reset : List ℕ
 pads_at_reset = replicate 30 0x56
 
-abbrev pub at_reset : Bank
+abbrev pub at_reset : State
 at_reset =
     record {
       bank_held = false;
@@ -58,7 +58,7 @@ at_reset =
     }
 
 -- IO_BANK0 in reset or out of it: in reset its registers have their reset values
-abbrev pub with_bank_held : Bool → Bank → Bank
+abbrev pub with_bank_held : Bool → State → State
 with_bank_held held s =
     if held
     then record s {
@@ -72,11 +72,11 @@ with_bank_held held s =
     else record s { bank_held = false }
 
 -- the same of PADS_BANK0
-abbrev pub with_pads_held : Bool → Bank → Bank
+abbrev pub with_pads_held : Bool → State → State
 with_pads_held held s =
     if held
     then record s { pads_held = true; pads = pads_at_reset; voltage = 0 }
     else record s { pads_held = false }
 
-abbrev pub after_held : Bool → Bool → Bank → Bank
+abbrev pub after_held : Bool → Bool → State → State
 after_held bank pads s = with_pads_held pads (with_bank_held bank s)

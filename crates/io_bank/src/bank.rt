@@ -47,10 +47,10 @@ pub struct IoBank {
 
 impl Model for IoBank {
     ghost use Rattle.std.proofs.Common.{◌≡◌, ap, sym};
-    ghost use Rattle.io_bank.specs.State.{Bank};
+    ghost use Rattle.io_bank.specs.State.{State};
     ghost use Rattle.io_bank.specs.Routes.{routes_of};
 
-    ghost Value = { Bank };
+    ghost Value = { State };
 
     ghost view = { λ a. record {
       bank_held = a.bank_held;

@@ -8,7 +8,7 @@ use Rattle.m0_beats.specs.declared.registers.Regs.{Regs}
 use Rattle.m0_beats.specs.declared.timing.Beat.TheVariants.{Inner}
 use Rattle.m0_beats.specs.Instructions.{beats_of}
 use Rattle.m0_nvic.specs.declared.systick.SysTick.{SysTick}
-use Rattle.m0_nvic.specs.State.{Exceptions}
+use Rattle.m0_nvic.specs.State.{State as Exceptions}
 use Rattle.m0_nvic.specs.Numbers.{members}
 use Rattle.m0_nvic.specs.Priority.{nearer, least, least_of, best_of, rank_or_none, active_priority, comes_before, wakes_of}
 use Rattle.m0_nvic.specs.Cycle.{with_timer}

@@ -6,7 +6,7 @@ use Rattle.rp_base.specs.declared.Request.{Request}
 use Rattle.rp_base.specs.declared.op.Op.{Op}
 use Rattle.m0_beats.specs.Instructions.{beats_of, effect_of, return_of}
 use Rattle.m0_nvic.specs.Exceptions.{HARDFAULT, SVCALL}
-use Rattle.m0_nvic.specs.State.{Exceptions}
+use Rattle.m0_nvic.specs.State.{State as Exceptions}
 use Rattle.m0_nvic.specs.Changes.{pended}
 use Rattle.m0_nvic.specs.Priority.{wakes_of}
 use Rattle.m0_nvic.specs.Cycle as nvic

@@ -8,7 +8,7 @@ use Rattle.m0_beats.specs.declared.timing.Beat.{Beat}
 use Rattle.m0_beats.specs.declared.timing.Beat.TheVariants.{Inner}
 use Rattle.m0_beats.specs.Beats.{access}
 use Rattle.m0_beats.specs.Registers.{is_thread, sp_of, with_sp, xpsr_of}
-use Rattle.m0_nvic.specs.State.{Exceptions}
+use Rattle.m0_nvic.specs.State.{State as Exceptions}
 use Rattle.m0_nvic.specs.Changes.{entered}
 use Rattle.m0_core.specs.ExcReturn.{TO_HANDLER, TO_MAIN, TO_PROCESS}
 use Rattle.m0_core.specs.State.{State}

@@ -9,7 +9,7 @@ use Rattle.m0_beats.specs.declared.timing.Beat.TheVariants.{Inner}
 use Rattle.m0_beats.specs.Beats.{access}
 use Rattle.m0_beats.specs.Registers.{with_flags_word}
 use Rattle.m0_nvic.specs.Exceptions.{HARDFAULT}
-use Rattle.m0_nvic.specs.State.{Exceptions}
+use Rattle.m0_nvic.specs.State.{State as Exceptions}
 use Rattle.m0_nvic.specs.Changes.{pended, left}
 use Rattle.m0_nvic.specs.Changes as nvic
 use Rattle.m0_core.specs.ExcReturn.{TO_HANDLER, TO_MAIN, TO_PROCESS}

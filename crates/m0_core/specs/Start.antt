@@ -3,7 +3,7 @@
 use Rattle.std.specs.Prelude.{ℕ, ◌-◌, ◌*◌, ◌/◌, ◌^◌, Bool, true, false, [], None, replicate}
 use Rattle.rp_base.specs.Word.{has_bit}
 use Rattle.m0_beats.specs.declared.registers.Regs.{Regs}
-use Rattle.m0_nvic.specs.State.{Exceptions, at_reset}
+use Rattle.m0_nvic.specs.State.{State as Exceptions, at_reset}
 use Rattle.m0_core.specs.State.{State}
 
 -- registers and flags that are 0, but for MSP, LR, PC and T

@@ -1,7 +1,7 @@
 -- What a core is between two cycles (ARMv6-M Architecture Reference Manual, B1.4).
 use Rattle.std.specs.Prelude.{ℕ, Bool, List, Option}
 use Rattle.m0_beats.specs.declared.registers.Regs.{Regs}
-use Rattle.m0_nvic.specs.State.{Exceptions}
+use Rattle.m0_nvic.specs.State.{State as Exceptions}
 use Rattle.m0_core.specs.declared.doing.Work.{Work}
 
 pub record State : Type 0 where

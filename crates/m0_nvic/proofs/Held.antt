@@ -7,7 +7,7 @@ use Rattle.std.proofs.lemmas.Nat.Bits.{bit_at_and, bit_at_or, bit_at_not, bit_at
 use Rattle.std.proofs.lemmas.Nat.{and_le_l, and_le_r, or_lt}
 use Rattle.std.proofs.lemmas.Bool.Decides.{nat_tests}
 use Rattle.rp_base.specs.Word.{has_bit}
-use Rattle.m0_nvic.specs.State.{Exceptions}
+use Rattle.m0_nvic.specs.State.{State}
 use Rattle.m0_nvic.specs.Numbers.{is_number, is_member, minus, of_interrupts}
 use Rattle.m0_nvic.specs.Changes.{with_pending, entered, left}
 use Rattle.m0_nvic.specs.Cycle.{timer_pends, timer_after, with_timer, after_timer, risen, after_cycle}
@@ -36,12 +36,12 @@ minus_less a b h = omega (arith, and_le_l a (2 ^ 64 - 1 - b), h)
 -- ---- one cycle
 
 -- the timer leaves the interrupts as they are
-record Alike (k : ℕ) (e f : Exceptions) : Type 0 where
+record Alike (k : ℕ) (e f : State) : Type 0 where
   lines : f.lines ≡ e.lines
   active : f.active ≡ e.active
   pending : bit_at f.pending k ≡ bit_at e.pending k
 
-alike_pended : (k : ℕ) (b : Bool) (e f : Exceptions) → 15 < k → f.lines ≡ e.lines → f.active ≡ e.active → f.pending ≡ e.pending
+alike_pended : (k : ℕ) (b : Bool) (e f : State) → 15 < k → f.lines ≡ e.lines → f.active ≡ e.active → f.pending ≡ e.pending
     → Alike k e (cond b (with_pending (2 ^ 15) f) f)
 alike_pended k true e f above l a p = record {
   lines = l;
@@ -50,7 +50,7 @@ alike_pended k true e f above l a p = record {
 }
 alike_pended k false e f above l a p = record { lines = l; active = a; pending = ap (λ x. bit_at x k) p }
 
-alike_timer : (k cycle : ℕ) (e : Exceptions) → 15 < k → Alike k e (after_timer cycle e)
+alike_timer : (k cycle : ℕ) (e : State) → 15 < k → Alike k e (after_timer cycle e)
 alike_timer k cycle e above =
     alike_pended k (timer_pends cycle e.systick) e (with_timer (timer_after cycle e.systick) e) above refl refl refl
 
@@ -58,7 +58,7 @@ alike_timer k cycle e above =
 abbrev pub pended_by : ℕ → ℕ → ℕ → ℕ → ℕ
 pended_by p now before active = max p (min now (1 - min before active))
 
-risen_at : (lines i : ℕ) (f : Exceptions) → i < 32 → f.active < 2 ^ 64
+risen_at : (lines i : ℕ) (f : State) → i < 32 → f.active < 2 ^ 64
     → bit_at (risen lines f) (16 + i) ≡ min (bit_at lines i) (1 - min (bit_at f.lines i) (bit_at f.active (16 + i)))
 risen_at lines i f h fits =
     let both = bit_and (of_interrupts f.lines) f.active in
@@ -66,12 +66,12 @@ risen_at lines i f h fits =
     ∙ ap₂ (λ x y. min x (1 - y)) (of_interrupts_at lines i)
     (bit_at_and (of_interrupts f.lines) f.active (16 + i) ∙ ap (λ x. min x (bit_at f.active (16 + i))) (of_interrupts_at f.lines i))
 
-pub record Ended (now i : ℕ) (e f : Exceptions) : Type 0 where
+pub record Ended (now i : ℕ) (e f : State) : Type 0 where
   pub lines : f.lines ≡ now
   pub active : f.active ≡ e.active
   pub pending : bit_at f.pending (16 + i) ≡ pended_by (bit_at e.pending (16 + i)) (bit_at now i) (bit_at e.lines i) (bit_at e.active (16 + i))
 
-ended_cycle : (lines i cycle : ℕ) (e : Exceptions) → i < 32 → e.active < 2 ^ 64 → Ended lines i e (after_cycle lines cycle e)
+ended_cycle : (lines i cycle : ℕ) (e : State) → i < 32 → e.active < 2 ^ 64 → Ended lines i e (after_cycle lines cycle e)
 ended_cycle lines i cycle e h fits =
     let t = after_timer cycle e in
     let a = alike_timer (16 + i) cycle e (omega arith) in
@@ -86,7 +86,7 @@ ended_cycle lines i cycle e h fits =
 
 -- ---- through the handler
 
-record Silent (i : ℕ) (e : Exceptions) : Type 0 where
+record Silent (i : ℕ) (e : State) : Type 0 where
   fits : e.active < 2 ^ 64
   lines : bit_at e.lines i ≡ 1
   active : bit_at e.active (16 + i) ≡ 1
@@ -95,7 +95,7 @@ record Silent (i : ℕ) (e : Exceptions) : Type 0 where
 by_values : (p now before active : ℕ) → p ≡ 0 → before ≡ 1 → active ≡ 1 → pended_by p now before active ≡ 0
 by_values p now before active hp hb ha = omega arith
 
-silent_cycle : (lines i cycle : ℕ) (e : Exceptions) → i < 32 → has_bit lines i ≡ true → Silent i e → Silent i (after_cycle lines cycle e)
+silent_cycle : (lines i cycle : ℕ) (e : State) → i < 32 → has_bit lines i ≡ true → Silent i e → Silent i (after_cycle lines cycle e)
 silent_cycle lines i cycle e h high s =
     let f = ended_cycle lines i cycle e h s.fits in
     record {
@@ -105,7 +105,7 @@ silent_cycle lines i cycle e h high s =
       pending = f.pending ∙ by_values (bit_at e.pending (16 + i)) (bit_at lines i) (bit_at e.lines i) (bit_at e.active (16 + i)) s.pending s.lines s.active;
     }
 
-silent_cycles : (i cycle : ℕ) (held : List ℕ) (e : Exceptions) → i < 32 → IsHeld i held → Silent i e → Silent i (after_cycles cycle held e)
+silent_cycles : (i cycle : ℕ) (held : List ℕ) (e : State) → i < 32 → IsHeld i held → Silent i e → Silent i (after_cycles cycle held e)
 silent_cycles i cycle [] e h held s = s
 silent_cycles i cycle (lines ∷ more) e h held s =
     silent_cycles i (cycle + 1) more (after_cycle lines cycle e) h held.1 (silent_cycle lines i cycle e h held.0 s)
@@ -115,14 +115,14 @@ silent_cycles i cycle (lines ∷ more) e h held s =
 is_one_number : (i : ℕ) → i < 32 → is_number (16 + i) ≡ true
 is_one_number i h = lt-ltb (16 + i) 48 (omega arith)
 
-entered_as : (i : ℕ) (e : Exceptions) → i < 32 → entered (16 + i) e ≡ record e { pending = minus e.pending (2 ^ (16 + i)); active = bit_or e.active (2 ^ (16 + i)) }
+entered_as : (i : ℕ) (e : State) → i < 32 → entered (16 + i) e ≡ record e { pending = minus e.pending (2 ^ (16 + i)); active = bit_or e.active (2 ^ (16 + i)) }
 entered_as i e h =
     ap (λ b. cond b (record e { pending = minus e.pending (2 ^ (16 + i)); active = bit_or e.active (2 ^ (16 + i)) }) e) (is_one_number i h)
 
-left_as : (i : ℕ) (e : Exceptions) → i < 32 → left (16 + i) e ≡ record e { active = minus e.active (2 ^ (16 + i)) }
+left_as : (i : ℕ) (e : State) → i < 32 → left (16 + i) e ≡ record e { active = minus e.active (2 ^ (16 + i)) }
 left_as i e h = ap (λ b. cond b (record e { active = minus e.active (2 ^ (16 + i)) }) e) (is_one_number i h)
 
-silent_entered : (i : ℕ) (e : Exceptions) → i < 32 → e.active < 2 ^ 64 → has_bit e.lines i ≡ true
+silent_entered : (i : ℕ) (e : State) → i < 32 → e.active < 2 ^ 64 → has_bit e.lines i ≡ true
     → Silent i (record e { pending = minus e.pending (2 ^ (16 + i)); active = bit_or e.active (2 ^ (16 + i)) })
 silent_entered i e h fits high = record {
   fits = or_lt 64 e.active (2 ^ (16 + i)) fits (pow_fits (16 + i) (omega arith));
@@ -144,7 +144,7 @@ member_by i set h = ap (λ b. b && has_bit set (16 + i)) (is_one_number i h)
 by_last : (p now before active : ℕ) → p ≡ 0 → active ≡ 0 → now < 2 → pended_by p now before active ≡ now
 by_last p now before active hp ha hn = omega arith
 
-again_at : (i cycle last : ℕ) (t : Exceptions) → i < 32 → Silent i t → bit_at (after_cycle last cycle (left (16 + i) t)).pending (16 + i) ≡ bit_at last i
+again_at : (i cycle last : ℕ) (t : State) → i < 32 → Silent i t → bit_at (after_cycle last cycle (left (16 + i) t)).pending (16 + i) ≡ bit_at last i
 again_at i cycle last t h s =
     let u = record t { active = minus t.active (2 ^ (16 + i)) } in
     let f = ended_cycle last i cycle u h (minus_less t.active (2 ^ (16 + i)) s.fits) in
@@ -157,7 +157,7 @@ by_high : (p now before active : ℕ) → p < 2 → now ≡ 1 → active ≡ 0 �
 by_high p now before active hp hn ha = omega arith
 
 -- a high line makes its interrupt pending where it is not active any more
-pub pends_behind : (i cycle lines : ℕ) (e : Exceptions) → i < 32 → e.active < 2 ^ 64 → has_bit lines i ≡ true
+pub pends_behind : (i cycle lines : ℕ) (e : State) → i < 32 → e.active < 2 ^ 64 → has_bit lines i ≡ true
     → is_member (16 + i) (after_cycle lines cycle (left (16 + i) e)).pending ≡ true
 pends_behind i cycle lines e h fits high =
     let u = record e { active = minus e.active (2 ^ (16 + i)) } in

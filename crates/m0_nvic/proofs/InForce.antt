@@ -5,7 +5,7 @@ use Rattle.std.specs.Int.{int_min}
 use Rattle.std.proofs.lemmas.Grind.{common_steps}
 use Rattle.std.proofs.lemmas.Int.{ints}
 use Rattle.std.proofs.lemmas.Bool.Decides.{nat_tests}
-use Rattle.m0_nvic.specs.State.{Exceptions}
+use Rattle.m0_nvic.specs.State.{State}
 use Rattle.m0_nvic.specs.Numbers.{is_member}
 use Rattle.m0_nvic.specs.Priority.{rank_of, least_of, IsLeast, rank_or_none}
 use Rattle.m0_nvic.specs.Laws.{IsLeastInForce, ThePriorityIsTheLeast}
@@ -34,7 +34,7 @@ not_below_min r a h = grind (arith, ints, nat_tests)
 min_not_above : (a : ℤ) → int_lt (pos 0) (int_min a (pos 0)) ≡ false
 min_not_above a = grind (arith, ints, nat_tests)
 
-in_force : (s : Exceptions) (primask : Bool) (o : Option ℕ) → IsLeast s s.active o
+in_force : (s : State) (primask : Bool) (o : Option ℕ) → IsLeast s s.active o
     → IsLeastInForce s primask (cond primask (int_min (rank_or_none s o) (pos 0)) (rank_or_none s o))
 in_force s false None h = record {
   of_some = inr (inr (h, refl, refl));

@@ -9,7 +9,7 @@ use Rattle.std.specs.Int.{bit_at, w64, trailing_zeros}
 use Rattle.std.proofs.lemmas.Nat.Bits.{bit_at-lt, bit_at-pow_same, bit_at-pow_other, bit_at-trailing_zeros}
 use Rattle.std.proofs.lemmas.Bool.Decides.{nat_tests, Decides-int_eq}
 use Rattle.rp_base.specs.Word.{has_bit}
-use Rattle.m0_nvic.specs.State.{Exceptions}
+use Rattle.m0_nvic.specs.State.{State}
 use Rattle.m0_nvic.specs.Numbers.{numbers_from, numbers, is_member, minus}
 use Rattle.m0_nvic.proofs.Held.{minus_at, pow_fits}
 use Rattle.m0_nvic.specs.Priority.{rank_of, precedes, nearer, least, least_of, IsLeast}
@@ -28,23 +28,23 @@ before-trans : (a : ℤ) (n : ℕ) (b : ℤ) (m : ℕ) (c : ℤ) (k : ℕ) →
     before a n b m ≡ false → before b m c k ≡ false → before a n c k ≡ false
 before-trans a n b m c k h i = grind (arith, ints, nat_tests, Decides-int_eq)
 
-precedes-self : (s : Exceptions) (n : ℕ) → precedes s n n ≡ false
+precedes-self : (s : State) (n : ℕ) → precedes s n n ≡ false
 precedes-self s n = before-self (rank_of s n) n
 
-precedes-asym : (s : Exceptions) (n m : ℕ) → precedes s n m ≡ true → precedes s m n ≡ false
+precedes-asym : (s : State) (n m : ℕ) → precedes s n m ≡ true → precedes s m n ≡ false
 precedes-asym s n m h = before-asym (rank_of s n) n (rank_of s m) m h
 
-precedes-trans : (s : Exceptions) (n m k : ℕ) → precedes s n m ≡ false → precedes s m k ≡ false → precedes s n k ≡ false
+precedes-trans : (s : State) (n m k : ℕ) → precedes s n m ≡ false → precedes s m k ≡ false → precedes s n k ≡ false
 precedes-trans s n m k h i = before-trans (rank_of s n) n (rank_of s m) m (rank_of s k) k h i
 
 -- the least of the members among so many numbers from a first one on
-record IsLeastAt (s : Exceptions) (set a c m : ℕ) : Type 0 where
+record IsLeastAt (s : State) (set a c m : ℕ) : Type 0 where
   low : a ≤ m
   high : m < a + c
   bit : has_bit set m ≡ true
   least : (n : ℕ) → a ≤ n → n < a + c → has_bit set n ≡ true → precedes s n m ≡ false
 
-abbrev IsLeastFrom : Exceptions → ℕ → ℕ → ℕ → Option ℕ → Type 0
+abbrev IsLeastFrom : State → ℕ → ℕ → ℕ → Option ℕ → Type 0
 IsLeastFrom s set a c None = (n : ℕ) → a ≤ n → n < a + c → has_bit set n ≡ false
 IsLeastFrom s set a c (Some m) = IsLeastAt s set a c m
 
@@ -66,7 +66,7 @@ none-other set a c e h n low high =
 contrary : {A : Type 0} (b : Bool) → b ≡ true → b ≡ false → A
 contrary b h i = absurd (grind (arith, common_steps))
 
-some-other : (s : Exceptions) (set a c m : ℕ) → has_bit set a ≡ false → IsLeastAt s set (a + 1) c m →
+some-other : (s : State) (set a c m : ℕ) → has_bit set a ≡ false → IsLeastAt s set (a + 1) c m →
     IsLeastAt s set a (suc c) m
 some-other s set a c m e h = record {
   low = omega (arith, h.low);
@@ -79,7 +79,7 @@ some-other s set a c m e h = record {
       ];
 }
 
-some-kept : (s : Exceptions) (set a c m : ℕ) → precedes s m a ≡ true → IsLeastAt s set (a + 1) c m →
+some-kept : (s : State) (set a c m : ℕ) → precedes s m a ≡ true → IsLeastAt s set (a + 1) c m →
     IsLeastAt s set a (suc c) m
 some-kept s set a c m e h = record {
   low = omega (arith, h.low);
@@ -92,7 +92,7 @@ some-kept s set a c m e h = record {
       ];
 }
 
-some-first : (s : Exceptions) (set a c m : ℕ) → has_bit set a ≡ true → precedes s m a ≡ false →
+some-first : (s : State) (set a c m : ℕ) → has_bit set a ≡ true → precedes s m a ≡ false →
     IsLeastAt s set (a + 1) c m → IsLeastAt s set a (suc c) a
 some-first s set a c m here e h = record {
   low = omega arith;
@@ -105,7 +105,7 @@ some-first s set a c m here e h = record {
       ];
 }
 
-none-first : (s : Exceptions) (set a c : ℕ) → has_bit set a ≡ true →
+none-first : (s : State) (set a c : ℕ) → has_bit set a ≡ true →
     ((n : ℕ) → a + 1 ≤ n → n < a + 1 + c → has_bit set n ≡ false) → IsLeastAt s set a (suc c) a
 none-first s set a c here h = record {
   low = omega arith;
@@ -118,22 +118,22 @@ none-first s set a c here h = record {
       ];
 }
 
-from-other : (s : Exceptions) (set a c : ℕ) (o : Option ℕ) → has_bit set a ≡ false → IsLeastFrom s set (a + 1) c o →
+from-other : (s : State) (set a c : ℕ) (o : Option ℕ) → has_bit set a ≡ false → IsLeastFrom s set (a + 1) c o →
     IsLeastFrom s set a (suc c) o
 from-other s set a c None e h = none-other set a c e h
 from-other s set a c (Some m) e h = some-other s set a c m e h
 
-from-two : (s : Exceptions) (set a c m : ℕ) (b : Bool) → precedes s m a ≡ b → has_bit set a ≡ true →
+from-two : (s : State) (set a c m : ℕ) (b : Bool) → precedes s m a ≡ b → has_bit set a ≡ true →
     IsLeastAt s set (a + 1) c m → IsLeastFrom s set a (suc c) (cond b (Some m) (Some a))
 from-two s set a c m true e here h = some-kept s set a c m e h
 from-two s set a c m false e here h = some-first s set a c m here e h
 
-from-member : (s : Exceptions) (set a c : ℕ) (o : Option ℕ) → has_bit set a ≡ true → IsLeastFrom s set (a + 1) c o →
+from-member : (s : State) (set a c : ℕ) (o : Option ℕ) → has_bit set a ≡ true → IsLeastFrom s set (a + 1) c o →
     IsLeastFrom s set a (suc c) (nearer s a o)
 from-member s set a c None here h = none-first s set a c here h
 from-member s set a c (Some m) here h = from-two s set a c m (precedes s m a) refl here h
 
-from-step : (s : Exceptions) (set a c : ℕ) (ns : List ℕ) (b : Bool) → has_bit set a ≡ b →
+from-step : (s : State) (set a c : ℕ) (ns : List ℕ) (b : Bool) → has_bit set a ≡ b →
     IsLeastFrom s set (a + 1) c (least s (filter (has_bit set) ns)) →
     IsLeastFrom s set a (suc c) (least s (filter (has_bit set) (a ∷ ns)))
 from-step s set a c ns true e h =
@@ -141,11 +141,11 @@ from-step s set a c ns true e h =
 from-step s set a c ns false e h =
     rw (filter-other (has_bit set) a ns e) (from-other s set a c (least s (filter (has_bit set) ns)) e h)
 
-least_from : (s : Exceptions) (set a c : ℕ) → IsLeastFrom s set a c (least s (filter (has_bit set) (numbers_from a c)))
+least_from : (s : State) (set a c : ℕ) → IsLeastFrom s set a c (least s (filter (has_bit set) (numbers_from a c)))
 least_from s set a zero = λ n low high. absurd (omega arith)
 least_from s set a (suc c) = from-step s set a c (numbers_from (a + 1) c) (has_bit set a) refl (least_from s set (a + 1) c)
 
-least_whole : (s : Exceptions) (set : ℕ) → IsLeastFrom s set 0 48 (least_of s set)
+least_whole : (s : State) (set : ℕ) → IsLeastFrom s set 0 48 (least_of s set)
 unfolding least_of numbers
 least_whole s set = least_from s set 0 48
 
@@ -164,7 +164,7 @@ is_member-bit n set h = grind (arith, nat_tests, common_steps)
 is_member-true : (n set : ℕ) → n < 48 → has_bit set n ≡ true → is_member n set ≡ true
 is_member-true n set h bit = grind (arith, nat_tests, common_steps)
 
-whole : (s : Exceptions) (set : ℕ) (o : Option ℕ) → IsLeastFrom s set 0 48 o → IsLeast s set o
+whole : (s : State) (set : ℕ) (o : Option ℕ) → IsLeastFrom s set 0 48 o → IsLeast s set o
 whole s set None h = λ n. is_member-false n set (λ low. h n (omega arith) (omega arith))
 whole s set (Some m) h = (
   is_member-true m set (omega (arith, h.high)) h.bit,
@@ -172,14 +172,14 @@ whole s set (Some m) h = (
 )
 
 -- what is found is the least member
-pub least_of-is : (s : Exceptions) (set : ℕ) → IsLeast s set (least_of s set)
+pub least_of-is : (s : State) (set : ℕ) → IsLeast s set (least_of s set)
 least_of-is s set = whole s set (least_of s set) (least_whole s set)
 
 before-equal : (a : ℤ) (n : ℕ) (b : ℤ) (m : ℕ) → before a n b m ≡ false → before b m a n ≡ false → n ≡ m
 before-equal a n b m h i = grind (arith, ints, nat_tests, Decides-int_eq)
 
 -- there is one least member
-only_one : (s : Exceptions) (set : ℕ) (o p : Option ℕ) → IsLeast s set o → IsLeast s set p → o ≡ p
+only_one : (s : State) (set : ℕ) (o p : Option ℕ) → IsLeast s set o → IsLeast s set p → o ≡ p
 only_one s set None None h i = refl
 only_one s set None (Some n) h i = contrary (is_member n set) i.0 (h n)
 only_one s set (Some m) None h i = contrary (is_member m set) h.0 (i m)
@@ -221,7 +221,7 @@ member-back set k n fits h =
       | inr other ↦ is_member-true n set low (sym (others-other set k n fits low other) ∙ bit)
     ]
 
-one-more_by : (s : Exceptions) (set k m : ℕ) (b : Bool) → precedes s m k ≡ b → k < 48 → has_bit set k ≡ true →
+one-more_by : (s : State) (set k m : ℕ) (b : Bool) → precedes s m k ≡ b → k < 48 → has_bit set k ≡ true →
     IsLeast s (minus set (2 ^ k)) (Some m) → IsLeast s set (cond b (Some m) (Some k))
 one-more_by s set k m true e fits here h = (
   member-back set k m fits h.0,
@@ -238,7 +238,7 @@ one-more_by s set k m false e fits here h = (
   ],
 )
 
-one-more : (s : Exceptions) (set k : ℕ) (o : Option ℕ) → k < 48 → has_bit set k ≡ true →
+one-more : (s : State) (set k : ℕ) (o : Option ℕ) → k < 48 → has_bit set k ≡ true →
     IsLeast s (minus set (2 ^ k)) o → IsLeast s set (nearer s k o)
 one-more s set k None fits here h = (
   is_member-true k set fits here,
@@ -249,7 +249,7 @@ one-more s set k None fits here h = (
 )
 one-more s set k (Some m) fits here h = one-more_by s set k m (precedes s m k) refl fits here h
 
-pub least_of-lowest : (s : Exceptions) (set : ℕ) → 0 < set → set < 2 ^ 64 → trailing_zeros w64 set < 48 →
+pub least_of-lowest : (s : State) (set : ℕ) → 0 < set → set < 2 ^ 64 → trailing_zeros w64 set < 48 →
     nearer s (trailing_zeros w64 set) (least_of s (minus set (2 ^ trailing_zeros w64 set))) ≡ least_of s set
 least_of-lowest s set some fits low =
     let k : ℕ = trailing_zeros w64 set in
@@ -270,12 +270,12 @@ others-less set some fits low =
     below (minus set (2 ^ k)) set k (and_le_l set (2 ^ 64 - 1 - 2 ^ k)) (others-none set k low) (bit_at-trailing_zeros w64 set some fits).1
 
 -- a set that has no number of an exception has no least member
-pub least_of-high : (s : Exceptions) (set : ℕ) → 0 < set → set < 2 ^ 64 → 48 ≤ trailing_zeros w64 set → None ≡ least_of s set
+pub least_of-high : (s : State) (set : ℕ) → 0 < set → set < 2 ^ 64 → 48 ≤ trailing_zeros w64 set → None ≡ least_of s set
 least_of-high s set some fits high =
     only_one s set None (least_of s set)
     (λ n. is_member-false n set (λ low. ap (λ b. b == 1) ((bit_at-trailing_zeros w64 set some fits).2 n (omega arith)))) (least_of-is s set)
 
-pub least_of-empty : (s : Exceptions) → None ≡ least_of s 0
+pub least_of-empty : (s : State) → None ≡ least_of s 0
 unfolding least_of numbers
 least_of-empty s = refl
 

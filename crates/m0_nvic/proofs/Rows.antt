@@ -5,10 +5,10 @@ use Rattle.std.proofs.lemmas.Grind.{common_steps}
 use Rattle.std.proofs.lemmas.Bool.Decides.{nat_tests}
 use Rattle.rp_base.specs.Rows.{Row, at_row, word_at, effect_at}
 use Rattle.rp_base.proofs.Rows.{listed, cut, still}
-use Rattle.m0_nvic.specs.State.{Exceptions}
+use Rattle.m0_nvic.specs.State.{State}
 use Rattle.m0_nvic.specs.Words.{timer_rows, interrupt_rows, priority_rows, control_rows, bus_rows, of_timer, word_of, is_word, after_access}
 
-parts : {A : Type 0} (none : A) (found : Row ℕ Exceptions → ℕ → A) (at : ℕ)
+parts : {A : Type 0} (none : A) (found : Row ℕ State → ℕ → A) (at : ℕ)
     → at_row none found bus_rows at
     ≡ (if nat_lt at 0x100 then at_row none found timer_rows at else if nat_lt at 0x400 then at_row none found interrupt_rows at else
     if nat_lt at 0xd00 then at_row none found priority_rows at else at_row none found control_rows at)
@@ -24,51 +24,51 @@ below at bound h = grind (arith, nat_tests, common_steps)
 above : (at bound : ℕ) → bound ≤ at → nat_lt at bound ≡ false
 above at bound h = grind (arith, nat_tests, common_steps)
 
-pub timer_word : (s : Exceptions) (at ipsr : ℕ) → at < 0x100 → word_of at ipsr s ≡ word_at (timer_rows {V = ⊤}) tt at s
+pub timer_word : (s : State) (at ipsr : ℕ) → at < 0x100 → word_of at ipsr s ≡ word_at (timer_rows {V = ⊤}) tt at s
 unfolding word_of
 timer_word s at ipsr h = parts None (λ row n. Some (row.reads n ipsr s)) at ∙ rw (below at 0x100 h) refl
 
-pub interrupt_word : (s : Exceptions) (at ipsr : ℕ) → 0x100 ≤ at → at < 0x400 → word_of at ipsr s ≡ word_at (interrupt_rows {V = ⊤}) tt at s
+pub interrupt_word : (s : State) (at ipsr : ℕ) → 0x100 ≤ at → at < 0x400 → word_of at ipsr s ≡ word_at (interrupt_rows {V = ⊤}) tt at s
 unfolding word_of
 interrupt_word s at ipsr g h = parts None (λ row n. Some (row.reads n ipsr s)) at ∙ rw (above at 0x100 g, below at 0x400 h) refl
 
-pub priority_word : (s : Exceptions) (at ipsr : ℕ) → 0x400 ≤ at → at < 0xd00 → word_of at ipsr s ≡ word_at (priority_rows {V = ⊤}) tt at s
+pub priority_word : (s : State) (at ipsr : ℕ) → 0x400 ≤ at → at < 0xd00 → word_of at ipsr s ≡ word_at (priority_rows {V = ⊤}) tt at s
 unfolding word_of
 priority_word s at ipsr g h =
     parts None (λ row n. Some (row.reads n ipsr s)) at ∙ rw (above at 0x100 (omega (arith, g)), above at 0x400 g, below at 0xd00 h) refl
 
-pub control_word : (s : Exceptions) (at ipsr : ℕ) → 0xd00 ≤ at → word_of at ipsr s ≡ word_at control_rows ipsr at s
+pub control_word : (s : State) (at ipsr : ℕ) → 0xd00 ≤ at → word_of at ipsr s ≡ word_at control_rows ipsr at s
 unfolding word_of
 control_word s at ipsr g =
     parts None (λ row n. Some (row.reads n ipsr s)) at
     ∙ rw (above at 0x100 (omega (arith, g)), above at 0x400 (omega (arith, g)), above at 0xd00 g) refl
 
-pub timer_write : (at w : ℕ) (s : Exceptions) → at < 0x100 → after_access at (Some w) s ≡ effect_at (timer_rows {V = ⊤}) at (Some w) s
+pub timer_write : (at w : ℕ) (s : State) → at < 0x100 → after_access at (Some w) s ≡ effect_at (timer_rows {V = ⊤}) at (Some w) s
 unfolding after_access
 timer_write at w s h = parts s (λ row n. row.write_does n w s) at ∙ rw (below at 0x100 h) refl
 
-pub interrupt_write : (at w : ℕ) (s : Exceptions) → 0x100 ≤ at → at < 0x400
+pub interrupt_write : (at w : ℕ) (s : State) → 0x100 ≤ at → at < 0x400
     → after_access at (Some w) s ≡ effect_at (interrupt_rows {V = ⊤}) at (Some w) s
 unfolding after_access
 interrupt_write at w s g h = parts s (λ row n. row.write_does n w s) at ∙ rw (above at 0x100 g, below at 0x400 h) refl
 
-pub priority_write : (at w : ℕ) (s : Exceptions) → 0x400 ≤ at → at < 0xd00
+pub priority_write : (at w : ℕ) (s : State) → 0x400 ≤ at → at < 0xd00
     → after_access at (Some w) s ≡ effect_at (priority_rows {V = ⊤}) at (Some w) s
 unfolding after_access
 priority_write at w s g h =
     parts s (λ row n. row.write_does n w s) at ∙ rw (above at 0x100 (omega (arith, g)), above at 0x400 g, below at 0xd00 h) refl
 
-pub control_write : (at w : ℕ) (s : Exceptions) → 0xd00 ≤ at → after_access at (Some w) s ≡ effect_at control_rows at (Some w) s
+pub control_write : (at w : ℕ) (s : State) → 0xd00 ≤ at → after_access at (Some w) s ≡ effect_at control_rows at (Some w) s
 unfolding after_access
 control_write at w s g =
     parts s (λ row n. row.write_does n w s) at
     ∙ rw (above at 0x100 (omega (arith, g)), above at 0x400 (omega (arith, g)), above at 0xd00 g) refl
 
 -- a read of SYST_CSR alone does something
-pub reads : (at : ℕ) (s : Exceptions) → after_access at None s ≡ (if at == 0x010 then of_timer (λ t. record t { counted = false }) s else s)
+pub reads : (at : ℕ) (s : State) → after_access at None s ≡ (if at == 0x010 then of_timer (λ t. record t { counted = false }) s else s)
 unfolding after_access
 reads at s = ap (λ x. if at == 0x010 then of_timer (λ t. record t { counted = false }) s else x) (still (drop 1 bus_rows) at s (search rules))
 
-pub there : (s : Exceptions) (at ipsr : ℕ) → is_some (word_of at ipsr s) ≡ is_word at
+pub there : (s : State) (at ipsr : ℕ) → is_some (word_of at ipsr s) ≡ is_word at
 unfolding word_of is_word
 there s at ipsr = sym ((listed bus_rows refl).is_word at ipsr s)

@@ -8,7 +8,7 @@ use Rattle.std.proofs.lemmas.Nat.Bits.{bit_at_or, bit_at-lt, bit_at-zero, same_f
 use Rattle.std.proofs.lemmas.Nat.{and_le_l, or_lt}
 use Rattle.rp_base.specs.Word.{has_bit}
 use Rattle.m0_nvic.specs.declared.systick.SysTick.{SysTick}
-use Rattle.m0_nvic.specs.State.{Exceptions}
+use Rattle.m0_nvic.specs.State.{State}
 use Rattle.m0_nvic.specs.Numbers.{minus, of_interrupts}
 use Rattle.m0_nvic.specs.Changes.{pended}
 use Rattle.m0_nvic.specs.Cycle.{counts_in, count_of, timer_after, timer_pends, with_timer, after_timer, risen, after_lines, after_cycle, is_event}
@@ -27,10 +27,10 @@ none_left set p fits within none =
     same_from_bits_below 64 (bit_or p set) p (or_lt 64 p set within fits) within
     (λ i low. omega (arith, bit_at_or p set i, minus_at set p i within low, ap (λ m. bit_at m i) none, bit_at-zero i, bit_at-lt set i, bit_at-lt p i))
 
-risen_less : (lines : ℕ) (s : Exceptions) → lines < 2 ^ 32 → risen lines s < 2 ^ 64
+risen_less : (lines : ℕ) (s : State) → lines < 2 ^ 32 → risen lines s < 2 ^ 64
 risen_less lines s h = omega (arith, and_le_l (of_interrupts lines) (2 ^ 64 - 1 - bit_and (of_interrupts s.lines) s.active), h)
 
-record Settled (lines : ℕ) (s : Exceptions) : Type 0 where
+record Settled (lines : ℕ) (s : State) : Type 0 where
   same : s.lines ≡ lines
   none : s.arrived ≡ false
   pending : bit_or s.pending (risen lines s) ≡ s.pending
@@ -40,7 +40,7 @@ not_true : (b : Bool) → not b ≡ true → b ≡ false
 not_true false h = refl
 not_true true h = absurd (true≢false (sym h))
 
-settled_by : (lines : ℕ) (s : Exceptions) → lines < 2 ^ 32 → s.pending < 2 ^ 64 → is_settled lines s ≡ true → Settled lines s
+settled_by : (lines : ℕ) (s : State) → lines < 2 ^ 32 → s.pending < 2 ^ 64 → is_settled lines s ≡ true → Settled lines s
 settled_by lines s fits within h =
     let first = both (s.lines == lines) _ h in
     let second = both (not s.arrived) _ first.1 in
@@ -51,7 +51,7 @@ settled_by lines s fits within h =
       new = second.1;
     }
 
-lines_settle : (lines : ℕ) (s : Exceptions) (t : SysTick) → Settled lines s → after_lines lines (with_timer t s) ≡ with_timer t s
+lines_settle : (lines : ℕ) (s : State) (t : SysTick) → Settled lines s → after_lines lines (with_timer t s) ≡ with_timer t s
 lines_settle lines s t h =
     ap (λ l. record s { pending = bit_or s.pending (risen lines s); arrived = s.arrived || not (minus (risen lines s) s.pending == 0); lines = l; systick = t }) (sym h.same)
     ∙ (ap (λ p. record s { pending = p; arrived = s.arrived || not (minus (risen lines s) s.pending == 0); systick = t }) h.pending
@@ -113,7 +113,7 @@ pends_by true t first k e le =
     ap (λ b. b && ((t.current - m == 1) && t.interrupt)) e ∙ ap (λ b. b && t.interrupt) one_not
 pends_by false t first k e le = ap (λ b. b && ((t.current - counts_of first k t == 1) && t.interrupt)) e
 
-timer_ends : (s : Exceptions) (first k : ℕ) → counts_of first (suc k) s.systick ≤ s.systick.current - 1
+timer_ends : (s : State) (first k : ℕ) → counts_of first (suc k) s.systick ≤ s.systick.current - 1
     → after_timer (first + k) (counted_down first k s) ≡ counted_down first (suc k) s
 timer_ends s first k le =
     let t = with_timer (timer_after (first + k) (timer_down first k s.systick)) s in
@@ -122,7 +122,7 @@ timer_ends s first k le =
 
 -- ---- cycles
 
-counted_none : (first : ℕ) (s : Exceptions) → s ≡ counted_down first 0 s
+counted_none : (first : ℕ) (s : State) → s ≡ counted_down first 0 s
 counted_none first s = ap (λ (c : ℕ). record s { systick = record s.systick { current = c } }) (by s.systick.enable s.systick.core_clock s.systick.current)
   where
     by : (e c : Bool) (n : ℕ) → n ≡ n - cond e (cond c 0 ((first + 0) / 125 - first / 125)) 0
@@ -130,22 +130,22 @@ counted_none first s = ap (λ (c : ℕ). record s { systick = record s.systick {
     by true false n = omega arith
     by false c n = omega arith
 
-lines_end : (lines : ℕ) (s : Exceptions) (first k : ℕ) → Settled lines s → counts_of first (suc k) s.systick ≤ s.systick.current - 1
+lines_end : (lines : ℕ) (s : State) (first k : ℕ) → Settled lines s → counts_of first (suc k) s.systick ≤ s.systick.current - 1
     → after_lines lines (after_timer (first + k) (counted_down first k s)) ≡ counted_down first (suc k) s
 lines_end lines s first k h le =
     ap (after_lines lines) (timer_ends s first k le) ∙ lines_settle lines s (timer_down first (suc k) s.systick) h
 
-one_cycle : (lines : ℕ) (s : Exceptions) (first k : ℕ) → Settled lines s → counts_of first (suc k) s.systick ≤ s.systick.current - 1
+one_cycle : (lines : ℕ) (s : State) (first k : ℕ) → Settled lines s → counts_of first (suc k) s.systick ≤ s.systick.current - 1
     → after_cycle lines (first + k) (counted_down first k s) ≡ counted_down first (suc k) s
 one_cycle lines s first k h le =
-    ap (λ (e : Exceptions). record e { arrived = false }) (lines_end lines s first k h le)
+    ap (λ (e : State). record e { arrived = false }) (lines_end lines s first k h le)
     ∙ ap (λ (a : Bool). record s { arrived = a; systick = timer_down first (suc k) s.systick }) (sym h.none)
 
 and_false : (b : Bool) → (b && false) ≡ false
 and_false true = refl
 and_false false = refl
 
-no_event : (lines : ℕ) (s : Exceptions) (first k : ℕ) → Settled lines s → counts_of first (suc k) s.systick ≤ s.systick.current - 1
+no_event : (lines : ℕ) (s : State) (first k : ℕ) → Settled lines s → counts_of first (suc k) s.systick ≤ s.systick.current - 1
     → is_event lines (first + k) (counted_down first k s) ≡ false
 no_event lines s first k h le =
     ap (λ e. has_bit s.scr 4 && e.arrived) (lines_end lines s first k h le)
@@ -154,13 +154,13 @@ no_event lines s first k h le =
 abbrev Left : ℕ → ℕ → SysTick → Type 0
 Left first n t = (k : ℕ) → k ≤ n → counts_of first k t ≤ t.current - 1
 
-states : (lines : ℕ) (s : Exceptions) (first n : ℕ) → Settled lines s → Left first n s.systick
+states : (lines : ℕ) (s : State) (first n : ℕ) → Settled lines s → Left first n s.systick
     → (k : ℕ) → k ≤ n → after_all lines first k s ≡ counted_down first k s
 states lines s first n h left zero le = counted_none first s
 states lines s first n h left (suc k) le =
     ap (after_cycle lines (first + k)) (states lines s first n h left k (omega (arith, le))) ∙ one_cycle lines s first k h (left (suc k) le)
 
-pub settled_quiet : (lines : ℕ) (s : Exceptions) (first n : ℕ) → lines < 2 ^ 32 → s.pending < 2 ^ 64 → is_settled lines s ≡ true
+pub settled_quiet : (lines : ℕ) (s : State) (first n : ℕ) → lines < 2 ^ 32 → s.pending < 2 ^ 64 → is_settled lines s ≡ true
     → ((k : ℕ) → k ≤ n → counts_of first k s.systick ≤ s.systick.current - 1) → IsQuiet lines s first n
 settled_quiet lines s first n fits within settled left =
     let h = settled_by lines s fits within settled in
@@ -170,7 +170,7 @@ settled_quiet lines s first n fits within settled left =
           ∙ no_event lines s first k h (left (suc k) (omega (arith, lt)));
     }
 
-pub quiet_none : (lines : ℕ) (s : Exceptions) (first : ℕ) → IsQuiet lines s first 0
+pub quiet_none : (lines : ℕ) (s : State) (first : ℕ) → IsQuiet lines s first 0
 quiet_none lines s first = record {
   states = λ k le. none k le;
   silent = λ k lt. absurd (omega (arith, lt));
@@ -181,6 +181,6 @@ quiet_none lines s first = record {
     none (suc k) le = absurd (omega (arith, le))
 
 -- one cycle more
-pub all_more : (lines first n m : ℕ) (s : Exceptions) → m ≡ n + 1 → after_all lines first m s ≡ after_cycle lines (first + n) (after_all lines first n s)
+pub all_more : (lines first n m : ℕ) (s : State) → m ≡ n + 1 → after_all lines first m s ≡ after_cycle lines (first + n) (after_all lines first n s)
 all_more lines first n zero s e = absurd (omega (arith, e))
 all_more lines first n (suc m) s e = let same : m ≡ n = omega (arith, e) in rw same refl

@@ -4,7 +4,7 @@ use Rattle.std.specs.Prelude.{ℕ, ◌+◌, ◌-◌, ◌%◌, Bool, true, false,
 use Rattle.rp_base.specs.Word.{has_bit}
 use Rattle.m0_nvic.specs.Exceptions.{SYSTICK}
 use Rattle.m0_nvic.specs.declared.systick.SysTick.{SysTick}
-use Rattle.m0_nvic.specs.State.{Exceptions}
+use Rattle.m0_nvic.specs.State.{State}
 use Rattle.m0_nvic.specs.Numbers.{minus, of_interrupts}
 use Rattle.m0_nvic.specs.Changes.{with_pending, pended}
 
@@ -26,31 +26,31 @@ timer_after cycle t = if counts_in cycle t then count_of t else t
 abbrev pub timer_pends : ℕ → SysTick → Bool
 timer_pends cycle t = counts_in cycle t && (t.current == 1 && t.interrupt)
 
-abbrev pub with_timer : SysTick → Exceptions → Exceptions
+abbrev pub with_timer : SysTick → State → State
 with_timer t s = record s { systick = t }
 
-abbrev pub after_timer : ℕ → Exceptions → Exceptions
+abbrev pub after_timer : ℕ → State → State
 after_timer cycle s =
     let t = with_timer (timer_after cycle s.systick) s in
     if timer_pends cycle s.systick then pended SYSTICK t else t
 
 -- an interrupt becomes pending where its line is high, unless it was high before and the interrupt is active
-abbrev pub risen : ℕ → Exceptions → ℕ
+abbrev pub risen : ℕ → State → ℕ
 risen lines s = minus (of_interrupts lines) (bit_and (of_interrupts s.lines) s.active)
 
-abbrev pub with_lines : ℕ → Exceptions → Exceptions
+abbrev pub with_lines : ℕ → State → State
 with_lines lines s = record s { lines = lines }
 
-abbrev pub after_lines : ℕ → Exceptions → Exceptions
+abbrev pub after_lines : ℕ → State → State
 after_lines lines s = with_pending (risen lines s) (with_lines lines s)
 
 -- a new span begins, in which nothing has arrived yet
-abbrev pub with_none_arrived : Exceptions → Exceptions
+abbrev pub with_none_arrived : State → State
 with_none_arrived s = record s { arrived = false }
 
-abbrev pub after_cycle : ℕ → ℕ → Exceptions → Exceptions
+abbrev pub after_cycle : ℕ → ℕ → State → State
 after_cycle lines cycle s = with_none_arrived (after_lines lines (after_timer cycle s))
 
 -- with SEVONPEND an exception that became pending is an event (B3.2.7)
-abbrev pub is_event : ℕ → ℕ → Exceptions → Bool
+abbrev pub is_event : ℕ → ℕ → State → Bool
 is_event lines cycle s = has_bit s.scr 4 && (after_lines lines (after_timer cycle s)).arrived

@@ -5,7 +5,7 @@ use Rattle.m0_nvic.specs.Exceptions.{NMI, HARDFAULT, SVCALL, PENDSV, SYSTICK}
 use Rattle.m0_nvic.specs.declared.systick.SysTick.{SysTick}
 
 -- a set of exceptions is a number whose bit n tells whether exception n is in it
-pub record Exceptions : Type 0 where
+pub record State : Type 0 where
   pub pending : ℕ
   pub active : ℕ
   pub enabled : ℕ
@@ -25,7 +25,7 @@ timer_at_reset =
     record { enable = false; interrupt = false; core_clock = false; counted = false; reload = 0; current = 0 }
 
 -- at reset the system's exceptions alone are enabled, which always are: NMI, HardFault, SVCall, PendSV and SysTick
-abbrev pub at_reset : Exceptions
+abbrev pub at_reset : State
 at_reset =
     record {
       pending = 0;

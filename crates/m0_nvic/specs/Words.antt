@@ -5,7 +5,7 @@ use Rattle.rp_base.specs.Rows.{Row, register, read_only, read_write, repeated, w
 use Rattle.rp_base.specs.Word.{has_bit, bit_number, byte_of}
 use Rattle.m0_nvic.specs.Exceptions.{NMI, SVCALL, PENDSV, SYSTICK, INTERRUPT_0}
 use Rattle.m0_nvic.specs.declared.systick.SysTick.{SysTick}
-use Rattle.m0_nvic.specs.State.{Exceptions}
+use Rattle.m0_nvic.specs.State.{State}
 use Rattle.m0_nvic.specs.Numbers.{is_member, minus, interrupts, of_interrupts}
 use Rattle.m0_nvic.specs.Priority.{best_of}
 use Rattle.m0_nvic.specs.Changes.{with_pending, without_pending, pended}
@@ -16,11 +16,11 @@ abbrev pub csr_of : SysTick → ℕ
 csr_of t =
     bit_number t.enable + bit_number t.interrupt * 2 + bit_number t.core_clock * 4 + bit_number t.counted * 2 ^ 16
 
-abbrev pub of_timer : (SysTick → SysTick) → Exceptions → Exceptions
+abbrev pub of_timer : (SysTick → SysTick) → State → State
 of_timer f s = record s { systick = f s.systick }
 
 -- a read of CSR clears COUNTFLAG; a write to CVR clears it and COUNTFLAG, whatever it writes
-abbrev pub timer_rows : {V : Type 0} → List (Row V Exceptions)
+abbrev pub timer_rows : {V : Type 0} → List (Row V State)
 timer_rows =
     register 0x010 "SYST_CSR" (λ seen s. csr_of s.systick) (of_timer (λ t. record t { counted = false }))
     (λ w. of_timer (λ t. record t { enable = has_bit w 0; interrupt = has_bit w 1; core_clock = has_bit w 2 }))
@@ -32,7 +32,7 @@ timer_rows =
 -- ---- interrupts
 
 -- a 1 sets or clears
-abbrev pub interrupt_rows : {V : Type 0} → List (Row V Exceptions)
+abbrev pub interrupt_rows : {V : Type 0} → List (Row V State)
 interrupt_rows =
     read_write 0x100 "NVIC_ISER" (λ s. interrupts s.enabled) (λ w s. record s { enabled = bit_or s.enabled (of_interrupts w) })
     ∷ read_write 0x180 "NVIC_ICER" (λ s. interrupts s.enabled) (λ w s. record s { enabled = minus s.enabled (of_interrupts w) })
@@ -53,11 +53,11 @@ abbrev pub with_four : ℕ → ℕ → List ℕ → List ℕ
 with_four n w priorities =
     with_priority (n + 3) 3 w (with_priority (n + 2) 2 w (with_priority (n + 1) 1 w (with_priority n 0 w priorities)))
 
-abbrev pub with_priorities : List ℕ → Exceptions → Exceptions
+abbrev pub with_priorities : List ℕ → State → State
 with_priorities priorities s = record s { priorities = priorities }
 
 -- one byte for each interrupt, of which the two high bits count
-abbrev pub priority_rows : {V : Type 0} → List (Row V Exceptions)
+abbrev pub priority_rows : {V : Type 0} → List (Row V State)
 priority_rows =
     repeated 8 4 (λ n. read_write 0x400 "NVIC_IPRn" (λ s. four_priorities s.priorities (INTERRUPT_0 + 4 * n))
     (λ w s. with_priorities (with_four (INTERRUPT_0 + 4 * n) w s.priorities) s))
@@ -69,27 +69,27 @@ abbrev pub number_or_zero : Option ℕ → ℕ
 number_or_zero None = 0
 number_or_zero (Some n) = n
 
-abbrev pub flag_of : ℕ → Exceptions → ℕ
+abbrev pub flag_of : ℕ → State → ℕ
 flag_of n s = bit_number (is_member n s.pending)
 
 -- ISRPENDING tells whether any interrupt is pending, enabled or not
-abbrev pub is_interrupt_pending : Exceptions → Bool
+abbrev pub is_interrupt_pending : State → Bool
 is_interrupt_pending s = not (interrupts s.pending == 0)
 
 -- NMI, PendSV and SysTick pending, ISRPENDING, VECTPENDING and VECTACTIVE
-abbrev pub icsr_of : Exceptions → ℕ → ℕ
+abbrev pub icsr_of : State → ℕ → ℕ
 icsr_of s ipsr =
     flag_of NMI s * 2 ^ 31 + flag_of PENDSV s * 2 ^ 28 + flag_of SYSTICK s * 2 ^ 26 + bit_number (is_interrupt_pending s) * 2 ^ 22
     + number_or_zero (best_of s) * 2 ^ 12 + ipsr
 
-abbrev pub pended_if : Bool → ℕ → Exceptions → Exceptions
+abbrev pub pended_if : Bool → ℕ → State → State
 pended_if asked n s = if asked then pended n s else s
 
-abbrev pub cleared_if : Bool → ℕ → Exceptions → Exceptions
+abbrev pub cleared_if : Bool → ℕ → State → State
 cleared_if asked n s = if asked then without_pending (2 ^ n) s else s
 
 -- PENDSVCLR and PENDSTCLR come after NMIPENDSET, PENDSVSET and PENDSTSET
-abbrev pub icsr_written : ℕ → Exceptions → Exceptions
+abbrev pub icsr_written : ℕ → State → State
 icsr_written w s =
     cleared_if (has_bit w 25) SYSTICK (cleared_if (has_bit w 27) PENDSV
     (pended_if (has_bit w 26) SYSTICK (pended_if (has_bit w 28) PENDSV (pended_if (has_bit w 31) NMI s))))
@@ -103,7 +103,7 @@ shpr3_of priorities = slice_index priorities SYSTICK * 2 ^ 24 + slice_index prio
 abbrev pub with_shpr3 : ℕ → List ℕ → List ℕ
 with_shpr3 w priorities = with_priority PENDSV 2 w (with_priority SYSTICK 3 w priorities)
 
-abbrev pub control_rows : List (Row ℕ Exceptions)
+abbrev pub control_rows : List (Row ℕ State)
 control_rows =
     read_only 0xd00 "CPUID" (λ s. 0x410CC601)
     ∷ register 0xd04 "ICSR" (λ ipsr s. icsr_of s ipsr) (λ s. s) icsr_written
@@ -117,11 +117,11 @@ control_rows =
 
 -- ---- all words
 
-abbrev pub bus_rows : List (Row ℕ Exceptions)
+abbrev pub bus_rows : List (Row ℕ State)
 bus_rows = timer_rows ++ interrupt_rows ++ priority_rows ++ control_rows
 
 -- what a word reads as; None where there is none
-unfoldable pub word_of : ℕ → ℕ → Exceptions → Option ℕ
+unfoldable pub word_of : ℕ → ℕ → State → Option ℕ
 word_of offset ipsr s = word_at bus_rows ipsr offset s
 
 unfoldable pub is_word : ℕ → Bool
@@ -135,11 +135,11 @@ asks_reset offset (Some w) = offset == offset_in bus_rows "AIRCR" && (w / 2 ^ 16
 abbrev pub is_allowed : ℕ → Option ℕ → Bool
 is_allowed offset write = is_word offset && not (asks_reset offset write)
 
-unfoldable pub after_access : ℕ → Option ℕ → Exceptions → Exceptions
+unfoldable pub after_access : ℕ → Option ℕ → State → State
 after_access offset write s = effect_at bus_rows offset write s
 
 -- what a read or a write does; nothing where it is not allowed
-abbrev pub effect_of : ℕ → Option ℕ → Exceptions → Exceptions
+abbrev pub effect_of : ℕ → Option ℕ → State → State
 effect_of offset write s = if is_allowed offset write then after_access offset write s else s
 
 -- each register is what stands at its offset, and nothing stands at any other

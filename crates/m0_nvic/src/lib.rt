@@ -36,9 +36,9 @@ pub struct Nvic {
 }
 
 impl Model for Nvic {
-    ghost use Rattle.m0_nvic.specs.State.{Exceptions};
+    ghost use Rattle.m0_nvic.specs.State.{State};
 
-    ghost Value = { Exceptions };
+    ghost Value = { State };
 
     ghost view = { λ a. record {
       pending = a.pending;

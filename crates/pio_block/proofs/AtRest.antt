@@ -6,7 +6,7 @@ use Rattle.std.proofs.lemmas.Bool.Decides.{nat_tests}
 use Rattle.lane_look.specs.Asking.{Asking}
 use Rattle.lane_look.specs.Asking.Asking.{Ready}
 use Rattle.pio_block.specs.declared.inputs.Inputs.{Inputs}
-use Rattle.pio_block.specs.State.{Block, is_busy}
+use Rattle.pio_block.specs.State.{State, is_busy}
 use Rattle.pio_block.specs.Cycle.{asks, next, Rests}
 use Rattle.pio_block.specs.Words.{intr_of, is_silent, is_at_rest, lines_of}
 use Rattle.pio_block.proofs.Masks.{none_enabled}
@@ -31,7 +31,7 @@ zero_is (suc n) h = absurd (grind (arith, nat_tests, common_steps))
 is_low : (x inte intf : ℕ) → inte ≡ 0 → intf ≡ 0 → not (nat_eq (bit_or (bit_and x inte) intf) 0) ≡ false
 is_low x inte intf e f = rw (e, f) (ap (λ n. not (nat_eq n 0)) (none_enabled x 0))
 
-silent_lines : (s : Block) → is_silent s ≡ true → lines_of s ≡ false ∷ false ∷ []
+silent_lines : (s : State) → is_silent s ≡ true → lines_of s ≡ false ∷ false ∷ []
 silent_lines s h =
     let h0 : (nat_eq s.inte0 0 && nat_eq s.intf0 0 && nat_eq s.inte1 0) ≡ true = both_left _ (nat_eq s.intf1 0) h in
     let f1 : s.intf1 ≡ 0 = zero_is s.intf1 (both_right (nat_eq s.inte0 0 && nat_eq s.intf0 0 && nat_eq s.inte1 0) _ h) in
@@ -42,22 +42,22 @@ silent_lines s h =
     ap (λ b. b ∷ not (nat_eq (bit_or (bit_and (intr_of s) s.inte1) s.intf1) 0) ∷ []) (is_low (intr_of s) s.inte0 s.intf0 e0 f0)
     ∙ ap (λ b. false ∷ b ∷ []) (is_low (intr_of s) s.inte1 s.intf1 e1 f1)
 
-pub low_at_rest : (s : Block) → is_at_rest s ≡ true → lines_of s ≡ false ∷ false ∷ []
+pub low_at_rest : (s : State) → is_at_rest s ≡ true → lines_of s ≡ false ∷ false ∷ []
 low_at_rest s h = silent_lines s (both_right (not (is_busy s)) _ h)
 
 asks_by : (busy : Bool) (question : Asking (Option Inputs)) → busy ≡ false → (if busy then question else Ready None) ≡ Ready None
 asks_by true question h = absurd (cc)
 asks_by false question h = refl
 
-asks-idle : (s : Block) → is_busy s ≡ false → asks s ≡ Ready None
+asks-idle : (s : State) → is_busy s ≡ false → asks s ≡ Ready None
 unfolding asks
 asks-idle s h = asks_by (is_busy s) _ h
 
-stays-idle : (s : Block) → next None s ≡ s
+stays-idle : (s : State) → next None s ≡ s
 unfolding next
 stays-idle s = refl
 
-pub rests : (s : Block) → is_at_rest s ≡ true → Rests s
+pub rests : (s : State) → is_at_rest s ≡ true → Rests s
 rests s h = record {
   asks_nothing = asks-idle s (not_is (is_busy s) (both_left (not (is_busy s)) _ h));
   stays = stays-idle s;

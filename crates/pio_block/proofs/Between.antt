@@ -18,7 +18,7 @@ use Rattle.pio_machine.specs.Start.{nothing_done}
 use Rattle.pio_machine.specs.Cycle.{ticks, advanced, word_of, word_tried, after_word, written_by_word}
 use Rattle.pio_machine.specs.Cycle as machine
 use Rattle.pio_block.specs.declared.inputs.Inputs.{Inputs}
-use Rattle.pio_block.specs.State.{Block, is_written, is_running, is_busy, each_from, machine_of}
+use Rattle.pio_block.specs.State.{State, is_written, is_running, is_busy, each_from, machine_of}
 use Rattle.pio_block.specs.Cycle.{seen_by, written_from, all_written, all_stepped, joined, after_cycle, inputs_of, asks, next}
 use Rattle.pio_block.specs.Queues.{bits_of}
 use Rattle.pio_block.specs.Words.{has_room, has_words, intr_of, lines_of, room_left, words_held, pacing_of, is_at_rest}
@@ -92,7 +92,7 @@ pub fewer_machines : (ms : List Machine1) (n k : ℕ) → AreBetweenTicks ms n �
 fewer_machines [] n k h le = h
 fewer_machines (m ∷ ms) n k h le = (fewer_between m n k h.0 le, fewer_machines ms n k h.1 le)
 
-pub fewer : (s : Block) (n k : ℕ) → IsQuiet s n → k ≤ n → IsQuiet s k
+pub fewer : (s : State) (n k : ℕ) → IsQuiet s n → k ≤ n → IsQuiet s k
 fewer s n k h le = record { words = h.words; machines = fewer_machines s.machines n k h.machines le }
 
 -- none runs
@@ -115,7 +115,7 @@ both_left : (a b : Bool) → (a && b) ≡ true → a ≡ true
 both_left true b h = refl
 both_left false b h = absurd (cc h)
 
-pub quiet_at_rest : (s : Block) (n : ℕ) → HasWords s → is_at_rest s ≡ true → IsQuiet s n
+pub quiet_at_rest : (s : State) (n : ℕ) → HasWords s → is_at_rest s ≡ true → IsQuiet s n
 quiet_at_rest s n words h = record { words = words; machines = none_runs s.machines n (not_is (is_busy s) (both_left (not (is_busy s)) _ h)) }
 
 -- ---- what a divider leaves
@@ -195,12 +195,12 @@ same_flags x small =
     let whole : x % 2 ^ 8 ≡ x = omega arith in
     or_zero_r _ ∙ and_mask x 8 ∙ whole
 
-nothing_joined : (s : Block) → HasWords s → joined nothing_done s ≡ s
+nothing_joined : (s : State) → HasWords s → joined nothing_done s ≡ s
 unfolding joined
 nothing_joined s h =
     rw (same_flags s.flags h.flags, same_word s.levels 0 h.levels, same_word s.enables 0 h.enables) refl
 
-cycle_quiet : (now second : ℕ) (s : Block) (n k : ℕ) → IsQuiet s n → k < n → after_cycle now second (block_after k s) ≡ block_after (suc k) s
+cycle_quiet : (now second : ℕ) (s : State) (n k : ℕ) → IsQuiet s n → k < n → after_cycle now second (block_after k s) ≡ block_after (suc k) s
 unfolding after_cycle all_written all_stepped
 cycle_quiet now second s n k h lt =
     let seen = seen_by now second s in
@@ -219,13 +219,13 @@ stays_idle (m ∷ ms) n k h =
     ap (λ x. x ∷ map (divider_after (suc k)) ms) (advanced_off (divider_after k m) off.0)
     ∙ ap (λ xs. divider_after k m ∷ xs) (stays_idle ms n k here.1)
 
-step_by : (busy : Bool) (answer : Ask → ℕ) (s : Block) (n k : ℕ) → is_busy (block_after k s) ≡ busy → IsQuiet s n → k < n
+step_by : (busy : Bool) (answer : Ask → ℕ) (s : State) (n k : ℕ) → is_busy (block_after k s) ≡ busy → IsQuiet s n → k < n
     → next (answered answer (if busy then Question ask.Inputs (λ x. Ready (Some (inputs_of x))) else Ready None)) (block_after k s) ≡ block_after (suc k) s
 unfolding next
 step_by true answer s n k e h lt = cycle_quiet (inputs_of (answer ask.Inputs)).now (inputs_of (answer ask.Inputs)).second s n k h lt
 step_by false answer s n k e h lt = sym (ap (λ ms. record s { machines = ms }) (stays_idle s.machines n k e))
 
-steps : (answer : Ask → ℕ) (s : Block) (n k : ℕ) → IsQuiet s n → k < n → next (answered answer (asks (block_after k s))) (block_after k s) ≡ block_after (suc k) s
+steps : (answer : Ask → ℕ) (s : State) (n k : ℕ) → IsQuiet s n → k < n → next (answered answer (asks (block_after k s))) (block_after k s) ≡ block_after (suc k) s
 unfolding asks
 steps answer s n k h lt = step_by (is_busy (block_after k s)) answer s n k refl h lt
 
@@ -260,14 +260,14 @@ running_stays n m = let l = leaves_after n m in rw (l.enabled, l.waiting) refl
 bits_stay : (p : Machine1 → Bool) (ms : List Machine1) (n : ℕ) → ((m : Machine1) → p (divider_after n m) ≡ p m) → bits_of p (map (divider_after n) ms) ≡ bits_of p ms
 bits_stay p ms n same = rw (same_bit p ms n 0 same, same_bit p ms n 1 same, same_bit p ms n 2 same, same_bit p ms n 3 same) refl
 
-raised_stay : (s : Block) (n : ℕ) → intr_of (block_after n s) ≡ intr_of s
+raised_stay : (s : State) (n : ℕ) → intr_of (block_after n s) ≡ intr_of s
 unfolding intr_of
 raised_stay s n = rw (bits_stay has_room s.machines n (has_room_stays n), bits_stay has_words s.machines n (has_words_stays n)) refl
 
-lines_stay : (s : Block) (n : ℕ) → lines_of (block_after n s) ≡ lines_of s
+lines_stay : (s : State) (n : ℕ) → lines_of (block_after n s) ≡ lines_of s
 lines_stay s n = rw (raised_stay s n) refl
 
-pacing_stays : (s : Block) (n : ℕ) → pacing_of (block_after n s).machines ≡ pacing_of s.machines
+pacing_stays : (s : State) (n : ℕ) → pacing_of (block_after n s).machines ≡ pacing_of s.machines
 unfolding pacing_of
 pacing_stays s n =
     let room = λ (i : ℕ). same_number room_left s.machines n i (room_stays n) in
@@ -287,11 +287,11 @@ any_stay [] n = refl
 any_stay (m ∷ ms) n = rw (running_stays n m, any_stay ms n) refl
 
 -- it is at rest after them as it was
-pub rest_stays : (s : Block) (n : ℕ) → is_at_rest (block_after n s) ≡ is_at_rest s
+pub rest_stays : (s : State) (n : ℕ) → is_at_rest (block_after n s) ≡ is_at_rest s
 rest_stays s n = rw (any_stay s.machines n) refl
 
 -- at rest, it stays
-pub stays_at_rest : (s : Block) (n : ℕ) → is_at_rest s ≡ true → block_after n s ≡ s
+pub stays_at_rest : (s : State) (n : ℕ) → is_at_rest s ≡ true → block_after n s ≡ s
 stays_at_rest s n h = ap (λ ms. record s { machines = ms }) (none_go s.machines n (not_is (is_busy s) (both_left (not (is_busy s)) _ h)))
   where
     none_go : (ms : List Machine1) (n : ℕ) → list_any is_running ms ≡ false → map (divider_after n) ms ≡ ms
@@ -301,7 +301,7 @@ stays_at_rest s n h = ap (λ ms. record s { machines = ms }) (none_go s.machines
         rw (after_off m n (neither m.enabled (is_written m.waiting) here.0).0, none_go ms n here.1) refl
 
 -- in no cycle it goes on
-pub block_none : (s : Block) → block_after 0 s ≡ s
+pub block_none : (s : State) → block_after 0 s ≡ s
 unfolding times
 block_none s = ap (λ ms. record s { machines = ms }) (none_go s.machines)
   where
@@ -319,7 +319,7 @@ gone_on m n from h on e = ap (λ a. record m { acc = a - 256 * n }) e ∙ sym (a
 pub stands : (m : Machine1) (n : ℕ) → m.enabled ≡ false → m ≡ divider_after n m
 stands m n off = sym (after_off m n off)
 
-pub rest_passed : (i s : Block) (n : ℕ) (ms : List Machine1) → i ≡ s → ms ≡ map (divider_after n) i.machines → is_at_rest (record i { machines = ms }) ≡ is_at_rest s
+pub rest_passed : (i s : State) (n : ℕ) (ms : List Machine1) → i ≡ s → ms ≡ map (divider_after n) i.machines → is_at_rest (record i { machines = ms }) ≡ is_at_rest s
 rest_passed i s n ms e passed = ap (λ xs. is_at_rest (record i { machines = xs })) passed ∙ rest_stays i n ∙ ap is_at_rest e
 
 pub between_by : (m : Machine1) (r : ℕ) → is_written m.waiting ≡ false → m.enabled ≡ true → r ≡ m.acc / 256 → IsBetweenTicks m r

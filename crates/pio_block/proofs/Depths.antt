@@ -10,7 +10,7 @@ use Rattle.pio_machine.specs.Start as machine
 use Rattle.pio_machine.specs.Clock.{IsWithin}
 use Rattle.pio_machine.specs.Cycle as cycle
 use Rattle.pio_machine.proofs.Clock.{a_cycle_keeps_the_fifos_within}
-use Rattle.pio_block.specs.State.{Block, at_reset, changed, each_from}
+use Rattle.pio_block.specs.State.{State, at_reset, changed, each_from}
 use Rattle.pio_block.specs.Control.{restarted_if, with_divider_restarted, with_enable, controlled, control_written}
 use Rattle.pio_block.specs.Queues.{with_stalls_cleared, debug_written, with_sent, sent, with_rx, with_taken, taken}
 use Rattle.pio_machine.specs.Progress.{forced}
@@ -108,20 +108,20 @@ all-from n f (m ∷ ms) k w = (k n m w.0, all-from (n + 1) f ms k w.1)
 
 -- ---- a block
 
-abbrev Within : Block → Type 0
+abbrev Within : State → Type 0
 Within s = AreWithin s.machines
 
 -- a choice of two blocks
-either : (b : Bool) (x y : Block) → Within x → Within y → Within (if b then x else y)
+either : (b : Bool) (x y : State) → Within x → Within y → Within (if b then x else y)
 either true x y v w = v
 either false x y v w = w
 
 -- what a write of a register leaves of the machines
-writes-within : (f : ℕ → Machine1 → Machine1) (s : Block) → ((w : ℕ) → Keeps (f w)) → Within s
+writes-within : (f : ℕ → Machine1 → Machine1) (s : State) → ((w : ℕ) → Keeps (f w)) → Within s
     → (n : ℕ) → Within s × ((w : ℕ) → Within (record s { machines = changed n (f w) s.machines }))
 writes-within f s k w n = (w, λ word. changes n (f word) s.machines (k word) w)
 
-all-kept : (s : Block) → Within s → Kept Within s pio_rows
+all-kept : (s : State) → Within s → Kept Within s pio_rows
 unfolding control_written debug_written sent taken
 all-kept s w =
     let ctrl : (n : ℕ) → Within s × ((word : ℕ) → Within (control_written word s)) =
@@ -142,12 +142,12 @@ all-kept s w =
     (div, (exec, (shift, (addr, (instr, (pin, (k, (k, (k, (k, (k, (k, (k, tt))))))))))))) in
     (ctrl, (k, (debug, (k, (tx, (rx, (k, (k, (k, (k, (k, (k, (k, machines)))))))))))))
 
-effect-within : (offset : ℕ) (write : Option ℕ) (s : Block) → Within s → Within (effect_of offset write s)
+effect-within : (offset : ℕ) (write : Option ℕ) (s : State) → Within s → Within (effect_of offset write s)
 unfolding effect_of after_any
 effect-within offset write s w =
     either (is_allowed offset write) _ _ (keeps Within pio_rows offset write s w (all-kept s w)) w
 
-cycle-within : (now second : ℕ) (s : Block) → Within s → Within (after_cycle now second s)
+cycle-within : (now second : ℕ) (s : State) → Within s → Within (after_cycle now second s)
 unfolding after_cycle all_stepped block.joined
 cycle-within now second s w =
     all-from 0 (λ n m. cycle.after_cycle n (seen_by now second s) m) s.machines
@@ -158,7 +158,7 @@ reset-within =
     let one : IsWithin machine.at_reset = record { tx = omega arith; rx = omega arith } in
     (one, (one, (one, (one, tt))))
 
-after-within : (h : Happening) (s : Block) → Within s → Within (after h s)
+after-within : (h : Happening) (s : State) → Within s → Within (after h s)
 unfolding next
 after-within (Cycle None) s w = w
 after-within (Cycle (Some inputs)) s w = cycle-within inputs.now inputs.second s w
@@ -167,7 +167,7 @@ after-within Reset s w = reset-within
 after-within (Counter machine address) s w =
     changes machine (with_pc address) s.machines (λ m v. alike m _ refl refl refl v) w
 
-all-within : (hs : List Happening) (s : Block) → Within s → Within (after_all hs s)
+all-within : (hs : List Happening) (s : State) → Within s → Within (after_all hs s)
 all-within [] s w = w
 all-within (h ∷ hs) s w = all-within hs (after h s) (after-within h s w)
 

@@ -4,7 +4,7 @@ use Rattle.pio_machine.specs.declared.machine.Machine1.{Machine1}
 use Rattle.pio_machine.specs.declared.machine.Seen.{Seen}
 use Rattle.pio_machine.specs.Cycle.{word_tried}
 use Rattle.pio_block.specs.Registers.{register_written}
-use Rattle.pio_block.specs.State.{Block, machine_of, changed}
+use Rattle.pio_block.specs.State.{State, machine_of, changed}
 use Rattle.pio_block.specs.Words.{after_any}
 use Rattle.pio_block.specs.InstrLaws.{AWrittenWordComesNext}
 
@@ -13,7 +13,7 @@ changed_at n f [] low = absurd (omega (arith, low))
 changed_at zero f (m ∷ ms) low = refl
 changed_at (suc n) f (m ∷ ms) low = changed_at n f ms (omega (arith, low))
 
-written_at : (s : Block) (n w : ℕ) → n < 4 → (after_any (0xd8 + 0x18 * n) (Some w) s).machines ≡ changed n (register_written 0x10 w) s.machines
+written_at : (s : State) (n w : ℕ) → n < 4 → (after_any (0xd8 + 0x18 * n) (Some w) s).machines ≡ changed n (register_written 0x10 w) s.machines
 unfolding after_any register_written
 written_at s zero w low = refl
 written_at s (suc zero) w low = refl

@@ -6,12 +6,12 @@ use Rattle.std.proofs.lemmas.Bool.Decides.{nat_tests}
 use Rattle.rp_base.specs.Rows.{Place, At, Each, first_of, is_at, number_at, Row, at_row, word_at, effect_at}
 use Rattle.rp_base.proofs.Rows.{cut, told, in_stride, strided, still, either-way}
 use Rattle.pio_machine.specs.declared.machine.Machine1.{Machine1}
-use Rattle.pio_block.specs.State.{Block, machine_of, changed, with_machines}
+use Rattle.pio_block.specs.State.{State, machine_of, changed, with_machines}
 use Rattle.pio_block.specs.Queues.{taken}
 use Rattle.pio_block.specs.Registers.{machine_rows, register_of, register_written}
 use Rattle.pio_block.specs.Words.{control_rows, fifo_rows, pin_rows, memory_rows, of_machines, interrupt_rows, pio_rows, is_word, word_of, after_any}
 
-parts : {A : Type 0} (none : A) (found : Row ⊤ Block → ℕ → A) (at : ℕ) → at_row none found pio_rows at
+parts : {A : Type 0} (none : A) (found : Row ⊤ State → ℕ → A) (at : ℕ) → at_row none found pio_rows at
     ≡ (if nat_lt at 0x010 then at_row none found control_rows at else
     if nat_lt at 0x030 then at_row none found fifo_rows at else
     if nat_lt at 0x048 then at_row none found pin_rows at else
@@ -55,7 +55,7 @@ single : (p : Place) (at : ℕ) → is_single p ≡ true → (is_at p at ≡ (at
 single (At offset) at e = (refl, refl)
 single (Each first count stride) at e = absurd (true≢false (sym e))
 
-word-of_machine : (rows : List (Row (List ℕ) Machine1)) (index number : ℕ) (s : Block) → are_single rows ≡ true
+word-of_machine : (rows : List (Row (List ℕ) Machine1)) (index number : ℕ) (s : State) → are_single rows ≡ true
     → in_stride 0x0c8 None (λ row. Some (row.reads number tt s)) (map (of_machines {V = ⊤}) rows) index
     ≡ word_at rows s.memory (0x0c8 + index) (machine_of number s.machines)
 word-of_machine [] index number s e = refl
@@ -65,12 +65,12 @@ word-of_machine (row ∷ rows) index number s e =
     (ap (λ x. cond (0x0c8 + index == first_of row.place) (Some (row.reads 0 s.memory (machine_of number s.machines))) x)
     (word-of_machine rows index number s (last_of_both (is_single row.place) (are_single rows) e)))
 
-written-row : (b : Bool) (f g : Machine1 → Machine1) (number : ℕ) (s rest : Block) → rest ≡ with_machines (changed number g s.machines) s
+written-row : (b : Bool) (f g : Machine1 → Machine1) (number : ℕ) (s rest : State) → rest ≡ with_machines (changed number g s.machines) s
     → cond b (with_machines (changed number f s.machines) s) rest ≡ with_machines (changed number (λ m. cond b (f m) (g m)) s.machines) s
 written-row true f g number s rest e = refl
 written-row false f g number s rest e = e
 
-written-of_machine : (rows : List (Row (List ℕ) Machine1)) (index number w : ℕ) (s : Block) → are_single rows ≡ true
+written-of_machine : (rows : List (Row (List ℕ) Machine1)) (index number w : ℕ) (s : State) → are_single rows ≡ true
     → in_stride 0x0c8 s (λ row. row.write_does number w s) (map (of_machines {V = ⊤}) rows) index
     ≡ with_machines (changed number (λ m. effect_at rows (0x0c8 + index) (Some w) m) s.machines) s
 written-of_machine [] index number w s e = ap (λ ms. with_machines ms s) (sym (unchanged number s.machines))
@@ -96,24 +96,24 @@ below at bound h = grind (arith, nat_tests, common_steps)
 above : (at bound : ℕ) → bound ≤ at → nat_lt at bound ≡ false
 above at bound h = grind (arith, nat_tests, common_steps)
 
-at_control : {A : Type 0} (none : A) (found : Row ⊤ Block → ℕ → A) (at : ℕ) → at < 0x010
+at_control : {A : Type 0} (none : A) (found : Row ⊤ State → ℕ → A) (at : ℕ) → at < 0x010
     → at_row none found pio_rows at ≡ at_row none found control_rows at
 at_control none found at h = parts none found at ∙ rw (below at 0x010 h) refl
 
-at_fifo : {A : Type 0} (none : A) (found : Row ⊤ Block → ℕ → A) (at : ℕ) → 0x010 ≤ at → at < 0x030
+at_fifo : {A : Type 0} (none : A) (found : Row ⊤ State → ℕ → A) (at : ℕ) → 0x010 ≤ at → at < 0x030
     → at_row none found pio_rows at ≡ at_row none found fifo_rows at
 at_fifo none found at g h = parts none found at ∙ rw (above at 0x010 g, below at 0x030 h) refl
 
-at_pin : {A : Type 0} (none : A) (found : Row ⊤ Block → ℕ → A) (at : ℕ) → 0x030 ≤ at → at < 0x048
+at_pin : {A : Type 0} (none : A) (found : Row ⊤ State → ℕ → A) (at : ℕ) → 0x030 ≤ at → at < 0x048
     → at_row none found pio_rows at ≡ at_row none found pin_rows at
 at_pin none found at g h = parts none found at ∙ rw (above at 0x010 (omega (arith, g)), above at 0x030 g, below at 0x048 h) refl
 
-at_memory : {A : Type 0} (none : A) (found : Row ⊤ Block → ℕ → A) (at : ℕ) → 0x048 ≤ at → at < 0x0c8
+at_memory : {A : Type 0} (none : A) (found : Row ⊤ State → ℕ → A) (at : ℕ) → 0x048 ≤ at → at < 0x0c8
     → at_row none found pio_rows at ≡ at_row none found memory_rows at
 at_memory none found at g h =
     parts none found at ∙ rw (above at 0x010 (omega (arith, g)), above at 0x030 (omega (arith, g)), above at 0x048 g, below at 0x0c8 h) refl
 
-at_machine : {A : Type 0} (none : A) (found : Row ⊤ Block → ℕ → A) (at : ℕ) → 0x0c8 ≤ at → at < 0x128
+at_machine : {A : Type 0} (none : A) (found : Row ⊤ State → ℕ → A) (at : ℕ) → 0x0c8 ≤ at → at < 0x128
     → at_row none found pio_rows at
     ≡ in_stride 0x0c8 none (λ row. found row ((at - 0x0c8) / 24)) (map of_machines machine_rows) ((at - 0x0c8) % 24)
 at_machine none found at g h =
@@ -126,7 +126,7 @@ at_machine none found at g h =
     ∙ strided none found 0x0c8 4 24 (map of_machines machine_rows) ((at - 0x0c8) / 24) ((at - 0x0c8) % 24) at refl
     (omega (arith, g, h)) (omega arith) (omega (arith, g))
 
-at_interrupt : {A : Type 0} (none : A) (found : Row ⊤ Block → ℕ → A) (at : ℕ) → 0x128 ≤ at
+at_interrupt : {A : Type 0} (none : A) (found : Row ⊤ State → ℕ → A) (at : ℕ) → 0x128 ≤ at
     → at_row none found pio_rows at ≡ at_row none found interrupt_rows at
 at_interrupt none found at g =
     parts none found at
@@ -140,55 +140,55 @@ at_interrupt none found at g =
 
 -- ---- reads and writes
 
-pub control_word : (s : Block) (at : ℕ) → at < 0x010 → word_of at s ≡ word_at (control_rows {V = ⊤}) tt at s
+pub control_word : (s : State) (at : ℕ) → at < 0x010 → word_of at s ≡ word_at (control_rows {V = ⊤}) tt at s
 unfolding word_of
 control_word s at h = at_control None (λ row n. Some (row.reads n tt s)) at h
 
-pub fifo_word : (s : Block) (at : ℕ) → 0x010 ≤ at → at < 0x030 → word_of at s ≡ word_at (fifo_rows {V = ⊤}) tt at s
+pub fifo_word : (s : State) (at : ℕ) → 0x010 ≤ at → at < 0x030 → word_of at s ≡ word_at (fifo_rows {V = ⊤}) tt at s
 unfolding word_of
 fifo_word s at g h = at_fifo None (λ row n. Some (row.reads n tt s)) at g h
 
-pub pin_word : (s : Block) (at : ℕ) → 0x030 ≤ at → at < 0x048 → word_of at s ≡ word_at (pin_rows {V = ⊤}) tt at s
+pub pin_word : (s : State) (at : ℕ) → 0x030 ≤ at → at < 0x048 → word_of at s ≡ word_at (pin_rows {V = ⊤}) tt at s
 unfolding word_of
 pin_word s at g h = at_pin None (λ row n. Some (row.reads n tt s)) at g h
 
-pub memory_word : (s : Block) (at : ℕ) → 0x048 ≤ at → at < 0x0c8 → word_of at s ≡ word_at (memory_rows {V = ⊤}) tt at s
+pub memory_word : (s : State) (at : ℕ) → 0x048 ≤ at → at < 0x0c8 → word_of at s ≡ word_at (memory_rows {V = ⊤}) tt at s
 unfolding word_of
 memory_word s at g h = at_memory None (λ row n. Some (row.reads n tt s)) at g h
 
-pub machine_word : (s : Block) (at : ℕ) → 0x0c8 ≤ at → at < 0x128
+pub machine_word : (s : State) (at : ℕ) → 0x0c8 ≤ at → at < 0x128
     → word_of at s ≡ register_of ((at - 0x0c8) % 24) s.memory (machine_of ((at - 0x0c8) / 24) s.machines)
 unfolding word_of register_of
 machine_word s at g h =
     at_machine None (λ row n. Some (row.reads n tt s)) at g h ∙ word-of_machine machine_rows ((at - 0x0c8) % 24) ((at - 0x0c8) / 24) s refl
 
-pub interrupt_word : (s : Block) (at : ℕ) → 0x128 ≤ at → word_of at s ≡ word_at (interrupt_rows {V = ⊤}) tt at s
+pub interrupt_word : (s : State) (at : ℕ) → 0x128 ≤ at → word_of at s ≡ word_at (interrupt_rows {V = ⊤}) tt at s
 unfolding word_of
 interrupt_word s at g = at_interrupt None (λ row n. Some (row.reads n tt s)) at g
 
-pub control_write : (at w : ℕ) (s : Block) → at < 0x010 → after_any at (Some w) s ≡ effect_at (control_rows {V = ⊤}) at (Some w) s
+pub control_write : (at w : ℕ) (s : State) → at < 0x010 → after_any at (Some w) s ≡ effect_at (control_rows {V = ⊤}) at (Some w) s
 unfolding after_any
 control_write at w s h = at_control s (λ row n. row.write_does n w s) at h
 
-pub fifo_write : (at w : ℕ) (s : Block) → 0x010 ≤ at → at < 0x030 → after_any at (Some w) s ≡ effect_at (fifo_rows {V = ⊤}) at (Some w) s
+pub fifo_write : (at w : ℕ) (s : State) → 0x010 ≤ at → at < 0x030 → after_any at (Some w) s ≡ effect_at (fifo_rows {V = ⊤}) at (Some w) s
 unfolding after_any
 fifo_write at w s g h = at_fifo s (λ row n. row.write_does n w s) at g h
 
-pub pin_write : (at w : ℕ) (s : Block) → 0x030 ≤ at → at < 0x048 → after_any at (Some w) s ≡ effect_at (pin_rows {V = ⊤}) at (Some w) s
+pub pin_write : (at w : ℕ) (s : State) → 0x030 ≤ at → at < 0x048 → after_any at (Some w) s ≡ effect_at (pin_rows {V = ⊤}) at (Some w) s
 unfolding after_any
 pin_write at w s g h = at_pin s (λ row n. row.write_does n w s) at g h
 
-pub memory_write : (at w : ℕ) (s : Block) → 0x048 ≤ at → at < 0x0c8 → after_any at (Some w) s ≡ effect_at (memory_rows {V = ⊤}) at (Some w) s
+pub memory_write : (at w : ℕ) (s : State) → 0x048 ≤ at → at < 0x0c8 → after_any at (Some w) s ≡ effect_at (memory_rows {V = ⊤}) at (Some w) s
 unfolding after_any
 memory_write at w s g h = at_memory s (λ row n. row.write_does n w s) at g h
 
-pub machine_write : (at w : ℕ) (s : Block) → 0x0c8 ≤ at → at < 0x128
+pub machine_write : (at w : ℕ) (s : State) → 0x0c8 ≤ at → at < 0x128
     → after_any at (Some w) s ≡ with_machines (changed ((at - 0x0c8) / 24) (register_written ((at - 0x0c8) % 24) w) s.machines) s
 unfolding after_any register_written
 machine_write at w s g h =
     at_machine s (λ row n. row.write_does n w s) at g h ∙ written-of_machine machine_rows ((at - 0x0c8) % 24) ((at - 0x0c8) / 24) w s refl
 
-pub interrupt_write : (at w : ℕ) (s : Block) → 0x128 ≤ at → after_any at (Some w) s ≡ effect_at (interrupt_rows {V = ⊤}) at (Some w) s
+pub interrupt_write : (at w : ℕ) (s : State) → 0x128 ≤ at → after_any at (Some w) s ≡ effect_at (interrupt_rows {V = ⊤}) at (Some w) s
 unfolding after_any
 interrupt_write at w s g = at_interrupt s (λ row n. row.write_does n w s) at g
 
@@ -196,7 +196,7 @@ interrupt_write at w s g = at_interrupt s (λ row n. row.write_does n w s) at g
 not_both : (at : ℕ) → is_at (Each 0x020 4 4) at ≡ true → is_at (Each 0x010 4 4) at ≡ false
 not_both at h = grind (arith, nat_tests, common_steps)
 
-pub rx_read : (at : ℕ) (s : Block) → is_at (Each 0x020 4 4) at ≡ true → after_any at None s ≡ taken (number_at (Each 0x020 4 4) at) s
+pub rx_read : (at : ℕ) (s : State) → is_at (Each 0x020 4 4) at ≡ true → after_any at None s ≡ taken (number_at (Each 0x020 4 4) at) s
 unfolding after_any
 rx_read at s h =
     let from : nat_lt at 0x010 ≡ false = grind (arith, nat_tests, common_steps) in
@@ -204,7 +204,7 @@ rx_read at s h =
     parts s (λ row n. row.read_does n s) at ∙ else-side (nat_lt at 0x010) _ _ from ∙ then-side (nat_lt at 0x030) _ _ to
     ∙ else-side (is_at (Each 0x010 4 4) at) _ _ (not_both at h) ∙ then-side (is_at (Each 0x020 4 4) at) _ _ h
 
-pub no_read : (at : ℕ) (s : Block) → is_at (Each 0x020 4 4) at ≡ false → after_any at None s ≡ s
+pub no_read : (at : ℕ) (s : State) → is_at (Each 0x020 4 4) at ≡ false → after_any at None s ≡ s
 unfolding after_any
 no_read at s h =
     parts s (λ row n. row.read_does n s) at

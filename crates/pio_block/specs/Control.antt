@@ -3,7 +3,7 @@ use Rattle.std.specs.Prelude.{ℕ, ◌+◌, if◌then◌else◌, List, Bool}
 use Rattle.rp_base.specs.Word.{has_bit}
 use Rattle.pio_machine.specs.declared.machine.Machine1.{Machine1}
 use Rattle.pio_machine.specs.Start.{restarted}
-use Rattle.pio_block.specs.State.{Block, each, with_machines}
+use Rattle.pio_block.specs.State.{State, each, with_machines}
 use Rattle.pio_block.specs.Queues.{bits_of}
 
 -- SM_ENABLE; the restart bits read 0
@@ -24,5 +24,5 @@ unfoldable pub controlled : ℕ → ℕ → Machine1 → Machine1
 controlled w n m =
     with_divider_restarted (has_bit w (8 + n)) (restarted_if (has_bit w (4 + n)) (with_enable (has_bit w n) m))
 
-unfoldable pub control_written : ℕ → Block → Block
+unfoldable pub control_written : ℕ → State → State
 control_written w s = with_machines (each (controlled w) s.machines) s

@@ -13,10 +13,10 @@ use Rattle.pio_machine.specs.Start.{nothing_done}
 use Rattle.pio_machine.specs.Pins.{overlaid}
 use Rattle.pio_machine.specs.Cycle as machine
 use Rattle.pio_block.specs.declared.inputs.Inputs.{Inputs}
-use Rattle.pio_block.specs.State.{Block, each, is_busy, without}
+use Rattle.pio_block.specs.State.{State, each, is_busy, without}
 
 -- what the machines see: the words now and second of the inputs
-abbrev pub seen_by : ℕ → ℕ → Block → Seen
+abbrev pub seen_by : ℕ → ℕ → State → Seen
 seen_by now second s = record { memory = s.memory; inputs = now ∷ second ∷ []; bypass = s.bypass; flags = s.flags }
 
 -- what they write, from the one of the lowest number on: a later write to a pin wins
@@ -31,17 +31,17 @@ unfoldable pub all_stepped : Seen → List Machine1 → List Machine1
 all_stepped seen ms = each (λ n m. machine.after_cycle n seen m) ms
 
 -- flags are cleared, and then set; pins that nobody writes stay
-unfoldable pub joined : Done → Block → Block
+unfoldable pub joined : Done → State → State
 joined d s = record s {
   flags = bit_or (without s.flags d.clear) d.set;
   levels = overlaid d.level_mask d.levels s.levels;
   enables = overlaid d.enable_mask d.enables s.enables;
 }
 
-abbrev pub with_stepped : Seen → Block → Block
+abbrev pub with_stepped : Seen → State → State
 with_stepped seen s = record s { machines = all_stepped seen s.machines }
 
-unfoldable pub after_cycle : ℕ → ℕ → Block → Block
+unfoldable pub after_cycle : ℕ → ℕ → State → State
 after_cycle now second s =
     joined (all_written (seen_by now second s) s.machines) (with_stepped (seen_by now second s) s)
 
@@ -52,17 +52,17 @@ abbrev pub inputs_of : ℕ → Inputs
 inputs_of answer = record { now = answer % 2 ^ 32; second = answer / 2 ^ 32 % 2 ^ 32 }
 
 -- the inputs are asked for where the block steps
-unfoldable pub asks : Block → Asking (Option Inputs)
+unfoldable pub asks : State → Asking (Option Inputs)
 asks s = if is_busy s then Question asked.Inputs (λ x. Ready (Some (inputs_of x))) else Ready None
 
 abbrev pub wanted : List Want
 wanted = want.Nothing ∷ want.Nothing ∷ []
 
-unfoldable pub next : Option Inputs → Block → Block
+unfoldable pub next : Option Inputs → State → State
 next None s = s
 next (Some inputs) s = after_cycle inputs.now inputs.second s
 
 -- the block is idle: it asks nothing in a cycle, wants nothing, and stays as it is
-pub record Rests (s : Block) : Type 0 where
+pub record Rests (s : State) : Type 0 where
   pub asks_nothing : asks s ≡ Ready None
   pub stays : next None s ≡ s

@@ -10,7 +10,7 @@ use Rattle.pio_machine.specs.Start.{nothing_done}
 use Rattle.pio_machine.specs.Clock.{IsWithin}
 use Rattle.pio_machine.specs.Cycle.{written_in_cycle}
 use Rattle.pio_block.specs.declared.inputs.Inputs.{Inputs}
-use Rattle.pio_block.specs.State.{Block, at_reset, machine_of}
+use Rattle.pio_block.specs.State.{State, at_reset, machine_of}
 use Rattle.pio_block.specs.Cycle.{seen_by, after_cycle, asks, wanted, next}
 use Rattle.pio_block.specs.Words.{effect_of, counter_set}
 
@@ -25,7 +25,7 @@ pub record IsOfTheHighest (mask bit : ℕ → ℕ) (before after : ℕ) : Type 0
   pub decided : (k : ℕ) → k < 4 → mask k ≡ 1 → ((j : ℕ) → k < j → j < 4 → mask j ≡ 0) → after ≡ bit k
   pub stays : ((j : ℕ) → j < 4 → mask j ≡ 0) → after ≡ before
 
-pub record IsDecided (pin : ℕ) (seen : Seen) (s after : Block) : Type 0 where
+pub record IsDecided (pin : ℕ) (seen : Seen) (s after : State) : Type 0 where
   pub level : IsOfTheHighest (λ k. bit_at (own k seen s.machines).level_mask pin) (λ k. bit_at (own k seen s.machines).levels pin)
       (bit_at s.levels pin) (bit_at after.levels pin)
   pub enable : IsOfTheHighest (λ k. bit_at (own k seen s.machines).enable_mask pin) (λ k. bit_at (own k seen s.machines).enables pin)
@@ -33,7 +33,7 @@ pub record IsDecided (pin : ℕ) (seen : Seen) (s after : Block) : Type 0 where
 
 abbrev pub TheHighestMachineDecides : Type 0
 TheHighestMachineDecides =
-    (now second pin : ℕ) (s : Block)
+    (now second pin : ℕ) (s : State)
     → length s.machines ≡ 4
     → pin < 32
     → IsDecided pin (seen_by now second s) s (after_cycle now second s)
@@ -59,14 +59,14 @@ pub data Happening : Type 0 where
   Reset : Happening
   Counter : (machine address : ℕ) → Happening
 
-abbrev pub after : Happening → Block → Block
+abbrev pub after : Happening → State → State
 after (Cycle begun) s = next begun s
 after (Access offset write) s = effect_of offset write s
 after Reset s = at_reset
 after (Counter machine address) s = counter_set machine address s
 
 -- the block after all of these
-abbrev pub after_all : List Happening → Block → Block
+abbrev pub after_all : List Happening → State → State
 after_all [] s = s
 after_all (h ∷ hs) s = after_all hs (after h s)
 

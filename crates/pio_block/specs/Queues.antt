@@ -3,7 +3,7 @@ use Rattle.std.specs.Prelude.{ℕ, ◌+◌, ◌*◌, ◌/◌, ◌%◌, ◌^◌, 
 use Rattle.rp_base.specs.Word.{has_bit, bit_number}
 use Rattle.pio_machine.specs.declared.machine.Machine1.{Machine1}
 use Rattle.pio_machine.specs.Fields.{is_tx_full, is_rx_full}
-use Rattle.pio_block.specs.State.{Block, machine_of, changed, each, without}
+use Rattle.pio_block.specs.State.{State, machine_of, changed, each, without}
 
 -- ---- what is read
 
@@ -26,7 +26,7 @@ fstat_of ms =
     + bits_of is_rx_full ms
 
 -- TXSTALL, TXOVER, RXUNDER, RXSTALL
-unfoldable pub fdebug_of : Block → ℕ
+unfoldable pub fdebug_of : State → ℕ
 fdebug_of s =
     bits_of (λ m. m.tx_stall) s.machines * 2 ^ 24 + s.tx_over * 2 ^ 16 + s.rx_under * 2 ^ 8
     + bits_of (λ m. m.rx_stall) s.machines
@@ -53,7 +53,7 @@ with_stalls_cleared w n m = record m {
   rx_stall = m.rx_stall && not (has_bit w n);
 }
 
-unfoldable pub debug_written : ℕ → Block → Block
+unfoldable pub debug_written : ℕ → State → State
 debug_written w s = record s {
   machines = each (with_stalls_cleared w) s.machines;
   tx_over = without s.tx_over (w / 2 ^ 16 % 2 ^ 4);
@@ -64,7 +64,7 @@ debug_written w s = record s {
 abbrev pub with_sent : ℕ → Machine1 → Machine1
 with_sent w m = if is_tx_full m then m else record m { tx = m.tx ++ w ∷ [] }
 
-unfoldable pub sent : ℕ → ℕ → Block → Block
+unfoldable pub sent : ℕ → ℕ → State → State
 sent n w s = record s {
   machines = changed n (with_sent w) s.machines;
   tx_over = if is_tx_full (machine_of n s.machines) then bit_or s.tx_over (2 ^ n) else s.tx_over;
@@ -78,7 +78,7 @@ with_rx (word ∷ rest) m = record m { rx = rest }
 abbrev pub with_taken : Machine1 → Machine1
 with_taken m = with_rx m.rx m
 
-unfoldable pub taken : ℕ → Block → Block
+unfoldable pub taken : ℕ → State → State
 taken n s = record s {
   machines = changed n with_taken s.machines;
   rx_under = if is_rx_empty (machine_of n s.machines) then bit_or s.rx_under (2 ^ n) else s.rx_under;

@@ -6,7 +6,7 @@ use Rattle.pio_machine.specs.declared.machine.Machine1.{Machine1}
 use Rattle.pio_machine.specs.declared.machine.Waiting.{Waiting}
 use Rattle.pio_machine.specs.Start as machine
 
-pub record Block : Type 0 where
+pub record State : Type 0 where
   pub machines : List Machine1
   -- the words of the instruction memory
   pub memory : List ℕ
@@ -26,7 +26,7 @@ pub record Block : Type 0 where
   pub inte1 : ℕ
   pub intf1 : ℕ
 
-abbrev pub at_reset : Block
+abbrev pub at_reset : State
 at_reset =
     record {
       machines = replicate 4 machine.at_reset;
@@ -61,7 +61,7 @@ each_from n f (m ∷ ms) = f n m ∷ each_from (n + 1) f ms
 abbrev pub each : (ℕ → Machine1 → Machine1) → List Machine1 → List Machine1
 each f ms = each_from 0 f ms
 
-abbrev pub with_machines : List Machine1 → Block → Block
+abbrev pub with_machines : List Machine1 → State → State
 with_machines ms s = record s { machines = ms }
 
 -- ---- what is asked of the pins
@@ -75,7 +75,7 @@ abbrev pub is_running : Machine1 → Bool
 is_running m = m.enabled || is_written m.waiting
 
 -- the block steps: a machine is enabled, or a written word waits
-abbrev pub is_busy : Block → Bool
+abbrev pub is_busy : State → Bool
 is_busy s = list_any is_running s.machines
 
 -- ---- sets of bits

@@ -20,10 +20,10 @@ pub struct PioBlock {
 }
 
 impl Model for PioBlock {
-    ghost use Rattle.pio_block.specs.State.{Block};
+    ghost use Rattle.pio_block.specs.State.{State};
     ghost use Rattle.pio_block.specs.Told.{AreTold};
 
-    ghost Value = { Block };
+    ghost Value = { State };
 
     ghost view = { λ b. b.state };
 

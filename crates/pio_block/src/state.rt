@@ -25,7 +25,7 @@ pub(crate) struct State {
 }
 
 impl Model for State {
-    ghost use Rattle.pio_block.specs.State.{Block};
+    ghost use Rattle.pio_block.specs.State.{State as Block};
 
     ghost Value = { Block };
 

@@ -10,7 +10,7 @@ use Rattle.std.specs.Int.Bits.{or_zero_r}
 use Rattle.rp_base.specs.Word.{has_bit, bit_number}
 use Rattle.rp_base.specs.Rows.{effect_at}
 use Rattle.rp_base.proofs.Rows.{keeps}
-use Rattle.pwm_block.specs.State.{Slice, Block, slice_at_reset, is_enabled, shown_of}
+use Rattle.pwm_block.specs.State.{Slice, State, slice_at_reset, is_enabled, shown_of}
 use Rattle.pwm_block.specs.Step.{numbered, set_of, acts, is_full, after_event, after_slice, has_wrap, input_of, after_step}
 use Rattle.pwm_block.specs.Outputs.{pins_of, line_of, enabled_of, wires_of}
 use Rattle.pwm_block.specs.Words.{with_csr, only, with_slices, pwm_rows, offset_of, read_at, write_at}
@@ -52,16 +52,16 @@ length-words : (ss : List Slice) → length (all_words ss) ≡ 8 * length ss
 length-words [] = refl
 length-words (s ∷ ss) = omega (arith, length-words ss)
 
-sixty-four : (b : Block) → length b.slices ≡ 8 → length (all_words b.slices) ≡ 64
+sixty-four : (b : State) → length b.slices ≡ 8 → length (all_words b.slices) ≡ 64
 sixty-four b h = omega (arith, length-words b.slices)
 
-index-back : (b : Block) (k : ℕ) → length b.slices ≡ 8
+index-back : (b : State) (k : ℕ) → length b.slices ≡ 8
     → get_or (words_of b) (64 + k) 0 ≡ get_or (pins_of b ∷ signs_of b ∷ b.last ∷ interrupt_word b ∷ []) k 0
 index-back b k h =
     ap (λ (n : ℕ). get_or (words_of b) (n + k) 0) (sym (sixty-four b h))
     ∙ get_or-append-add (all_words b.slices) (pins_of b ∷ signs_of b ∷ b.last ∷ interrupt_word b ∷ []) k 0
 
-set-back : (b : Block) (pads : ℕ) → length b.slices ≡ 8 → slice_set (words_of b) 66 pads ≡ words_of (record b { last = pads })
+set-back : (b : State) (pads : ℕ) → length b.slices ≡ 8 → slice_set (words_of b) 66 pads ≡ words_of (record b { last = pads })
 set-back b pads h =
     set-append_right (all_words b.slices) (pins_of b ∷ signs_of b ∷ b.last ∷ interrupt_word b ∷ []) 64 66 pads (sixty-four b h) (omega arith)
 
@@ -69,7 +69,7 @@ interrupts-back : (r e f : ℕ) → r < 2 ^ 8 → e < 2 ^ 8 → f < 2 ^ 8
     → let w = r % 2 ^ 8 + e % 2 ^ 8 * 2 ^ 8 + f % 2 ^ 8 * 2 ^ 16 in (w % 2 ^ 8 ≡ r) × (w / 2 ^ 8 % 2 ^ 8 ≡ e) × (w / 2 ^ 16 % 2 ^ 8 ≡ f)
 interrupts-back r e f h i j = (omega arith, omega arith, omega arith)
 
-pub block-back : (b : Block) → IsWhole b → block_of (words_of b) ≡ b
+pub block-back : (b : State) → IsWhole b → block_of (words_of b) ≡ b
 block-back b w =
     let ints = interrupts-back b.raised b.enabled b.forced w.raised w.enabled w.forced in
     let word = index-back b 3 w.eight in
@@ -87,7 +87,7 @@ csr-numbered : (f : ℕ → Slice → Slice) → ((n : ℕ) (s : Slice) → s.cs
 csr-numbered f h n [] a = tt
 csr-numbered f h n (s ∷ ss) a = (h n s a.0, csr-numbered f h (n + 1) ss a.1)
 
-whole-slices : (f : ℕ → Slice → Slice) (b : Block) → IsWhole b → ((n : ℕ) (s : Slice) → s.csr < 2 ^ 6 → (f n s).csr < 2 ^ 6)
+whole-slices : (f : ℕ → Slice → Slice) (b : State) → IsWhole b → ((n : ℕ) (s : Slice) → s.csr < 2 ^ 6 → (f n s).csr < 2 ^ 6)
     → IsWhole (with_slices f b)
 whole-slices f b w h = record {
   eight = length-numbered f 0 b.slices ∙ w.eight;
@@ -108,7 +108,7 @@ csr-cycle input was s false e = rw e refl
 below : (a b k : ℕ) → a ≡ b → b < k → a < k
 below a b k e h = omega arith
 
-whole-step : (pads : ℕ) (b : Block) → IsWhole b → IsWhole (after_step pads b)
+whole-step : (pads : ℕ) (b : State) → IsWhole b → IsWhole (after_step pads b)
 whole-step pads b w = record {
   eight = length-numbered (λ n s. after_slice (input_of pads n) (input_of b.last n) s) 0 b.slices ∙ w.eight;
   csr =
@@ -132,7 +132,7 @@ enable-csr : (c : ℕ) (b : Bool) → c < 2 ^ 6 → c / 2 * 2 + bit_number b < 2
 enable-csr c true h = omega arith
 enable-csr c false h = omega arith
 
-whole-write : (offset w : ℕ) (b : Block) → IsWhole b → IsWhole (effect_at pwm_rows offset (Some w) b)
+whole-write : (offset w : ℕ) (b : State) → IsWhole b → IsWhole (effect_at pwm_rows offset (Some w) b)
 whole-write offset w b h =
     keeps IsWhole pwm_rows offset (Some w) b h (
       λ n. (h, λ w. whole-slices _ b h (only-csr n (with_csr w) (λ s i. omega arith))),
@@ -200,7 +200,7 @@ still-wraps pads last n (s ∷ ss) h =
     (still-wrap (input_of pads n) (input_of last n) s (off s _ h))
     ∙ ap (λ (x : ℕ). 0 + x * 2) (still-wraps pads last (n + 1) ss (off-rest (is_enabled s) _ h))
 
-two : (b : Block) (pads r : ℕ) (ss : List Slice) → b.slices ≡ ss → b.raised ≡ r
+two : (b : State) (pads r : ℕ) (ss : List Slice) → b.slices ≡ ss → b.raised ≡ r
     → record b { last = pads } ≡ record b { slices = ss; raised = r; last = pads }
 two b pads r ss h i =
     ap (λ (ts : List Slice). record b { last = pads; slices = ts }) h ∙ ap (λ (x : ℕ). record b { last = pads; slices = ss; raised = x }) i
@@ -208,16 +208,16 @@ two b pads r ss h i =
 or-none : (a b : ℕ) → b ≡ 0 → a ≡ bit_or a b
 or-none a b h = sym (ap (bit_or a) h ∙ or_zero_r a)
 
-still-step : (pads : ℕ) (b : Block) → enabled_of b ≡ 0 → record b { last = pads } ≡ after_step pads b
+still-step : (pads : ℕ) (b : State) → enabled_of b ≡ 0 → record b { last = pads } ≡ after_step pads b
 still-step pads b h =
     two b pads _ _ (sym (still-slices pads b.last 0 b.slices h)) (or-none b.raised _ (still-wraps pads b.last 0 b.slices h))
 
 -- ---- the calls
 
-enabled-lt : (b : Block) → IsWhole b → enabled_of b < 2 ^ 8
+enabled-lt : (b : State) → IsWhole b → enabled_of b < 2 ^ 8
 enabled-lt b w = set_of-lt (λ n s. is_enabled s) 0 b.slices (omega (arith, w.eight))
 
-signs-low : (b : Block) → IsWhole b → signs_of b % 2 ^ 8 ≡ enabled_of b
+signs-low : (b : State) → IsWhole b → signs_of b % 2 ^ 8 ≡ enabled_of b
 signs-low b w = low (enabled_of b) (line_of b) (enabled-lt b w)
   where
     low : (e l : ℕ) → e < 2 ^ 8 → (e + l * 2 ^ 8) % 2 ^ 8 ≡ e
@@ -227,7 +227,7 @@ line-high : (e : ℕ) (l : Bool) → e < 2 ^ 8 → (e + bit_number l * 2 ^ 8) / 
 line-high e true h = omega arith
 line-high e false h = omega arith
 
-wires-back : (b : Block) → IsWhole b → (cycle pads : ℕ) → pwm_device.wires (words_of b) cycle pads ≡ wires_of b
+wires-back : (b : State) → IsWhole b → (cycle pads : ℕ) → pwm_device.wires (words_of b) cycle pads ≡ wires_of b
 wires-back b w cycle pads =
     ap (λ (x : ℕ). record { mask = 0; level = 0; pwm = x; irq = slice_index (words_of b) 65 / 2 ^ 8 % 2 * 2 ^ 4 }) (index-back b 0 w.eight)
     ∙ ap (λ (x : ℕ). record { mask = 0; level = 0; pwm = pins_of b; irq = x * 2 ^ 4 })
@@ -236,19 +236,19 @@ wires-back b w cycle pads =
 is-zero : (a : ℕ) → (a == 0) ≡ true → a ≡ 0
 is-zero a h = grind (arith, nat_tests, common_steps)
 
-step-back : (pads : ℕ) (b : Block) (q : Bool) → IsWhole b → (slice_index (words_of b) 65 % 2 ^ 8 == 0) ≡ q
+step-back : (pads : ℕ) (b : State) (q : Bool) → IsWhole b → (slice_index (words_of b) 65 % 2 ^ 8 == 0) ≡ q
     → cond q (slice_set (words_of b) 66 pads) (words_of (after_step pads (block_of (words_of b)))) ≡ words_of (after_step pads b)
 step-back pads b true w h =
     set-back b pads w.eight
     ∙ ap words_of (still-step pads b (sym (signs-low b w) ∙ sym (ap (λ (x : ℕ). x % 2 ^ 8) (index-back b 1 w.eight)) ∙ is-zero _ h))
-step-back pads b false w h = ap (λ (c : Block). words_of (after_step pads c)) (block-back b w)
+step-back pads b false w h = ap (λ (c : State). words_of (after_step pads c)) (block-back b w)
 
-calls-back : (b : Block) → IsWhole b → DoAsTheBlock (words_of b) b
+calls-back : (b : State) → IsWhole b → DoAsTheBlock (words_of b) b
 calls-back b w = record {
   value = λ address. ap (read_at address) (block-back b w);
   after_read = λ address. record { words = refl; whole = w };
   after_write = λ address value. record {
-    words = ap (λ (c : Block). words_of (write_at address value c)) (block-back b w);
+    words = ap (λ (c : State). words_of (write_at address value c)) (block-back b w);
     whole = whole-write (offset_of address) (aliased (address / 2 ^ 12 % 4) (read_at address b) value) b w;
   };
   wires = wires-back b w;

@@ -6,7 +6,7 @@ use Rattle.std.proofs.lemmas.Grind.{common_steps}
 use Rattle.std.proofs.lemmas.Bool.Decides.{nat_tests}
 use Rattle.std.proofs.lemmas.Nat.Bits.{bit_at_cat_low, bit_at_cat_high}
 use Rattle.rp_base.specs.Word.{has_bit, bit_number}
-use Rattle.pwm_block.specs.State.{Slice, Block, slice_at_reset}
+use Rattle.pwm_block.specs.State.{Slice, State, slice_at_reset}
 use Rattle.pwm_block.specs.Outputs.{output_a, output_b, outputs_of}
 use Rattle.pwm_block.specs.Laws.{HasItsOutput, EachPinHasItsOutput}
 use Rattle.pwm_block.proofs.Slices.{outputs_of-lt}
@@ -69,13 +69,13 @@ pin-high x i j h e =
     ap (λ y. y == 1)
     (ap (λ y. bit_at y i) (twice x) ∙ bit_at_cat_high x 16 x i h (omega arith) ∙ ap (λ k. bit_at x k) (omega arith))
 
-lower : (b : Block) (n : ℕ) → length b.slices ≡ 8 → n < 8 → HasItsOutput b n
+lower : (b : State) (n : ℕ) → length b.slices ≡ 8 → n < 8 → HasItsOutput b n
 lower b n e h = record {
   even = pin-low (outputs_of b.slices) (2 * n) (omega arith) ∙ out-a b.slices n (omega (arith, e)) ∙ ap (λ (k : ℕ). output_a (slice_index_or b.slices k slice_at_reset)) (omega arith);
   odd = pin-low (outputs_of b.slices) (2 * n + 1) (omega arith) ∙ out-b b.slices n (omega (arith, e)) ∙ ap (λ (k : ℕ). output_b (slice_index_or b.slices k slice_at_reset)) (omega arith);
 }
 
-upper : (b : Block) (n m : ℕ) → length b.slices ≡ 8 → n ≡ m + 8 → m < 8 → HasItsOutput b n
+upper : (b : State) (n m : ℕ) → length b.slices ≡ 8 → n ≡ m + 8 → m < 8 → HasItsOutput b n
 upper b n m e i h =
     let lt = outputs_of-lt b.slices (omega (arith, e)) in
     record {
@@ -83,7 +83,7 @@ upper b n m e i h =
       odd = pin-high (outputs_of b.slices) (2 * n + 1) (2 * m + 1) lt (omega arith) ∙ out-b b.slices m (omega (arith, e)) ∙ ap (λ (k : ℕ). output_b (slice_index_or b.slices k slice_at_reset)) (omega arith);
     }
 
-either : (b : Block) (n : ℕ) (q : Bool) → nat_lt n 8 ≡ q → length b.slices ≡ 8 → n < 16 → HasItsOutput b n
+either : (b : State) (n : ℕ) (q : Bool) → nat_lt n 8 ≡ q → length b.slices ≡ 8 → n < 16 → HasItsOutput b n
 either b n true q e h = lower b n e (less n q)
   where
     less : (n : ℕ) → nat_lt n 8 ≡ true → n < 8

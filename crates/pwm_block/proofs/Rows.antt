@@ -6,29 +6,29 @@ use Rattle.std.proofs.lemmas.Bool.Decides.{nat_tests}
 use Rattle.std.proofs.lemmas.List.{get_or-drop, get_or-take, drop-drop}
 use Rattle.rp_base.specs.Rows.{Row, at_row, word_at, effect_at}
 use Rattle.rp_base.proofs.Rows.{cut, in_stride, strided}
-use Rattle.pwm_block.specs.State.{Slice, Block, slice_at_reset, slice_at}
+use Rattle.pwm_block.specs.State.{Slice, State, slice_at_reset, slice_at}
 use Rattle.pwm_block.specs.Words.{with_csr, with_div, with_ctr, with_cc, with_top, only, with_slices, slice_rows, block_rows, pwm_rows}
 use Rattle.pwm_block.specs.Packing.{slice_of, slices_in, block_of}
 use Rattle.pwm_block.proofs.Slices.{one_more}
 
-pub words : (at : ℕ) (b : Block) → word_at pwm_rows tt at b
+pub words : (at : ℕ) (b : State) → word_at pwm_rows tt at b
     ≡ (if nat_lt at 0xa0 then word_at slice_rows tt at b else word_at block_rows tt at b)
 words at b = cut None (λ row n. Some (row.reads n tt b)) 0xa0 slice_rows block_rows at refl
 
-pub writes : (at w : ℕ) (b : Block) → effect_at pwm_rows at (Some w) b
+pub writes : (at w : ℕ) (b : State) → effect_at pwm_rows at (Some w) b
     ≡ (if nat_lt at 0xa0 then effect_at slice_rows at (Some w) b else effect_at block_rows at (Some w) b)
 writes at w b = cut b (λ row n. row.write_does n w b) 0xa0 slice_rows block_rows at refl
 
 -- ---- the rows of the slices
 
-by-slice : {A : Type 0} (none : A) (found : Row ⊤ Block → ℕ → A) (at j : ℕ) → at < 160 → at % 20 ≡ j
+by-slice : {A : Type 0} (none : A) (found : Row ⊤ State → ℕ → A) (at j : ℕ) → at < 160 → at % 20 ≡ j
     → at_row none found slice_rows at ≡ in_stride 0 none (λ row. found row (at / 20)) slice_rows j
 by-slice none found at j h e = strided none found 0 8 20 slice_rows (at / 20) j at refl (omega arith) (omega (arith, e)) (omega (arith, e))
 
 other : (j k : ℕ) → j ≢ k → (0 + j == k) ≡ false
 other j k h = grind (arith, nat_tests, common_steps)
 
-at-none : {A : Type 0} (none : A) (found : Row ⊤ Block → ℕ → A) (at : ℕ) → at < 160
+at-none : {A : Type 0} (none : A) (found : Row ⊤ State → ℕ → A) (at : ℕ) → at < 160
     → at % 20 ≢ 0 → at % 20 ≢ 4 → at % 20 ≢ 8 → at % 20 ≢ 12 → at % 20 ≢ 16 → at_row none found slice_rows at ≡ none
 at-none none found at low e f g h i =
     by-slice none found at (at % 20) low refl
@@ -36,27 +36,27 @@ at-none none found at low e f g h i =
 
 -- ---- what is written there
 
-pub csr_write : (at w : ℕ) (b : Block) → at < 160 → at % 20 ≡ 0
+pub csr_write : (at w : ℕ) (b : State) → at < 160 → at % 20 ≡ 0
     → effect_at slice_rows at (Some w) b ≡ with_slices (only (at / 20) (with_csr w)) b
 csr_write at w b h e = by-slice b (λ row n. row.write_does n w b) at 0 h e
 
-pub div_write : (at w : ℕ) (b : Block) → at < 160 → at % 20 ≡ 4
+pub div_write : (at w : ℕ) (b : State) → at < 160 → at % 20 ≡ 4
     → effect_at slice_rows at (Some w) b ≡ with_slices (only (at / 20) (with_div w)) b
 div_write at w b h e = by-slice b (λ row n. row.write_does n w b) at 4 h e
 
-pub ctr_write : (at w : ℕ) (b : Block) → at < 160 → at % 20 ≡ 8
+pub ctr_write : (at w : ℕ) (b : State) → at < 160 → at % 20 ≡ 8
     → effect_at slice_rows at (Some w) b ≡ with_slices (only (at / 20) (with_ctr w)) b
 ctr_write at w b h e = by-slice b (λ row n. row.write_does n w b) at 8 h e
 
-pub cc_write : (at w : ℕ) (b : Block) → at < 160 → at % 20 ≡ 12
+pub cc_write : (at w : ℕ) (b : State) → at < 160 → at % 20 ≡ 12
     → effect_at slice_rows at (Some w) b ≡ with_slices (only (at / 20) (with_cc w)) b
 cc_write at w b h e = by-slice b (λ row n. row.write_does n w b) at 12 h e
 
-pub top_write : (at w : ℕ) (b : Block) → at < 160 → at % 20 ≡ 16
+pub top_write : (at w : ℕ) (b : State) → at < 160 → at % 20 ≡ 16
     → effect_at slice_rows at (Some w) b ≡ with_slices (only (at / 20) (with_top w)) b
 top_write at w b h e = by-slice b (λ row n. row.write_does n w b) at 16 h e
 
-pub no_write : (at w : ℕ) (b : Block) → at < 160 → at % 20 ≢ 0 → at % 20 ≢ 4 → at % 20 ≢ 8 → at % 20 ≢ 12 → at % 20 ≢ 16
+pub no_write : (at w : ℕ) (b : State) → at < 160 → at % 20 ≢ 0 → at % 20 ≢ 4 → at % 20 ≢ 8 → at % 20 ≢ 12 → at % 20 ≢ 16
     → effect_at slice_rows at (Some w) b ≡ b
 no_write at w b low e f g h i = at-none b (λ row n. row.write_does n w b) at low e f g h i
 

@@ -4,7 +4,7 @@ use Rattle.std.specs.Prelude.{◌==◌, not, replicate, bit_and, bit_or}
 use Rattle.std.specs.Int.Bits.{or_zero_r}
 use Rattle.std.proofs.lemmas.List.{take-take, drop-take}
 use Rattle.rp_base.specs.Word.{bit_number}
-use Rattle.pwm_block.specs.State.{Slice, Block, slice_at_reset, at_reset, is_enabled}
+use Rattle.pwm_block.specs.State.{Slice, State, slice_at_reset, at_reset, is_enabled}
 use Rattle.pwm_block.specs.Step.{numbered, set_of}
 use Rattle.pwm_block.specs.Outputs.{outputs_of, output_a, output_b}
 use Rattle.pwm_block.specs.Words.{with_slices}
@@ -209,7 +209,7 @@ set_of-below x p n left ws e h = omega (arith, e, set_of-lt p n (slices_in left 
 -- ---- the whole block
 
 pub five : (ss ts : List Slice) (a b c d e f g h : ℕ) → ss ≡ ts → a ≡ b → c ≡ d → e ≡ f → g ≡ h
-    → (let x : Block = record { slices = ss; last = a; raised = c; enabled = e; forced = g } in x)
+    → (let x : State = record { slices = ss; last = a; raised = c; enabled = e; forced = g } in x)
     ≡ record { slices = ts; last = b; raised = d; enabled = f; forced = h }
 five ss ts a b c d e f g h i j k l m =
     ap (λ (x : List Slice). record { slices = x; last = a; raised = c; enabled = e; forced = g }) i
@@ -219,7 +219,7 @@ five ss ts a b c d e f g h i j k l m =
     ∙ ap (λ (x : ℕ). record { slices = ts; last = b; raised = d; enabled = f; forced = x }) m
 
 -- the block after a change, by the slices that were found
-abbrev after : (ℕ → Slice → Slice) → (ℕ → Slice → Bool) → ℕ → ℕ → ℕ → ℕ → List Slice → Block
+abbrev after : (ℕ → Slice → Slice) → (ℕ → Slice → Bool) → ℕ → ℕ → ℕ → ℕ → List Slice → State
 after f p last r e fo ss = record { slices = numbered f 0 ss; last = last; raised = bit_or r (set_of p 0 ss); enabled = e; forced = fo }
 
 joined : (f : ℕ → Slice → Slice) (p : ℕ → Slice → Bool) (last r e fo o en w : ℕ) (ss : List Slice) (head signs : List ℕ)

@@ -2,7 +2,7 @@
 use Rattle.std.specs.Prelude.{◌≡◌, ℕ, zero, suc, ◌+◌, ◌-◌, ◌*◌, ◌/◌, ◌%◌, ◌^◌, ◌<◌, ◌≤◌, ◌==◌, Bool, true, false, min, if◌then◌else◌, List, length, slice_index_or}
 use Rattle.std.specs.List.{AllByRecursion}
 use Rattle.rp_base.specs.Word.{has_bit, bit_number}
-use Rattle.pwm_block.specs.State.{Slice, Block, slice_at_reset, at_reset, is_enabled, is_phase_correct, mode_of, divisor_of}
+use Rattle.pwm_block.specs.State.{Slice, State, slice_at_reset, at_reset, is_enabled, is_phase_correct, mode_of, divisor_of}
 use Rattle.pwm_block.specs.Step.{counted, after_slice, has_wrap, after_step}
 use Rattle.pwm_block.specs.Outputs.{output_a, output_b, pins_of, wires_of}
 use Rattle.pwm_block.specs.Words.{with_cc, with_top, read_at, write_at}
@@ -102,7 +102,7 @@ PhaseCorrectPeriodsAreSymmetric = (s : Slice) → IsAtStart s → is_phase_corre
 -- ---- the words
 
 -- eight slices with a CSR of six bits, and interrupts of eight slices
-pub record IsWhole (b : Block) : Type 0 where
+pub record IsWhole (b : State) : Type 0 where
   pub eight : length b.slices ≡ 8
   pub csr : AllByRecursion (λ s. s.csr < 2 ^ 6) b.slices
   pub raised : b.raised < 2 ^ 8
@@ -110,12 +110,12 @@ pub record IsWhole (b : Block) : Type 0 where
   pub forced : b.forced < 2 ^ 8
 
 -- words hold a block
-pub record Holds (ws : List ℕ) (b : Block) : Type 0 where
+pub record Holds (ws : List ℕ) (b : State) : Type 0 where
   pub words : ws ≡ words_of b
   pub whole : IsWhole b
 
 -- each call of the device does to words that hold a block what it does to the block
-pub record DoAsTheBlock (ws : List ℕ) (b : Block) : Type 0 where
+pub record DoAsTheBlock (ws : List ℕ) (b : State) : Type 0 where
   pub value : (address : ℕ) → pwm_device.value ws address ≡ read_at address b
   pub after_read : (address : ℕ) → Holds (pwm_device.after_read ws address) b
   pub after_write : (address value : ℕ) → Holds (pwm_device.after_write ws address value) (write_at address value b)
@@ -124,15 +124,15 @@ pub record DoAsTheBlock (ws : List ℕ) (b : Block) : Type 0 where
 
 pub record AreTheBlock : Type 0 where
   pub first : (ws : List ℕ) → Holds (pwm_device.first ws) at_reset
-  pub calls : (ws : List ℕ) (b : Block) → Holds ws b → DoAsTheBlock ws b
+  pub calls : (ws : List ℕ) (b : State) → Holds ws b → DoAsTheBlock ws b
 
 abbrev pub TheWordsHoldTheBlock : Type 0
 TheWordsHoldTheBlock = AreTheBlock
 
 -- pin p has output A or B of slice p div 2, from 16 on of the slices anew
-pub record HasItsOutput (b : Block) (n : ℕ) : Type 0 where
+pub record HasItsOutput (b : State) (n : ℕ) : Type 0 where
   pub even : has_bit (pins_of b) (2 * n) ≡ output_a (slice_index_or b.slices (n % 8) slice_at_reset)
   pub odd : has_bit (pins_of b) (2 * n + 1) ≡ output_b (slice_index_or b.slices (n % 8) slice_at_reset)
 
 abbrev pub EachPinHasItsOutput : Type 0
-EachPinHasItsOutput = (b : Block) (n : ℕ) → length b.slices ≡ 8 → n < 16 → HasItsOutput b n
+EachPinHasItsOutput = (b : State) (n : ℕ) → length b.slices ≡ 8 → n < 16 → HasItsOutput b n

@@ -2,7 +2,7 @@
 use Rattle.std.specs.Prelude.{ℕ, ◌+◌, ◌*◌, ◌/◌, ◌%◌, ◌^◌, Bool, not, ◌==◌, nat_lt, if◌then◌else◌, List, [], ◌∷◌}
 use Rattle.lane_look.specs.declared.device.Wires.{Wires}
 use Rattle.rp_base.specs.Word.{has_bit, bit_number}
-use Rattle.pwm_block.specs.State.{Slice, Block, is_enabled, shown_of}
+use Rattle.pwm_block.specs.State.{Slice, State, is_enabled, shown_of}
 use Rattle.pwm_block.specs.Step.{set_of}
 
 -- high where CTR is below its half of CC, and turned by A_INV or B_INV, whether or not the slice is enabled
@@ -21,16 +21,16 @@ outputs_of [] = 0
 outputs_of (s ∷ ss) = (bit_number (output_a s) + bit_number (output_b s) * 2) + outputs_of ss * 4
 
 -- pins 0 to 15 have the outputs of slices 0 to 7, and those from 16 on have them again
-abbrev pub pins_of : Block → ℕ
+abbrev pub pins_of : State → ℕ
 pins_of b = outputs_of b.slices * (2 ^ 16 + 1)
 
 -- PWM_IRQ_WRAP, the interrupt line 4
-abbrev pub line_of : Block → ℕ
+abbrev pub line_of : State → ℕ
 line_of b = bit_number (not (shown_of b == 0))
 
-abbrev pub wires_of : Block → Wires
+abbrev pub wires_of : State → Wires
 wires_of b = record { mask = 0; level = 0; pwm = pins_of b; irq = line_of b * 2 ^ 4 }
 
 -- the slices that are enabled
-abbrev pub enabled_of : Block → ℕ
+abbrev pub enabled_of : State → ℕ
 enabled_of b = set_of (λ n s. is_enabled s) 0 b.slices

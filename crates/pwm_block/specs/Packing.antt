@@ -2,7 +2,7 @@
 -- with the interrupt line, the last levels of the pads, and the interrupts.
 use Rattle.std.specs.Prelude.{ℕ, zero, suc, ◌+◌, ◌*◌, ◌/◌, ◌%◌, ◌^◌, List, [], ◌∷◌, ◌++◌, take, drop, slice_index}
 use Rattle.rp_base.specs.Word.{has_bit, bit_number}
-use Rattle.pwm_block.specs.State.{Slice, Block}
+use Rattle.pwm_block.specs.State.{Slice, State}
 use Rattle.pwm_block.specs.Outputs.{pins_of, line_of, enabled_of}
 
 -- ---- the eight words of a slice
@@ -38,16 +38,16 @@ all_words (s ∷ ss) = slice_words s ++ all_words ss
 -- ---- the block
 
 -- the enabled slices, and above them the interrupt line
-abbrev pub signs_of : Block → ℕ
+abbrev pub signs_of : State → ℕ
 signs_of b = enabled_of b + line_of b * 2 ^ 8
 
-abbrev pub interrupt_word : Block → ℕ
+abbrev pub interrupt_word : State → ℕ
 interrupt_word b = b.raised % 2 ^ 8 + b.enabled % 2 ^ 8 * 2 ^ 8 + b.forced % 2 ^ 8 * 2 ^ 16
 
-abbrev pub words_of : Block → List ℕ
+abbrev pub words_of : State → List ℕ
 words_of b = all_words b.slices ++ pins_of b ∷ signs_of b ∷ b.last ∷ interrupt_word b ∷ []
 
-abbrev pub block_of : List ℕ → Block
+abbrev pub block_of : List ℕ → State
 block_of ws =
     record {
       slices = slices_in 8 ws;

@@ -20,7 +20,7 @@ pub record Slice : Type 0 where
   -- the divider: the sixteenths of a cycle that are gathered for the next count
   pub acc : ℕ
 
-pub record Block : Type 0 where
+pub record State : Type 0 where
   -- slices 0 to 7
   pub slices : List Slice
   -- the levels of the pads in the last cycle, pad 0 in bit 0
@@ -34,10 +34,10 @@ abbrev pub slice_at_reset : Slice
 slice_at_reset =
     record { csr = 0; div = 0x10; ctr = 0; cc = 0; top = 0xffff; live_cc = 0; live_top = 0xffff; down = false; acc = 0 }
 
-abbrev pub at_reset : Block
+abbrev pub at_reset : State
 at_reset = record { slices = replicate 8 slice_at_reset; last = 0; raised = 0; enabled = 0; forced = 0 }
 
-abbrev pub slice_at : Block → ℕ → Slice
+abbrev pub slice_at : State → ℕ → Slice
 slice_at b n = slice_index_or b.slices n slice_at_reset
 
 -- ---- the fields of CSR and DIV
@@ -56,5 +56,5 @@ abbrev pub divisor_of : Slice → ℕ
 divisor_of s = (if s.div / 2 ^ 4 % 2 ^ 8 == 0 then 256 else s.div / 2 ^ 4 % 2 ^ 8) * 16 + s.div % 2 ^ 4
 
 -- INTS
-abbrev pub shown_of : Block → ℕ
+abbrev pub shown_of : State → ℕ
 shown_of b = bit_or (bit_and b.raised b.enabled) b.forced

@@ -3,7 +3,7 @@
 -- Period).
 use Rattle.std.specs.Prelude.{ℕ, ◌+◌, ◌-◌, ◌*◌, ◌%◌, ◌^◌, Bool, true, not, ◌&&◌, ◌==◌, nat_le, if◌then◌else◌, List, [], ◌∷◌, bit_or}
 use Rattle.rp_base.specs.Word.{has_bit, bit_number}
-use Rattle.pwm_block.specs.State.{Slice, Block, is_enabled, is_phase_correct, mode_of, divisor_of}
+use Rattle.pwm_block.specs.State.{Slice, State, is_enabled, is_phase_correct, mode_of, divisor_of}
 
 -- ---- a count
 
@@ -74,7 +74,7 @@ set_of p n (s ∷ ss) = bit_number (p n s) + set_of p (n + 1) ss * 2
 abbrev pub input_of : ℕ → ℕ → Bool
 input_of pads n = has_bit pads (2 * n + 1)
 
-abbrev pub after_step : ℕ → Block → Block
+abbrev pub after_step : ℕ → State → State
 after_step pads b =
     record b {
       slices = numbered (λ n s. after_slice (input_of pads n) (input_of b.last n) s) 0 b.slices;

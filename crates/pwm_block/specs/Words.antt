@@ -3,7 +3,7 @@ use Rattle.std.specs.Prelude.{ℕ, ◌+◌, ◌*◌, ◌/◌, ◌%◌, ◌^◌, 
 use Rattle.rp_base.specs.Alias.{aliased, or_zero}
 use Rattle.rp_base.specs.Rows.{Row, read_only, read_write, repeated, word_at, effect_at, IsListed}
 use Rattle.rp_base.specs.Word.{minus, bit_number, has_bit}
-use Rattle.pwm_block.specs.State.{Slice, Block, slice_at, is_enabled, shown_of}
+use Rattle.pwm_block.specs.State.{Slice, State, slice_at, is_enabled, shown_of}
 use Rattle.pwm_block.specs.Step.{numbered}
 use Rattle.pwm_block.specs.Outputs.{enabled_of}
 
@@ -33,12 +33,12 @@ with_enable w n s = record s { csr = s.csr / 2 * 2 + bit_number (has_bit w n) }
 abbrev pub only : ℕ → (Slice → Slice) → ℕ → Slice → Slice
 only number g n s = if n == number then g s else s
 
-abbrev pub with_slices : (ℕ → Slice → Slice) → Block → Block
+abbrev pub with_slices : (ℕ → Slice → Slice) → State → State
 with_slices f b = record b { slices = numbered f 0 b.slices }
 
 -- ---- the rows
 
-abbrev pub slice_rows : List (Row ⊤ Block)
+abbrev pub slice_rows : List (Row ⊤ State)
 slice_rows =
     repeated 8 20 (λ n. read_write 0x00 "CHn_CSR" (λ b. (slice_at b n).csr) (λ w. with_slices (only n (with_csr w))))
     ∷ repeated 8 20 (λ n. read_write 0x04 "CHn_DIV" (λ b. (slice_at b n).div) (λ w. with_slices (only n (with_div w))))
@@ -48,7 +48,7 @@ slice_rows =
     ∷ []
 
 -- a 1 written to INTR clears
-abbrev pub block_rows : List (Row ⊤ Block)
+abbrev pub block_rows : List (Row ⊤ State)
 block_rows =
     read_write 0xa0 "EN" (λ b. enabled_of b) (λ w. with_slices (with_enable w))
     ∷ read_write 0xa4 "INTR" (λ b. b.raised) (λ w b. record b { raised = minus b.raised w })
@@ -58,7 +58,7 @@ block_rows =
     ∷ []
 
 -- PH_RET and PH_ADV of CSR are left out
-abbrev pub pwm_rows : List (Row ⊤ Block)
+abbrev pub pwm_rows : List (Row ⊤ State)
 pwm_rows = slice_rows ++ block_rows
 
 abbrev pub EachRegisterIsAtItsOffset : Type 0
@@ -74,9 +74,9 @@ is_pwm address = address / 2 ^ 14 == 0x40050000 / 2 ^ 14
 abbrev pub offset_of : ℕ → ℕ
 offset_of address = address % 2 ^ 12 / 4 * 4
 
-abbrev pub read_at : ℕ → Block → ℕ
+abbrev pub read_at : ℕ → State → ℕ
 read_at address b = or_zero (word_at pwm_rows tt (offset_of address) b)
 
-abbrev pub write_at : ℕ → ℕ → Block → Block
+abbrev pub write_at : ℕ → ℕ → State → State
 write_at address value b =
     effect_at pwm_rows (offset_of address) (Some (aliased (address / 2 ^ 12 % 4) (read_at address b) value)) b

@@ -12,17 +12,17 @@ use Rattle.m0_core.specs.declared.doing.Doing.{Doing}
 use Rattle.m0_core.specs.Fetch as core_asks
 use Rattle.m0_core.specs.Cycle as core
 use Rattle.m0_core.specs.Quiet as core_quiet
-use Rattle.dma_engine.specs.State.{Engine}
+use Rattle.dma_engine.specs.State.{State as Engine}
 use Rattle.dma_engine.specs.Cycle as dma
-use Rattle.pio_block.specs.State.{Block as Pio}
+use Rattle.pio_block.specs.State.{State as Pio}
 use Rattle.pio_block.specs.Cycle as pio
 use Rattle.pio_block.proofs.Between.{a_quiet_block_shows_the_same}
-use Rattle.sio_block.specs.State.{SioState}
+use Rattle.sio_block.specs.State.{State as SioState}
 use Rattle.sio_block.specs.Launcher.{offers_of}
 use Rattle.sio_block.specs.Cycle as sio_end
-use Rattle.io_bank.specs.State.{Bank}
+use Rattle.io_bank.specs.State.{State as Bank}
 use Rattle.outer_lane.specs.Setting.{Setting}
-use Rattle.outer_lane.specs.State.{OuterState}
+use Rattle.outer_lane.specs.State.{State as OuterState}
 use Rattle.outer_lane.specs.declared.world.SeenOutputs.{SeenOutputs}
 use Rattle.outer_lane.specs.Step as outer
 use Rattle.outer_lane.specs.Quiet as outer_quiet

@@ -12,7 +12,7 @@ use std::sync::ledger::Ledger;
 /// What may stop core 0 at work, by the state behind a cycle; the DMA engine, PIO and the peripherals are not looked at.
 pub trait Watch {
     ghost use Rattle.std.specs.Prelude.{◌≡◌, ℕ, ◌+◌, ◌^◌, ◌<◌, ◌≤◌, Bool, false};
-    ghost use Rattle.outer_lane.specs.State.{OuterState};
+    ghost use Rattle.outer_lane.specs.State.{State as OuterState};
     ghost use Rattle.rp_machine.specs.State.{State};
     ghost use Rattle.rp_machine.specs.Alone.{Blocks};
     ghost use Rattle.rp_machine.specs.Inward.{with_beside, inward_after, StaysInward};

@@ -7,7 +7,7 @@ use Rattle.rp_base.specs.Map.{place_of}
 use Rattle.rp_base.specs.Word.{has_bit}
 use Rattle.rp_base.specs.declared.Why.{Why}
 use Rattle.m0_core.specs.Begins.{begins}
-use Rattle.io_bank.specs.State.{Bank}
+use Rattle.io_bank.specs.State.{State as Bank}
 use Rattle.outer_lane.specs.Setting.{Setting}
 use Rattle.rp_machine.specs.State.{State}
 use Rattle.rp_machine.specs.Cycle.{stop, next}

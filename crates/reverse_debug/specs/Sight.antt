@@ -1,7 +1,7 @@
 -- What is watched while core 0 is at work by itself, which does not look at the other lanes (the project's own).
 use Rattle.std.proofs.Common.{refl}
 use Rattle.std.specs.Prelude.{◌≡◌, Bool, true, false, not, ◌==◌}
-use Rattle.outer_lane.specs.State.{OuterState}
+use Rattle.outer_lane.specs.State.{State as OuterState}
 use Rattle.rp_machine.specs.State.{State}
 use Rattle.rp_machine.specs.Alone.{Blocks}
 use Rattle.rp_machine.specs.Inward.{with_beside}

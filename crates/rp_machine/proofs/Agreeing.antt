@@ -10,11 +10,11 @@ use Rattle.m0_core.specs.declared.doing.Doing.{Doing as CoreDoing}
 use Rattle.m0_core.specs.Cycle as core_steps
 use Rattle.outer_lane.specs.Setting.{Setting}
 use Rattle.outer_lane.specs.declared.world.SeenOutputs.{SeenOutputs}
-use Rattle.outer_lane.specs.State.{OuterState, outer_at_start, outer_reset}
+use Rattle.outer_lane.specs.State.{State as OuterState, outer_at_start, outer_reset}
 use Rattle.outer_lane.specs.Step as outer_steps
 use Rattle.outer_lane.specs.Words.{outer_accessed}
 use Rattle.outer_lane.specs.Device.{device_accessed}
-use Rattle.sio_block.specs.State.{SioState}
+use Rattle.sio_block.specs.State.{State as SioState}
 use Rattle.sio_block.specs.State as sio_state
 use Rattle.sio_block.specs.Launcher.{offers_of}
 use Rattle.outer_lane.proofs.Accesses.{SameCopies, access_leaves, device_leaves, pads_reset}

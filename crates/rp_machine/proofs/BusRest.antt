@@ -6,7 +6,7 @@ use Rattle.lane_look.specs.declared.lane.Want.TheVariants as want
 use Rattle.bus_fabric.specs.State.{has_hold}
 use Rattle.bus_fabric.proofs.Alone.{nobody-after}
 use Rattle.sio_block.specs.declared.Launch.{Launch}
-use Rattle.sio_block.specs.State.{SioState}
+use Rattle.sio_block.specs.State.{State as SioState}
 use Rattle.sio_block.specs.Launcher.{offers_of, launch_of, after_turn}
 use Rattle.outer_lane.specs.Setting.{Setting}
 use Rattle.rp_machine.specs.declared.begun.Begun.{Begun}

@@ -1,11 +1,11 @@
 -- The DMA engine and both PIO blocks, which are quiet.
 use Rattle.std.proofs.Common.{◌≡◌, ℕ, ◌≤◌, refl, ap, subst, arith}
 use Rattle.rp_base.specs.Resettable.{with_block}
-use Rattle.dma_engine.specs.State.{Engine}
+use Rattle.dma_engine.specs.State.{State as Engine}
 use Rattle.dma_engine.specs.Quiet as dma
 use Rattle.dma_engine.proofs.Lasting.{engine_none, none_quiet}
 use Rattle.dma_engine.proofs.Lasting as dma_proofs
-use Rattle.pio_block.specs.State.{Block as Pio}
+use Rattle.pio_block.specs.State.{State as Pio}
 use Rattle.pio_block.specs.Quiet as pio
 use Rattle.pio_block.proofs.Between.{block_none}
 use Rattle.pio_block.proofs.Between as pio_proofs

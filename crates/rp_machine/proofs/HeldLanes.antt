@@ -5,7 +5,7 @@ use Rattle.rp_base.specs.declared.op.Op.{Op}
 use Rattle.lane_look.specs.declared.lane.Turn.{Turn}
 use Rattle.outer_lane.specs.Setting.{Setting}
 use Rattle.outer_lane.specs.declared.world.SeenOutputs.{SeenOutputs}
-use Rattle.outer_lane.specs.State.{OuterState}
+use Rattle.outer_lane.specs.State.{State as OuterState}
 use Rattle.outer_lane.specs.Step as outer
 use Rattle.outer_lane.proofs.Accesses.{SameCopies}
 use Rattle.m0_core.specs.declared.doing.Act.{Act}

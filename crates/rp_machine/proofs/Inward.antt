@@ -24,12 +24,12 @@ use Rattle.bus_fabric.proofs.Alone.{nobody-after}
 use Rattle.dma_engine.specs.Words as dma_words
 use Rattle.pio_block.specs.Words as pio_words
 use Rattle.pio_block.proofs.Between.{a_quiet_block_shows_the_same}
-use Rattle.sio_block.specs.State.{SioState}
+use Rattle.sio_block.specs.State.{State as SioState}
 use Rattle.sio_block.specs.Launcher.{offers_of}
-use Rattle.io_bank.specs.State.{Bank}
+use Rattle.io_bank.specs.State.{State as Bank}
 use Rattle.io_bank.specs.Levels.{inputs_of as inputs_of_pads}
 use Rattle.outer_lane.specs.Setting.{Setting}
-use Rattle.outer_lane.specs.State.{OuterState}
+use Rattle.outer_lane.specs.State.{State as OuterState}
 use Rattle.outer_lane.specs.Lines.{outer_lines, outer_inputs, outer_pacing}
 use Rattle.outer_lane.specs.declared.world.SeenOutputs.{SeenOutputs}
 use Rattle.outer_lane.specs.Step as outer

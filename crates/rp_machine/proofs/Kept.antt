@@ -11,7 +11,7 @@ use Rattle.rp_base.proofs.Rows.{keeps}
 use Rattle.m0_core.specs.State.{State as Core}
 use Rattle.ram_banks.specs.Lanes.{with_lanes}
 use Rattle.sio_block.specs.declared.Launch.{Launch}
-use Rattle.sio_block.specs.State.{SioState}
+use Rattle.sio_block.specs.State.{State as SioState}
 use Rattle.sio_block.specs.Launcher.{offers_of, launch_of, after_turn}
 use Rattle.outer_lane.specs.Setting.{Setting}
 use Rattle.outer_lane.proofs.Accesses as outer_accesses

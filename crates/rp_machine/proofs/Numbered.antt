@@ -22,7 +22,7 @@ use Rattle.rp_uart.specs.Interrupts.{is_line_high}
 use Rattle.rp_base.specs.Rows.{Each, is_at, number_at}
 use Rattle.sio_block.specs.Locks.{lock_word}
 use Rattle.sio_block.specs.Side.{line_of}
-use Rattle.sio_block.specs.State.{SioState}
+use Rattle.sio_block.specs.State.{State as SioState}
 use Rattle.sio_block.specs.Words as sio
 use Rattle.outer_lane.specs.declared.world.SeenOutputs.{SeenOutputs}
 use Rattle.outer_lane.specs.Lines.{bank_line, outer_lines}

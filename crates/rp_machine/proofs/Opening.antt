@@ -7,11 +7,11 @@ use Rattle.rp_base.specs.Held.{unless_held}
 use Rattle.rp_base.specs.declared.resettable.Resettable.{Resettable}
 use Rattle.rp_base.specs.declared.Request.{Request}
 use Rattle.rp_base.specs.declared.map.Block.{Block as Place}
-use Rattle.pio_block.specs.State.{Block}
+use Rattle.pio_block.specs.State.{State as Block}
 use Rattle.pio_block.specs.Words.{pio_rows, is_word, is_allowed, sets_left_out, word_of}
 use Rattle.outer_lane.specs.declared.world.SeenOutputs.{SeenOutputs}
 use Rattle.outer_lane.specs.Setting.{Setting}
-use Rattle.outer_lane.specs.State.{OuterState}
+use Rattle.outer_lane.specs.State.{State as OuterState}
 use Rattle.outer_lane.specs.Words.{outer_word, outer_allowed}
 use Rattle.outer_lane.proofs.Accesses.{some-read, outer_open}
 use Rattle.rp_machine.specs.Deeds.{opens}

@@ -8,7 +8,7 @@ use Rattle.lane_look.specs.Asking.{Asking, answered}
 use Rattle.lane_look.specs.Asking.Asking.{Ready, Question}
 use Rattle.io_bank.specs.Levels.{is_used}
 use Rattle.outer_lane.specs.Setting.{Setting}
-use Rattle.outer_lane.specs.State.{OuterState}
+use Rattle.outer_lane.specs.State.{State as OuterState}
 use Rattle.outer_lane.specs.declared.world.SeenOutputs.{SeenOutputs}
 use Rattle.outer_lane.specs.Step.{asks, asks_second, seen_of, pins_in, no_pins}
 use Rattle.outer_lane.specs.Quiet.{seen_in}

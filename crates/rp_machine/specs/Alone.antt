@@ -10,10 +10,10 @@ use Rattle.lane_look.specs.declared.lane.Turn.{Turn}
 use Rattle.lane_look.specs.declared.lane.Turn.TheVariants as turn
 use Rattle.m0_core.specs.declared.doing.Doing.{Doing}
 use Rattle.m0_core.specs.Cycle as core
-use Rattle.dma_engine.specs.State.{Engine}
+use Rattle.dma_engine.specs.State.{State as Engine}
 use Rattle.dma_engine.specs.Cycle as dma
 use Rattle.dma_engine.specs.Quiet as dma_quiet
-use Rattle.pio_block.specs.State.{Block as Pio}
+use Rattle.pio_block.specs.State.{State as Pio}
 use Rattle.pio_block.specs.Cycle as pio
 use Rattle.pio_block.specs.Quiet as pio_quiet
 use Rattle.bus_fabric.specs.Alone.{at_most_core0}

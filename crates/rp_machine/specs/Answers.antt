@@ -7,10 +7,10 @@ use Rattle.lane_look.specs.declared.lane.Ask.{Ask}
 use Rattle.lane_look.specs.declared.lane.Ask.TheVariants as ask
 use Rattle.dma_engine.specs.Words as dma
 use Rattle.dma_engine.specs.Pace.{packed_counts}
-use Rattle.pio_block.specs.State.{Block as Pio}
+use Rattle.pio_block.specs.State.{State as Pio}
 use Rattle.pio_block.specs.Words as pio
 use Rattle.outer_lane.specs.Lines.{outer_lines, outer_inputs, outer_pacing}
-use Rattle.sio_block.specs.State.{SioState}
+use Rattle.sio_block.specs.State.{State as SioState}
 use Rattle.sio_block.specs.Side.{line_of}
 use Rattle.rp_machine.specs.declared.answers.Counts.{Counts}
 use Rattle.rp_machine.specs.Sram.{half_of, ram_word}

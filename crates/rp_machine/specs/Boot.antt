@@ -8,7 +8,7 @@ use Rattle.uf2_image.specs.declared.parts.Image.{Image}
 use Rattle.pio_words.specs.declared.side.SideConfig.{SideConfig}
 use Rattle.pio_program.specs.declared.program.Program.{Program}
 use Rattle.rp_base.specs.Rows.{offset_at, place_in}
-use Rattle.pio_block.specs.State.{Block as Pio}
+use Rattle.pio_block.specs.State.{State as Pio}
 use Rattle.pio_block.specs.Words.{pio_rows, effect_of, counter_set}
 use Rattle.rp_machine.specs.declared.load.PioLoad.{PioLoad}
 use Rattle.rp_machine.specs.State.{State, first_state}

@@ -4,9 +4,9 @@ use Rattle.std.specs.Prelude.{◌≡◌, ◌<◌, ◌^◌, ℕ, Bool, List, [], 
 use Rattle.rp_base.specs.Word.{has_bit}
 use Rattle.rp_base.specs.ResetBits.{DMA, IO_BANK0, PADS_BANK0, PIO0, PIO1}
 use Rattle.m0_core.specs.State.{State as Core}
-use Rattle.outer_lane.specs.State.{OuterState}
+use Rattle.outer_lane.specs.State.{State as OuterState}
 use Rattle.outer_lane.specs.Quiet as peripherals
-use Rattle.sio_block.specs.State.{SioState}
+use Rattle.sio_block.specs.State.{State as SioState}
 use Rattle.sio_block.specs.Launcher.{offers_of}
 use Rattle.rp_machine.specs.State.{State}
 

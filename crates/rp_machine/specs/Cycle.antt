@@ -23,13 +23,13 @@ use Rattle.pio_block.specs.Cycle as pio
 use Rattle.outer_lane.specs.Setting.{Setting}
 use Rattle.outer_lane.specs.declared.world.SeenOutputs.{SeenOutputs}
 use Rattle.outer_lane.specs.Step as outer
-use Rattle.outer_lane.specs.State.{OuterState}
+use Rattle.outer_lane.specs.State.{State as OuterState}
 use Rattle.outer_lane.specs.Device.{device_accessed}
 use Rattle.ram_banks.specs.Sram.{written}
 use Rattle.bus_fabric.specs.Masters.{masters, number_of}
 use Rattle.bus_fabric.specs.Grant as fabric
 use Rattle.sio_block.specs.declared.Launch.{Launch}
-use Rattle.sio_block.specs.State.{SioState}
+use Rattle.sio_block.specs.State.{State as SioState}
 use Rattle.sio_block.specs.Changes as sio
 use Rattle.sio_block.specs.Launcher.{launch_of, after_turn, offers_of}
 use Rattle.sio_block.specs.Cycle as sio_end

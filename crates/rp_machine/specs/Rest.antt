@@ -2,11 +2,11 @@
 use Rattle.std.specs.Prelude.{ℕ, List}
 use Rattle.rp_base.specs.declared.resettable.Resettable.{Resettable}
 use Rattle.m0_core.specs.State.{State as Core}
-use Rattle.dma_engine.specs.State.{Engine}
-use Rattle.pio_block.specs.State.{Block as Pio}
-use Rattle.outer_lane.specs.State.{OuterState}
-use Rattle.sio_block.specs.State.{SioState}
-use Rattle.bus_fabric.specs.State.{Crossbar}
+use Rattle.dma_engine.specs.State.{State as Engine}
+use Rattle.pio_block.specs.State.{State as Pio}
+use Rattle.outer_lane.specs.State.{State as OuterState}
+use Rattle.sio_block.specs.State.{State as SioState}
+use Rattle.bus_fabric.specs.State.{State as Crossbar}
 use Rattle.rp_machine.specs.State.{State}
 
 pub record RestState : Type 0 where

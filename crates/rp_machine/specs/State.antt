@@ -7,14 +7,14 @@ use Rattle.lane_look.specs.Device.{DeviceMeaning}
 use Rattle.uf2_image.specs.declared.parts.Image.{Image}
 use Rattle.m0_core.specs.State.{State as Core}
 use Rattle.m0_core.specs.Start.{sleeping, started}
-use Rattle.dma_engine.specs.State.{Engine}
+use Rattle.dma_engine.specs.State.{State as Engine}
 use Rattle.dma_engine.specs.State as dma
-use Rattle.pio_block.specs.State.{Block as Pio}
+use Rattle.pio_block.specs.State.{State as Pio}
 use Rattle.pio_block.specs.State as pio
-use Rattle.outer_lane.specs.State.{OuterState, outer_at_start, first_words}
-use Rattle.sio_block.specs.State.{SioState}
+use Rattle.outer_lane.specs.State.{State as OuterState, outer_at_start, first_words}
+use Rattle.sio_block.specs.State.{State as SioState}
 use Rattle.sio_block.specs.State as sio
-use Rattle.bus_fabric.specs.State.{Crossbar}
+use Rattle.bus_fabric.specs.State.{State as Crossbar}
 use Rattle.bus_fabric.specs.State as fabric
 use Rattle.rp_machine.specs.Loading.{loaded_sram}
 

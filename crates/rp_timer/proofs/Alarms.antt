@@ -6,7 +6,7 @@ use Rattle.std.proofs.lemmas.Grind.{common_steps}
 use Rattle.std.proofs.lemmas.Nat.Bits.{bit_at_or, bit_at_and, bit_at_not, bit_at-lt}
 use Rattle.std.proofs.lemmas.Bool.Decides.{nat_tests}
 use Rattle.rp_base.specs.Word.{has_bit, bit_number}
-use Rattle.rp_timer.specs.State.{TimerState, low_of}
+use Rattle.rp_timer.specs.State.{State, low_of}
 use Rattle.rp_base.specs.Word.{minus}
 use Rattle.rp_timer.specs.Step.{is_due, due_of, alarmed}
 use Rattle.rp_timer.specs.Laws.{after_rises, passes, GoesOff, AnAlarmGoesOffOnce}
@@ -57,33 +57,33 @@ are_bits true true false true = record { below = omega arith; bit0 = refl; bit1 
 are_bits true true true false = record { below = omega arith; bit0 = refl; bit1 = refl; bit2 = refl; bit3 = refl }
 are_bits true true true true = record { below = omega arith; bit0 = refl; bit1 = refl; bit2 = refl; bit3 = refl }
 
-due-bits : (s : TimerState) → AreBits (is_due 0 s) (is_due 1 s) (is_due 2 s) (is_due 3 s)
+due-bits : (s : State) → AreBits (is_due 0 s) (is_due 1 s) (is_due 2 s) (is_due 3 s)
 due-bits s = are_bits (is_due 0 s) (is_due 1 s) (is_due 2 s) (is_due 3 s)
 
-due-bit : (s : TimerState) (n : ℕ) → n < 4 → has_bit (due_of s) n ≡ is_due n s
+due-bit : (s : State) (n : ℕ) → n < 4 → has_bit (due_of s) n ≡ is_due n s
 due-bit s zero h = (due-bits s).bit0
 due-bit s (suc zero) h = (due-bits s).bit1
 due-bit s (suc (suc zero)) h = (due-bits s).bit2
 due-bit s (suc (suc (suc zero))) h = (due-bits s).bit3
 due-bit s (suc (suc (suc (suc n)))) h = absurd (omega arith)
 
-raised-bit : (s : TimerState) (n : ℕ) → n < 4 → has_bit (alarmed s).raised n ≡ (has_bit s.raised n || is_due n s)
+raised-bit : (s : State) (n : ℕ) → n < 4 → has_bit (alarmed s).raised n ≡ (has_bit s.raised n || is_due n s)
 raised-bit s n h = has_bit-or s.raised (due_of s) n ∙ ap (λ b. has_bit s.raised n || b) (due-bit s n h)
 
-armed-bit : (s : TimerState) (n : ℕ) → n < 4 → has_bit (alarmed s).armed n ≡ (has_bit s.armed n && not (is_due n s))
+armed-bit : (s : State) (n : ℕ) → n < 4 → has_bit (alarmed s).armed n ≡ (has_bit s.armed n && not (is_due n s))
 armed-bit s n h =
     has_bit-minus s.armed (due_of s) n (due-bits s).below (omega arith) ∙ ap (λ b. has_bit s.armed n && not b) (due-bit s n h)
 
 -- ---- the time rises
 
-alarms-rises : (k : ℕ) (s : TimerState) → (after_rises k s).alarms ≡ s.alarms
+alarms-rises : (k : ℕ) (s : State) → (after_rises k s).alarms ≡ s.alarms
 alarms-rises zero s = refl
 alarms-rises (suc k) s = alarms-rises k s
 
 low-next : (t k m : ℕ) → t % 2 ^ 64 ≡ (m + k) % 2 ^ 64 → low_of ((t + 1) % 2 ^ 64) ≡ low_of (m + (k + 1))
 low-next t k m e = omega arith
 
-time-rises : (k : ℕ) (s : TimerState) → (after_rises k s).time % 2 ^ 64 ≡ (s.time + k) % 2 ^ 64
+time-rises : (k : ℕ) (s : State) → (after_rises k s).time % 2 ^ 64 ≡ (s.time + k) % 2 ^ 64
 time-rises zero s = omega arith
 time-rises (suc k) s = omega (arith, time-rises k s)
 
@@ -102,12 +102,12 @@ raised-next r a f p e x y z = rw (x, y, z) (raised-now p e)
 armed-next : (a f p e : Bool) → a ≡ not p → f ≡ e → (a && not (a && f)) ≡ not (p || e)
 armed-next a f p e x y = rw (x, y) (armed-now p e)
 
-goes_off : (s : TimerState) (n k : ℕ) → n < 4 → has_bit s.armed n ≡ true → has_bit s.raised n ≡ false → GoesOff s (after_rises k s) n k
+goes_off : (s : State) (n k : ℕ) → n < 4 → has_bit s.armed n ≡ true → has_bit s.raised n ≡ false → GoesOff s (after_rises k s) n k
 goes_off s n zero h a r = record { raised = r; armed = a }
 goes_off s n (suc k) h a r =
     let before = goes_off s n k h a r in
     let old = after_rises k s in
-    let now : TimerState = record old { time = (old.time + 1) % 2 ^ 64 } in
+    let now : State = record old { time = (old.time + 1) % 2 ^ 64 } in
     let p = passes s.time (slice_index s.alarms n) k in
     let is_passed = slice_index s.alarms n == low_of (s.time + (k + 1)) in
     let e : (slice_index old.alarms n == low_of now.time) ≡ is_passed =

@@ -2,7 +2,7 @@
 -- is that of alarm n.
 use Rattle.std.specs.Prelude.{ℕ, ◌/◌, ◌%◌, ◌^◌, Bool, false, List, replicate, bit_and, bit_or}
 
-pub record TimerState : Type 0 where
+pub record State : Type 0 where
   -- the time, below 2 ^ 64
   pub time : ℕ
   -- TIMELW: the low word that the next write of TIMEHW sets
@@ -20,7 +20,7 @@ pub record TimerState : Type 0 where
   pub enabled : ℕ
   pub forced : ℕ
 
-abbrev pub at_reset : TimerState
+abbrev pub at_reset : State
 at_reset =
     record {
       time = 0;
@@ -43,5 +43,5 @@ abbrev pub high_of : ℕ → ℕ
 high_of time = time / 2 ^ 32 % 2 ^ 32
 
 -- INTS: the interrupt lines
-abbrev pub lines_of : TimerState → ℕ
+abbrev pub lines_of : State → ℕ
 lines_of s = bit_or (bit_and s.raised s.enabled) s.forced

@@ -3,15 +3,15 @@ use Prim.Native.String.{String}
 use Rattle.std.specs.Prelude.{ℕ, ◌+◌, ◌*◌, ◌%◌, ◌^◌, Bool, List, [], ◌∷◌, Option, bit_or, slice_index, slice_set, ⊤}
 use Rattle.rp_base.specs.Rows.{Row, read_only, write_only, read_write, read_acts, repeated, word_at, has_row, effect_at, offset_in, IsListed, IsHeld}
 use Rattle.rp_base.specs.Word.{bit_number, has_bit, minus}
-use Rattle.rp_timer.specs.State.{TimerState, low_of, high_of, lines_of}
+use Rattle.rp_timer.specs.State.{State, low_of, high_of, lines_of}
 
 -- a write of an alarm arms it
-abbrev pub with_alarm : ℕ → ℕ → TimerState → TimerState
+abbrev pub with_alarm : ℕ → ℕ → State → State
 with_alarm n w s = record s { alarms = slice_set s.alarms n w; armed = bit_or s.armed (2 ^ n) }
 
 -- TIMEHW sets the time, its low word to what was written to TIMELW; a read of TIMELR latches the high word for TIMEHR; a 1 written
 -- to ARMED disarms, and one to INTR clears
-abbrev pub timer_rows : List (Row ⊤ TimerState)
+abbrev pub timer_rows : List (Row ⊤ State)
 timer_rows =
     write_only 0x00 "TIMEHW" (λ w s. record s { time = w * 2 ^ 32 + s.low })
     ∷ write_only 0x04 "TIMELW" (λ w s. record s { low = w })
@@ -30,13 +30,13 @@ timer_rows =
     ∷ []
 
 -- what a word reads as, that there is one, and what an access does
-abbrev pub word_of : ℕ → TimerState → Option ℕ
+abbrev pub word_of : ℕ → State → Option ℕ
 word_of offset s = word_at timer_rows tt offset s
 
 abbrev pub is_word : ℕ → Bool
 is_word offset = has_row timer_rows offset
 
-abbrev pub effect_of : ℕ → Option ℕ → TimerState → TimerState
+abbrev pub effect_of : ℕ → Option ℕ → State → State
 effect_of offset write s = effect_at timer_rows offset write s
 
 -- the offset of a register by its name

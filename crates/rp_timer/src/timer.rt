@@ -23,9 +23,9 @@ pub struct Timer {
 }
 
 impl Model for Timer {
-    ghost use Rattle.rp_timer.specs.State.{TimerState};
+    ghost use Rattle.rp_timer.specs.State.{State};
 
-    ghost Value = { TimerState };
+    ghost Value = { State };
 
     ghost view = { λ a. record {
       time = a.time;

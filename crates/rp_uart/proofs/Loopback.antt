@@ -19,7 +19,7 @@ use Rattle.rp_uart.specs.Interrupts.{depth_of, receive_trigger, transmit_trigger
 use Rattle.rp_uart.specs.Laws.{after_cycles, samples_of, begun, frame_time, HearsItself, TheByteComesBack}
 use Rattle.rp_uart.specs.Receiver.{byte_heard, errors_of, with_overrun, stored, with_waited, after_byte, after_waiting, with_receiver, can_receive, first_heard, after_idle, is_false_start, is_stop, with_sample, sampled, after_stop, after_hearing, after_line, is_frame_due, is_byte_due, after_receiving}
 use Rattle.rp_uart.specs.Sender.{bit_time, is_over, elapsed_after, level_of, with_sender, with_first, can_send, next_frame, is_last_bit, after_bit, after_sender, after_sending}
-use Rattle.rp_uart.specs.State.{SerialPort, no_errors}
+use Rattle.rp_uart.specs.State.{State, no_errors}
 use Rattle.rp_uart.specs.Step.{is_running, output_of, heard_of, after_step}
 use Rattle.rp_uart.proofs.Frames.{frame_length-sum, level_at-start}
 use Rattle.rp_uart.proofs.Heard.{heard_law, level_at-stop}
@@ -29,70 +29,70 @@ use Rattle.rp_uart.proofs.Timing.{bit_time-large, one_more, times_of, fewer, Sam
 
 -- ---- what receiving comes to
 
-receiving-no : (h : Bool) (x : SerialPort) → is_byte_due x.receiver x ≡ false →
+receiving-no : (h : Bool) (x : State) → is_byte_due x.receiver x ≡ false →
     after_receiving h x ≡ after_waiting (after_line x.receiver h x)
 unfolding after_receiving
 receiving-no h x e = rw e refl
 
-receiving-yes : (h : Bool) (x : SerialPort) → is_byte_due x.receiver x ≡ true →
+receiving-yes : (h : Bool) (x : State) → is_byte_due x.receiver x ≡ true →
     after_receiving h x ≡ after_line x.receiver h x
 unfolding after_receiving
 receiving-yes h x e = rw e refl
 
-idle-due : (x : SerialPort) → x.receiver ≡ receivers.Idle → is_byte_due x.receiver x ≡ false
+idle-due : (x : State) → x.receiver ≡ receivers.Idle → is_byte_due x.receiver x ≡ false
 unfolding is_byte_due
 idle-due x e = ap (λ (r : Receiver). is_byte_due r x) e
 
-idle-line : (h : Bool) (x : SerialPort) → x.receiver ≡ receivers.Idle → after_line x.receiver h x ≡ after_idle h x
+idle-line : (h : Bool) (x : State) → x.receiver ≡ receivers.Idle → after_line x.receiver h x ≡ after_idle h x
 unfolding after_line
 idle-line h x e = ap (λ (r : Receiver). after_line r h x) e
 
-frame-due : (f : Hearing) (x : SerialPort) → x.receiver ≡ receivers.Frame f → is_byte_due x.receiver x ≡ is_frame_due f x
+frame-due : (f : Hearing) (x : State) → x.receiver ≡ receivers.Frame f → is_byte_due x.receiver x ≡ is_frame_due f x
 unfolding is_byte_due
 frame-due f x e = ap (λ (r : Receiver). is_byte_due r x) e
 
-frame-line : (h : Bool) (f : Hearing) (x : SerialPort) → x.receiver ≡ receivers.Frame f →
+frame-line : (h : Bool) (f : Hearing) (x : State) → x.receiver ≡ receivers.Frame f →
     after_line x.receiver h x ≡ after_hearing h f x
 unfolding after_line
 frame-line h f x e = ap (λ (r : Receiver). after_line r h x) e
 
 -- a high line at rest
-idle-high : (x : SerialPort) → x.receiver ≡ receivers.Idle → after_receiving true x ≡ after_waiting x
+idle-high : (x : State) → x.receiver ≡ receivers.Idle → after_receiving true x ≡ after_waiting x
 idle-high x e = receiving-no true x (idle-due x e) ∙ ap after_waiting (idle-line true x e)
 
 -- a low line at rest
-idle-low-line : (x : SerialPort) → can_receive x ≡ true → after_idle false x ≡ with_receiver (first_heard x) x
+idle-low-line : (x : State) → can_receive x ≡ true → after_idle false x ≡ with_receiver (first_heard x) x
 idle-low-line x c = rw c refl
 
-idle-low : (x : SerialPort) → x.receiver ≡ receivers.Idle → can_receive x ≡ true →
+idle-low : (x : State) → x.receiver ≡ receivers.Idle → can_receive x ≡ true →
     after_receiving false x ≡ after_waiting (with_receiver (first_heard x) x)
 idle-low x e c =
     receiving-no false x (idle-due x e) ∙ ap after_waiting (idle-line false x e ∙ idle-low-line x c)
 
 -- a frame that goes on
-goes_on-due : (f : Hearing) (x : SerialPort) → is_over f.elapsed x.divisor ≡ false → is_frame_due f x ≡ false
+goes_on-due : (f : Hearing) (x : State) → is_over f.elapsed x.divisor ≡ false → is_frame_due f x ≡ false
 goes_on-due f x o = rw o refl
 
-goes_on-line : (h : Bool) (f : Hearing) (x : SerialPort) → is_over f.elapsed x.divisor ≡ false →
+goes_on-line : (h : Bool) (f : Hearing) (x : State) → is_over f.elapsed x.divisor ≡ false →
     after_hearing h f x ≡ with_receiver (receivers.Frame (record f { elapsed = f.elapsed + 4 })) x
 goes_on-line h f x o = rw o refl
 
-hears-on : (h : Bool) (f : Hearing) (x : SerialPort) → x.receiver ≡ receivers.Frame f →
+hears-on : (h : Bool) (f : Hearing) (x : State) → x.receiver ≡ receivers.Frame f →
     is_over f.elapsed x.divisor ≡ false →
     after_receiving h x ≡ after_waiting (with_receiver (receivers.Frame (record f { elapsed = f.elapsed + 4 })) x)
 hears-on h f x e o =
     receiving-no h x (frame-due f x e ∙ goes_on-due f x o) ∙ ap after_waiting (frame-line h f x e ∙ goes_on-line h f x o)
 
 -- a sample that is not the stop bit's
-sample-due : (f : Hearing) (x : SerialPort) → is_over f.elapsed x.divisor ≡ true → is_stop f x ≡ false → is_frame_due f x ≡ false
+sample-due : (f : Hearing) (x : State) → is_over f.elapsed x.divisor ≡ true → is_stop f x ≡ false → is_frame_due f x ≡ false
 sample-due f x o p = rw (o, p) refl
 
-sample-line : (h : Bool) (f : Hearing) (x : SerialPort) → is_over f.elapsed x.divisor ≡ true → is_stop f x ≡ false →
+sample-line : (h : Bool) (f : Hearing) (x : State) → is_over f.elapsed x.divisor ≡ true → is_stop f x ≡ false →
     is_false_start h f ≡ false →
     after_hearing h f x ≡ with_receiver (receivers.Frame (sampled h f (f.elapsed + 4 - bit_time x.divisor))) x
 sample-line h f x o p q = rw (o, p, q) refl
 
-hears-sample : (h : Bool) (f : Hearing) (x : SerialPort) → x.receiver ≡ receivers.Frame f →
+hears-sample : (h : Bool) (f : Hearing) (x : State) → x.receiver ≡ receivers.Frame f →
     is_over f.elapsed x.divisor ≡ true → is_stop f x ≡ false → is_false_start h f ≡ false →
     after_receiving h x
     ≡ after_waiting (with_receiver (receivers.Frame (sampled h f (f.elapsed + 4 - bit_time x.divisor))) x)
@@ -101,42 +101,42 @@ hears-sample h f x e o p q =
     ∙ ap after_waiting (frame-line h f x e ∙ sample-line h f x o p q)
 
 -- the stop bit's sample
-stop-due : (f : Hearing) (x : SerialPort) → is_over f.elapsed x.divisor ≡ true → is_stop f x ≡ true → is_frame_due f x ≡ true
+stop-due : (f : Hearing) (x : State) → is_over f.elapsed x.divisor ≡ true → is_stop f x ≡ true → is_frame_due f x ≡ true
 stop-due f x o p = rw (o, p) refl
 
-stop-line : (h : Bool) (f : Hearing) (x : SerialPort) → is_over f.elapsed x.divisor ≡ true → is_stop f x ≡ true →
+stop-line : (h : Bool) (f : Hearing) (x : State) → is_over f.elapsed x.divisor ≡ true → is_stop f x ≡ true →
     after_hearing h f x ≡ after_stop h f x
 stop-line h f x o p = rw (o, p) refl
 
-hears-stop : (h : Bool) (f : Hearing) (x : SerialPort) → x.receiver ≡ receivers.Frame f →
+hears-stop : (h : Bool) (f : Hearing) (x : State) → x.receiver ≡ receivers.Frame f →
     is_over f.elapsed x.divisor ≡ true → is_stop f x ≡ true → after_receiving h x ≡ after_stop h f x
 hears-stop h f x e o p =
     receiving-yes h x (frame-due f x e ∙ stop-due f x o p) ∙ (frame-line h f x e ∙ stop-line h f x o p)
 
 -- ---- a byte that is stored
 
-stored-received : (byte : ℕ) (e : Errors) (y : SerialPort) →
+stored-received : (byte : ℕ) (e : Errors) (y : State) →
     (stored byte e y).received ≡ y.received ++ record { byte = byte; errors = with_overrun y.lost e } ∷ []
 stored-received byte e y =
-    let kept : SerialPort = record y {
+    let kept : State = record y {
       received = y.received ++ record { byte = byte; errors = with_overrun y.lost e } ∷ [];
       lost = false;
     } in
     let some = told (error_interrupts e) kept in
-    either (λ (t : SerialPort). t.received) (length kept.received == receive_trigger kept) (told receive_interrupt some) some
+    either (λ (t : State). t.received) (length kept.received == receive_trigger kept) (told receive_interrupt some) some
     kept.received refl refl
 
-stored-receiver : (byte : ℕ) (e : Errors) (y : SerialPort) → (stored byte e y).receiver ≡ y.receiver
+stored-receiver : (byte : ℕ) (e : Errors) (y : State) → (stored byte e y).receiver ≡ y.receiver
 stored-receiver byte e y =
-    let kept : SerialPort = record y {
+    let kept : State = record y {
       received = y.received ++ record { byte = byte; errors = with_overrun y.lost e } ∷ [];
       lost = false;
     } in
     let some = told (error_interrupts e) kept in
-    either (λ (t : SerialPort). t.receiver) (length kept.received == receive_trigger kept) (told receive_interrupt some) some
+    either (λ (t : State). t.receiver) (length kept.received == receive_trigger kept) (told receive_interrupt some) some
     y.receiver refl refl
 
-room-stores : (byte : ℕ) (e : Errors) (y : SerialPort) → nat_lt (length y.received) (depth_of y) ≡ true →
+room-stores : (byte : ℕ) (e : Errors) (y : State) → nat_lt (length y.received) (depth_of y) ≡ true →
     after_byte byte e y ≡ with_waited (Some 0) (stored byte e y)
 unfolding after_byte
 room-stores byte e y r = rw r refl
@@ -165,7 +165,7 @@ four-more : (k : ℕ) → 4 * suc k + 4 ≡ 4 * suc (suc k)
 four-more k = omega arith
 
 -- the receiver hears the frame of which the sender has sent so much
-record Hears (byte time : ℕ) (s t : SerialPort) : Type 0 where
+record Hears (byte time : ℕ) (s t : State) : Type 0 where
   on : On byte time s t
   bit : ℕ
   elapsed : ℕ
@@ -182,37 +182,37 @@ abbrev IsHigh : LineControl → Sender → Type 0
 IsHigh line senders.Idle = Unit {0}
 IsHigh line (senders.Frame f) = stop_at line ≤ f.bit
 
-record Rests (byte : ℕ) (s t : SerialPort) : Type 0 where
+record Rests (byte : ℕ) (s t : State) : Type 0 where
   same : Same s t
   receiver : t.receiver ≡ receivers.Idle
   received : t.received ≡ s.received ++ record { byte = byte % 2 ^ width_of s.line.width; errors = no_errors } ∷ []
   to_send : t.to_send ≡ []
   high : IsHigh s.line t.sender
 
-data Stage (byte time : ℕ) (s t : SerialPort) : Type 0 where
+data Stage (byte time : ℕ) (s t : State) : Type 0 where
   hears : Hears byte time s t → Stage byte time s t
   rests : Rests byte s t → Stage byte time s t
 
-loops : (line : Bool) (t : SerialPort) → t.control.loopback ≡ true → heard_of line t ≡ output_of t
+loops : (line : Bool) (t : State) → t.control.loopback ≡ true → heard_of line t ≡ output_of t
 loops line t e = rw e refl
 
-loopback-as : (s t : SerialPort) → Same s t → s.control.loopback ≡ true → t.control.loopback ≡ true
+loopback-as : (s t : State) → Same s t → s.control.loopback ≡ true → t.control.loopback ≡ true
 loopback-as s t a e = ap (λ (c : Control). c.loopback) a.control ∙ e
 
 -- ---- at rest
 
-record Silent (line : LineControl) (t : SerialPort) : Type 0 where
+record Silent (line : LineControl) (t : State) : Type 0 where
   to_send : t.to_send ≡ []
   high : IsHigh line t.sender
 
-silent-either : (line : LineControl) (c : Bool) (x y : SerialPort) → Silent line x → Silent line y → Silent line (cond c x y)
+silent-either : (line : LineControl) (c : Bool) (x y : State) → Silent line x → Silent line y → Silent line (cond c x y)
 silent-either line true x y a b = a
 silent-either line false x y a b = b
 
-silent-as : (line : LineControl) (x y : SerialPort) → x ≡ y → Silent line y → Silent line x
+silent-as : (line : LineControl) (x y : State) → x ≡ y → Silent line y → Silent line x
 silent-as line x y e a = rw e a
 
-silent-sender : (line : LineControl) (sender : Sender) (t : SerialPort) → t.sender ≡ sender → t.to_send ≡ [] → IsHigh line sender →
+silent-sender : (line : LineControl) (sender : Sender) (t : State) → t.sender ≡ sender → t.to_send ≡ [] → IsHigh line sender →
     Silent line (after_sender sender t)
 silent-sender line senders.Idle t is e h =
     silent-as line (next_frame 0 t) t (next-none 0 t e) (record { to_send = e; high = rw is h })
@@ -227,7 +227,7 @@ silent-sender line (senders.Frame f) t is e h =
     (record { to_send = e; high = le-more (stop_at line) f.bit h }))
     (record { to_send = e; high = h })
 
-silent-sending : (line : LineControl) (t : SerialPort) → Silent line t → Silent line (after_sending t)
+silent-sending : (line : LineControl) (t : State) → Silent line t → Silent line (after_sending t)
 unfolding after_sending
 silent-sending line t a = silent-sender line t.sender t refl a.to_send a.high
 
@@ -235,37 +235,37 @@ high-level : (line : LineControl) (sender : Sender) → IsHigh line sender → l
 high-level line senders.Idle h = refl
 high-level line (senders.Frame f) h = level_at-stop line f.byte f.bit h
 
-output-high : (s t : SerialPort) → Same s t → IsHigh s.line t.sender → output_of t ≡ true
+output-high : (s t : State) → Same s t → IsHigh s.line t.sender → output_of t ≡ true
 output-high s t a h = ap (level_of t.sender) a.line ∙ high-level s.line t.sender h
 
-receiver-sent : (t : SerialPort) → (after_sending t).receiver ≡ t.receiver
-receiver-sent t = sending-keeps (λ (x : SerialPort). x.receiver) (λ a b c x. refl) t
+receiver-sent : (t : State) → (after_sending t).receiver ≡ t.receiver
+receiver-sent t = sending-keeps (λ (x : State). x.receiver) (λ a b c x. refl) t
 
-received-sent : (t : SerialPort) → (after_sending t).received ≡ t.received
-received-sent t = sending-keeps (λ (x : SerialPort). x.received) (λ a b c x. refl) t
+received-sent : (t : State) → (after_sending t).received ≡ t.received
+received-sent t = sending-keeps (λ (x : State). x.received) (λ a b c x. refl) t
 
-lost-sent : (t : SerialPort) → (after_sending t).lost ≡ t.lost
-lost-sent t = sending-keeps (λ (x : SerialPort). x.lost) (λ a b c x. refl) t
+lost-sent : (t : State) → (after_sending t).lost ≡ t.lost
+lost-sent t = sending-keeps (λ (x : State). x.lost) (λ a b c x. refl) t
 
-receiver-waited : (t : SerialPort) → (after_waiting t).receiver ≡ t.receiver
-receiver-waited t = waiting-keeps (λ (x : SerialPort). x.receiver) (λ a b x. refl) t
+receiver-waited : (t : State) → (after_waiting t).receiver ≡ t.receiver
+receiver-waited t = waiting-keeps (λ (x : State). x.receiver) (λ a b x. refl) t
 
-received-waited : (t : SerialPort) → (after_waiting t).received ≡ t.received
-received-waited t = waiting-keeps (λ (x : SerialPort). x.received) (λ a b x. refl) t
+received-waited : (t : State) → (after_waiting t).received ≡ t.received
+received-waited t = waiting-keeps (λ (x : State). x.received) (λ a b x. refl) t
 
-lost-waited : (t : SerialPort) → (after_waiting t).lost ≡ t.lost
-lost-waited t = waiting-keeps (λ (x : SerialPort). x.lost) (λ a b x. refl) t
+lost-waited : (t : State) → (after_waiting t).lost ≡ t.lost
+lost-waited t = waiting-keeps (λ (x : State). x.lost) (λ a b x. refl) t
 
 -- a cycle in which the receiver is told this level, and leaves this
-step-to : (line h : Bool) (t y : SerialPort) → is_running t ≡ true → heard_of line t ≡ h → after_receiving h (after_sending t) ≡ y →
+step-to : (line h : Bool) (t y : State) → is_running t ≡ true → heard_of line t ≡ h → after_receiving h (after_sending t) ≡ y →
     after_step line t ≡ y
 step-to line h t y e p q = runs line t e ∙ (ap (λ (b : Bool). after_receiving b (after_sending t)) p ∙ q)
 
-to_send-step : (line : Bool) (t : SerialPort) → is_running t ≡ true → (after_step line t).to_send ≡ (after_sending t).to_send
+to_send-step : (line : Bool) (t : State) → is_running t ≡ true → (after_step line t).to_send ≡ (after_sending t).to_send
 to_send-step line t e =
-    ap (λ (x : SerialPort). x.to_send) (runs line t e) ∙ to_send-received (heard_of line t) (after_sending t)
+    ap (λ (x : State). x.to_send) (runs line t e) ∙ to_send-received (heard_of line t) (after_sending t)
 
-rests-next : (line : Bool) (byte : ℕ) (s t : SerialPort) → is_running s ≡ true → s.control.loopback ≡ true → Rests byte s t →
+rests-next : (line : Bool) (byte : ℕ) (s t : State) → is_running s ≡ true → s.control.loopback ≡ true → Rests byte s t →
     Rests byte s (after_step line t)
 rests-next line byte s t running loopback a =
     let on : is_running t ≡ true = running-as s t a.same running in
@@ -277,8 +277,8 @@ rests-next line byte s t running loopback a =
     let is : u ≡ after_waiting x = step-to line true t (after_waiting x) on told_high (idle-high x (receiver-sent t ∙ a.receiver)) in
     record {
       same = same-both s t u a.same (same-step line t on);
-      receiver = ap (λ (y : SerialPort). y.receiver) is ∙ (receiver-waited x ∙ (receiver-sent t ∙ a.receiver));
-      received = ap (λ (y : SerialPort). y.received) is ∙ (received-waited x ∙ (received-sent t ∙ a.received));
+      receiver = ap (λ (y : State). y.receiver) is ∙ (receiver-waited x ∙ (receiver-sent t ∙ a.receiver));
+      received = ap (λ (y : State). y.received) is ∙ (received-waited x ∙ (received-sent t ∙ a.received));
       to_send = to_send-step line t on ∙ silent.to_send;
       high = rw (sender-step line t on) silent.high;
     }
@@ -311,7 +311,7 @@ no_false_start false bit k = refl
 has_time : (b n stop two : ℕ) → b ≤ stop → n ≡ stop + two + 1 → b < n
 has_time b n stop two h e = omega arith
 
-level-bit : (s : SerialPort) (byte : ℕ) (h : Bool) (bit : ℕ) → h ≡ level_at s.line byte bit →
+level-bit : (s : State) (byte : ℕ) (h : Bool) (bit : ℕ) → h ≡ level_at s.line byte bit →
     with_sample h bit (samples_of s.line byte bit) ≡ samples_of s.line byte (suc bit)
 level-bit s byte h bit e = ap (λ (b : Bool). with_sample b bit (samples_of s.line byte bit)) e
 
@@ -348,7 +348,7 @@ later_bit b c d r q t e o f w =
     let less : b < c + 1 = fewer b (c + 1) d (t + 4) (omega arith) (omega (arith, one_more c d)) in
     omega arith
 
-module _ (line : Bool) (byte time : ℕ) (s t : SerialPort) (running : is_running s ≡ true) (loopback : s.control.loopback ≡ true)
+module _ (line : Bool) (byte time : ℕ) (s t : State) (running : is_running s ≡ true) (loopback : s.control.loopback ≡ true)
     (room : nat_lt (length s.received) (depth_of s) ≡ true) (a : Hears byte time s t) where
   abbrev d : ℕ
   d = bit_time s.divisor
@@ -359,10 +359,10 @@ module _ (line : Bool) (byte time : ℕ) (s t : SerialPort) (running : is_runnin
   abbrev f : Hearing
   f = record { samples = samples_of s.line byte a.bit; bit = a.bit; elapsed = a.elapsed }
 
-  abbrev x : SerialPort
+  abbrev x : State
   x = after_sending t
 
-  abbrev u : SerialPort
+  abbrev u : State
   u = after_step line t
 
   on_t : is_running t ≡ true
@@ -413,13 +413,13 @@ module _ (line : Bool) (byte time : ℕ) (s t : SerialPort) (running : is_runnin
         on = on_u;
         bit = a.bit;
         elapsed = a.elapsed + 4;
-        is = ap (λ (z : SerialPort). z.receiver) is ∙ receiver-waited y;
+        is = ap (λ (z : State). z.receiver) is ∙ receiver-waited y;
         passed = more-passed a.bit d a.elapsed time a.passed;
         within = leb-false d (a.elapsed + 4) o;
         early = a.early;
-        received = ap (λ (z : SerialPort). z.received) is ∙ (received-waited y ∙ received-x);
+        received = ap (λ (z : State). z.received) is ∙ (received-waited y ∙ received-x);
         to_send = to_send-u;
-        lost = ap (λ (z : SerialPort). z.lost) is ∙ (lost-waited y ∙ lost-x);
+        lost = ap (λ (z : State). z.lost) is ∙ (lost-waited y ∙ lost-x);
       }
 
   further : is_over a.elapsed s.divisor ≡ true → is_stop f s ≡ false → Hears byte (time + 4) s u
@@ -440,7 +440,7 @@ module _ (line : Bool) (byte time : ℕ) (s t : SerialPort) (running : is_runnin
         bit = a.bit + 1;
         elapsed = a.elapsed + 4 - d;
         is =
-            ap (λ (z : SerialPort). z.receiver) is
+            ap (λ (z : State). z.receiver) is
             ∙ (receiver-waited y
             ∙ (ap (λ (v : Divisor). receivers.Frame (sampled heard f (a.elapsed + 4 - bit_time v))) divisor-x
             ∙ ap
@@ -449,9 +449,9 @@ module _ (line : Bool) (byte time : ℕ) (s t : SerialPort) (running : is_runnin
         passed = next-passed a.bit d a.elapsed time a.passed full;
         within = next-rest d a.elapsed large a.within;
         early = lt-more a.bit (stop_at s.line) less;
-        received = ap (λ (z : SerialPort). z.received) is ∙ (received-waited y ∙ received-x);
+        received = ap (λ (z : State). z.received) is ∙ (received-waited y ∙ received-x);
         to_send = to_send-u;
-        lost = ap (λ (z : SerialPort). z.lost) is ∙ (lost-waited y ∙ lost-x);
+        lost = ap (λ (z : State). z.lost) is ∙ (lost-waited y ∙ lost-x);
       }
 
   stops : is_over a.elapsed s.divisor ≡ true → is_stop f s ≡ true → Rests byte s u
@@ -479,10 +479,10 @@ module _ (line : Bool) (byte time : ℕ) (s t : SerialPort) (running : is_runnin
       record {
         same = on_u.same;
         receiver =
-            ap (λ (z : SerialPort). z.receiver) is
+            ap (λ (z : State). z.receiver) is
             ∙ (stored-receiver b e y ∙ ap (λ (c : Bool). cond c receivers.Idle receivers.Waiting) high);
         received =
-            ap (λ (z : SerialPort). z.received) is
+            ap (λ (z : State). z.received) is
             ∙ (stored-received b e y
             ∙ (ap (λ (xs : List Received). xs ++ entry x.line f.samples heard x.lost ∷ []) received-x
             ∙ ap (λ (r : Received). s.received ++ r ∷ [])
@@ -504,29 +504,29 @@ module _ (line : Bool) (byte time : ℕ) (s t : SerialPort) (running : is_runnin
 
 -- ---- the first two cycles
 
-sending-idle : (s : SerialPort) → s.sender ≡ senders.Idle → after_sending s ≡ next_frame 0 s
+sending-idle : (s : State) → s.sender ≡ senders.Idle → after_sending s ≡ next_frame 0 s
 unfolding after_sending
 sending-idle s e = ap (λ (q : Sender). after_sender q s) e
 
-next-first : (byte : ℕ) (s : SerialPort) → can_send s ≡ true → s.to_send ≡ byte ∷ [] → next_frame 0 s ≡ with_first (Some byte) 0 s
+next-first : (byte : ℕ) (s : State) → can_send s ≡ true → s.to_send ≡ byte ∷ [] → next_frame 0 s ≡ with_first (Some byte) 0 s
 unfolding next_frame
 next-first byte s c e =
     ap (λ (xs : List ℕ). cond (can_send s) (with_first (slice_get xs 0) 0 s) s) e
     ∙ ap (λ (b : Bool). cond b (with_first (Some byte) 0 s) s) c
 
-first-sender : (byte : ℕ) (s : SerialPort) → (with_first (Some byte) 0 s).sender ≡ begun byte 0
+first-sender : (byte : ℕ) (s : State) → (with_first (Some byte) 0 s).sender ≡ begun byte 0
 first-sender byte s =
-    let rest : SerialPort = record s { sender = begun byte 0; to_send = drop 1 s.to_send } in
-    either (λ (z : SerialPort). z.sender) (length rest.to_send == transmit_trigger rest) (told transmit_interrupt rest) rest
+    let rest : State = record s { sender = begun byte 0; to_send = drop 1 s.to_send } in
+    either (λ (z : State). z.sender) (length rest.to_send == transmit_trigger rest) (told transmit_interrupt rest) rest
     (begun byte 0) refl refl
 
-first-to_send : (byte : ℕ) (s : SerialPort) → (with_first (Some byte) 0 s).to_send ≡ drop 1 s.to_send
+first-to_send : (byte : ℕ) (s : State) → (with_first (Some byte) 0 s).to_send ≡ drop 1 s.to_send
 first-to_send byte s =
-    let rest : SerialPort = record s { sender = begun byte 0; to_send = drop 1 s.to_send } in
-    either (λ (z : SerialPort). z.to_send) (length rest.to_send == transmit_trigger rest) (told transmit_interrupt rest) rest
+    let rest : State = record s { sender = begun byte 0; to_send = drop 1 s.to_send } in
+    either (λ (z : State). z.to_send) (length rest.to_send == transmit_trigger rest) (told transmit_interrupt rest) rest
     (drop 1 s.to_send) refl refl
 
-record Begins (byte : ℕ) (s t : SerialPort) : Type 0 where
+record Begins (byte : ℕ) (s t : State) : Type 0 where
   on : On byte 0 s t
   receiver : t.receiver ≡ receivers.Idle
   received : t.received ≡ s.received
@@ -536,7 +536,7 @@ record Begins (byte : ℕ) (s t : SerialPort) : Type 0 where
 nothing-yet : (d : ℕ) → 0 * d + 0 ≡ 0
 nothing-yet d = omega arith
 
-begins : (line : Bool) (byte : ℕ) (s : SerialPort) → HearsItself byte s → Begins byte s (after_step line s)
+begins : (line : Bool) (byte : ℕ) (s : State) → HearsItself byte s → Begins byte s (after_step line s)
 begins line byte s a =
     let x = after_sending s in
     let large = bit_time-large s.divisor a.running in
@@ -550,17 +550,17 @@ begins line byte s a =
         sent = record {
           bit = 0;
           elapsed = 0;
-          is = sender-step line s a.running ∙ (ap (λ (z : SerialPort). z.sender) first ∙ first-sender byte s);
+          is = sender-step line s a.running ∙ (ap (λ (z : State). z.sender) first ∙ first-sender byte s);
           passed = nothing-yet (bit_time s.divisor);
           within = positive (bit_time s.divisor) large;
         };
       };
-      receiver = ap (λ (z : SerialPort). z.receiver) is ∙ (receiver-waited x ∙ (receiver-sent s ∙ a.receiver));
-      received = ap (λ (z : SerialPort). z.received) is ∙ (received-waited x ∙ received-sent s);
+      receiver = ap (λ (z : State). z.receiver) is ∙ (receiver-waited x ∙ (receiver-sent s ∙ a.receiver));
+      received = ap (λ (z : State). z.received) is ∙ (received-waited x ∙ received-sent s);
       to_send =
           to_send-step line s a.running
-          ∙ (ap (λ (z : SerialPort). z.to_send) first ∙ (first-to_send byte s ∙ ap (drop 1) a.to_send));
-      lost = ap (λ (z : SerialPort). z.lost) is ∙ (lost-waited x ∙ (lost-sent s ∙ a.complete));
+          ∙ (ap (λ (z : State). z.to_send) first ∙ (first-to_send byte s ∙ ap (drop 1) a.to_send));
+      lost = ap (λ (z : State). z.lost) is ∙ (lost-waited x ∙ (lost-sent s ∙ a.complete));
     }
 
 frame-long : (n d k : ℕ) → 64 ≤ d → n ≡ k + 1 → 4 < n * d
@@ -569,12 +569,12 @@ frame-long n d k large e =
     let enough : 1 * d ≤ n * d = mul-le-mul_right d one in
     omega arith
 
-frame-lasts : (byte : ℕ) (s : SerialPort) → 64 ≤ bit_time s.divisor → 4 < frame_time byte s
+frame-lasts : (byte : ℕ) (s : State) → 64 ≤ bit_time s.divisor → 4 < frame_time byte s
 frame-lasts byte s large =
     frame-long (frame_length s.line byte) (bit_time s.divisor) (stop_at s.line + bit_number s.line.two_stops) large
     (frame_length-sum s.line byte)
 
-begins-next : (line : Bool) (byte : ℕ) (s t : SerialPort) → HearsItself byte s → Begins byte s t → Hears byte 4 s (after_step line t)
+begins-next : (line : Bool) (byte : ℕ) (s t : State) → HearsItself byte s → Begins byte s t → Hears byte 4 s (after_step line t)
 begins-next line byte s t a b =
     let d = bit_time s.divisor in
     let large : 64 ≤ d = bit_time-large s.divisor a.running in
@@ -595,30 +595,30 @@ begins-next line byte s t a b =
       bit = 0;
       elapsed = d / 2;
       is =
-          ap (λ (z : SerialPort). z.receiver) is
+          ap (λ (z : State). z.receiver) is
           ∙ (receiver-waited y
           ∙ ap (λ (v : Divisor). receivers.Frame (record { samples = 0; bit = 0; elapsed = bit_time v / 2 }))
           ((same-sending t).divisor ∙ b.on.same.divisor));
       passed = first-passed d;
       within = half-less d large;
       early = none-less (stop_at s.line);
-      received = ap (λ (z : SerialPort). z.received) is ∙ (received-waited y ∙ (received-sent t ∙ b.received));
+      received = ap (λ (z : State). z.received) is ∙ (received-waited y ∙ (received-sent t ∙ b.received));
       to_send =
           to_send-step line t on_t ∙ ((goes-on s t byte 0 a.running b.on soon).to_send ∙ b.to_send);
-      lost = ap (λ (z : SerialPort). z.lost) is ∙ (lost-waited y ∙ (lost-sent t ∙ b.lost));
+      lost = ap (λ (z : State). z.lost) is ∙ (lost-waited y ∙ (lost-sent t ∙ b.lost));
     }
 
 -- ---- all cycles
 
-stage-as : (byte t u : ℕ) (s x : SerialPort) → t ≡ u → Stage byte t s x → Stage byte u s x
+stage-as : (byte t u : ℕ) (s x : State) → t ≡ u → Stage byte t s x → Stage byte u s x
 stage-as byte t u s x e a = rw (sym e) a
 
-stage-next : (line : Bool) (byte time : ℕ) (s t : SerialPort) → HearsItself byte s → Stage byte time s t →
+stage-next : (line : Bool) (byte time : ℕ) (s t : State) → HearsItself byte s → Stage byte time s t →
     Stage byte (time + 4) s (after_step line t)
 stage-next line byte time s t a (hears b) = hears-next line byte time s t a.running a.loops a.room b
 stage-next line byte time s t a (rests b) = rests (rests-next line byte s t a.running a.loops b)
 
-stage-at : (levels : ℕ → Bool) (byte k : ℕ) (s : SerialPort) → HearsItself byte s →
+stage-at : (levels : ℕ → Bool) (byte k : ℕ) (s : State) → HearsItself byte s →
     Stage byte (4 * suc k) s (after_cycles levels (suc (suc k)) s)
 stage-at levels byte zero s a =
     hears (begins-next (levels 1) byte s (after_step (levels 0) s) a (begins (levels 0) byte s a))
@@ -632,7 +632,7 @@ not_now b d r t n large e w h early =
     let enough : (b + 1) * d ≤ n * d = mul-le-mul_right d more in
     omega (arith, one_more b d)
 
-comes : (byte time : ℕ) (s t : SerialPort) → HearsItself byte s → frame_time byte s ≤ time → Stage byte time s t →
+comes : (byte time : ℕ) (s t : State) → HearsItself byte s → frame_time byte s ≤ time → Stage byte time s t →
     t.received ≡ s.received ++ record { byte = byte % 2 ^ width_of s.line.width; errors = no_errors } ∷ []
 comes byte time s t a early (rests b) = b.received
 comes byte time s t a early (hears b) =

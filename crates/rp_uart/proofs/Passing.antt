@@ -13,7 +13,7 @@ use Rattle.rp_uart.specs.Quiet.{after_cycles, IsQuiet, sent_longer, heard_longer
 use Rattle.rp_uart.specs.Receiver.{can_receive, first_heard, is_stop, after_sample, after_more_waiting, after_waiting, after_line, is_byte_due, after_receiving, with_receiver, with_waited}
 use Rattle.rp_uart.specs.Interrupts.{told, timeout_interrupt}
 use Rattle.rp_uart.specs.Sender.{bit_time, is_over, level_of, can_send, is_last_bit, with_sender, with_first, next_frame, after_bit, after_sender, after_sending, ended_byte}
-use Rattle.rp_uart.specs.State.{SerialPort}
+use Rattle.rp_uart.specs.State.{State}
 use Rattle.rp_uart.specs.Step.{is_running, output_of, heard_of, after_step, sent_byte, pacing_of}
 use Rattle.rp_uart.specs.Words.{word_of}
 use Rattle.rp_uart.proofs.AtRest.{cond-same, none-in, next-none}
@@ -29,19 +29,19 @@ is-below a b lt = grind (arith, nat_tests)
 is-none : (n : ℕ) → (not (n == 0)) ≡ false → n ≡ 0
 is-none n h = grind (arith, nat_tests)
 
-no-frame : (can : Bool) (s : SerialPort) → can_send s ≡ can → (can && not (length s.to_send == 0)) ≡ false → next_frame 0 s ≡ s
+no-frame : (can : Bool) (s : State) → can_send s ≡ can → (can && not (length s.to_send == 0)) ≡ false → next_frame 0 s ≡ s
 unfolding next_frame
 no-frame true s e h = next-none 0 s (none-in s.to_send (is-none (length s.to_send) h))
 no-frame false s e h = ap (λ (b : Bool). cond b (with_first (slice_get s.to_send 0) 0 s) s) e
 
-sends : (sender : Sender) (s : SerialPort) → s.sender ≡ sender → SendsOn 1 sender (has_frame s) s.divisor → after_sender sender s ≡ record s { sender = sent_longer 4 sender }
+sends : (sender : Sender) (s : State) → s.sender ≡ sender → SendsOn 1 sender (has_frame s) s.divisor → after_sender sender s ≡ record s { sender = sent_longer 4 sender }
 sends senders.Idle s e h = no-frame (can_send s) s refl h ∙ ap (λ (x : Sender). record s { sender = x }) e
 sends (senders.Frame f) s e h =
     let next = λ (b : Bool). cond b (f.elapsed + 4 - bit_time s.divisor) (f.elapsed + 4) in
     ap (λ (b : Bool). cond b (after_bit f (next b) s) (with_sender (senders.Frame (record f { elapsed = next b })) s))
     (not-over f.elapsed s.divisor h)
 
-hears : (receiver : Receiver) (level : Bool) (s : SerialPort) → s.receiver ≡ receiver → HearsOn 1 receiver level (can_receive s) s.divisor →
+hears : (receiver : Receiver) (level : Bool) (s : State) → s.receiver ≡ receiver → HearsOn 1 receiver level (can_receive s) s.divisor →
     cond (is_byte_due receiver s) (after_line receiver level s) (after_waiting (after_line receiver level s))
     ≡ after_waiting (record s { receiver = heard_longer 4 receiver })
 unfolding after_line is_byte_due
@@ -56,18 +56,18 @@ hears (receivers.Frame g) level s e h =
     let after = λ (b : Bool). cond b (after_sample level g (next b) s) (with_receiver (receivers.Frame (record g { elapsed = next b })) s) in
     ap (λ (b : Bool). cond (b && is_stop g s) (after b) (after_waiting (after b))) (not-over g.elapsed s.divisor h)
 
-waits : (waited : Option ℕ) (s : SerialPort) → s.waited ≡ waited → WaitsOn 1 waited s.divisor → after_more_waiting waited s ≡ record s { waited = waited_longer 4 waited }
+waits : (waited : Option ℕ) (s : State) → s.waited ≡ waited → WaitsOn 1 waited s.divisor → after_more_waiting waited s ≡ record s { waited = waited_longer 4 waited }
 waits None s e h = ap (λ (x : Option ℕ). record s { waited = x }) e
 waits (Some elapsed) s e h =
     ap (λ (b : Bool). cond b (with_waited (Some (elapsed + 4)) s) (told timeout_interrupt (with_waited None s)))
     (is-below (elapsed + 4) (32 * bit_time s.divisor) h)
 
-one : (line : Bool) (s : SerialPort) → GoesOn line s 1 → after_step line s ≡ passed 1 s
+one : (line : Bool) (s : State) → GoesOn line s 1 → after_step line s ≡ passed 1 s
 unfolding after_sending after_receiving after_waiting
 one line s g =
     let level = heard_of line s in
-    let sent : SerialPort = record s { sender = sent_longer 4 s.sender } in
-    let heard : SerialPort = record sent { receiver = heard_longer 4 s.receiver } in
+    let sent : State = record s { sender = sent_longer 4 s.sender } in
+    let heard : State = record sent { receiver = heard_longer 4 s.receiver } in
     ap (λ (b : Bool). cond b (after_receiving level (after_sending s)) s) g.running
     ∙ (ap (after_receiving level) (sends s.sender s refl g.sends)
     ∙ (hears s.receiver level sent refl g.hears ∙ waits s.waited heard refl g.waits))
@@ -91,7 +91,7 @@ level-stays : (time : ℕ) (x : Sender) (line : LineControl) → level_of (sent_
 level-stays time senders.Idle line = refl
 level-stays time (senders.Frame f) line = refl
 
-goes-on : (line : Bool) (s : SerialPort) (n k : ℕ) → GoesOn line s n → k < n → GoesOn line (passed k s) 1
+goes-on : (line : Bool) (s : State) (n k : ℕ) → GoesOn line s n → k < n → GoesOn line (passed k s) 1
 goes-on line s n k g lt =
     let same : heard_of line s ≡ heard_of line (passed k s) =
     ap (λ (b : Bool). cond s.control.loopback b line) (sym (level-stays (4 * k) s.sender s.line)) in
@@ -123,14 +123,14 @@ waited-more a b c (Some elapsed) e =
     let same : elapsed + a + b ≡ elapsed + c = omega (arith, e) in
     ap (λ (t : ℕ). Some t) same
 
-parts : (s : SerialPort) (a b : Sender) (c d : Receiver) (e f : Option ℕ) → a ≡ b → c ≡ d → e ≡ f →
-    ◌≡◌ {A = SerialPort} (record s { sender = a; receiver = c; waited = e }) (record s { sender = b; receiver = d; waited = f })
+parts : (s : State) (a b : Sender) (c d : Receiver) (e f : Option ℕ) → a ≡ b → c ≡ d → e ≡ f →
+    ◌≡◌ {A = State} (record s { sender = a; receiver = c; waited = e }) (record s { sender = b; receiver = d; waited = f })
 parts s a b c d e f x y z =
     ap (λ (q : Sender). record s { sender = q; receiver = c; waited = e }) x
     ∙ (ap (λ (q : Receiver). record s { sender = b; receiver = q; waited = e }) y
     ∙ ap (λ (q : Option ℕ). record s { sender = b; receiver = d; waited = q }) z)
 
-passed-more : (k : ℕ) (s : SerialPort) → passed 1 (passed k s) ≡ passed (suc k) s
+passed-more : (k : ℕ) (s : State) → passed 1 (passed k s) ≡ passed (suc k) s
 passed-more k s =
     let e : 4 * k + 4 ≡ 4 * suc k = omega arith in
     parts s _ _ _ _ _ _ (sent-more (4 * k) 4 (4 * suc k) s.sender e) (heard-more (4 * k) 4 (4 * suc k) s.receiver e)
@@ -149,7 +149,7 @@ waited-none : (x : Option ℕ) → x ≡ waited_longer 0 x
 waited-none None = refl
 waited-none (Some elapsed) = let same : elapsed ≡ elapsed + 0 = omega arith in ap (λ (t : ℕ). Some t) same
 
-pub passes : (line : Bool) (s : SerialPort) (n : ℕ) → GoesOn line s n → (k : ℕ) → k ≤ n → after_cycles line k s ≡ passed k s
+pub passes : (line : Bool) (s : State) (n : ℕ) → GoesOn line s n → (k : ℕ) → k ≤ n → after_cycles line k s ≡ passed k s
 passes line s n g zero le = parts s _ _ _ _ _ _ (sent-none s.sender) (heard-none s.receiver) (waited-none s.waited)
 passes line s n g (suc k) le =
     ap (after_step line) (passes line s n g k (omega arith))
@@ -157,16 +157,16 @@ passes line s n g (suc k) le =
 
 -- ---- what is shown
 
-no-end : (x : Sender) (b : Bool) (s : SerialPort) → SendsOn 1 x b s.divisor → ended_byte x s ≡ None
+no-end : (x : Sender) (b : Bool) (s : State) → SendsOn 1 x b s.divisor → ended_byte x s ≡ None
 no-end senders.Idle b s h = refl
 no-end (senders.Frame f) b s h = ap (λ (o : Bool). cond (o && is_last_bit f s) (Some f.byte) None) (not-over f.elapsed s.divisor h)
 
-word-stays : (time offset : ℕ) (x : Sender) (receiver : Receiver) (waited : Option ℕ) (s : SerialPort) →
+word-stays : (time offset : ℕ) (x : Sender) (receiver : Receiver) (waited : Option ℕ) (s : State) →
     word_of offset (record s { sender = sent_longer time x; receiver = receiver; waited = waited }) ≡ word_of offset (record s { sender = x })
 word-stays time offset senders.Idle receiver waited s = refl
 word-stays time offset (senders.Frame f) receiver waited s = refl
 
-pub goes-quiet : (line : Bool) (s : SerialPort) (n : ℕ) → GoesOn line s n → IsQuiet line s n
+pub goes-quiet : (line : Bool) (s : State) (n : ℕ) → GoesOn line s n → IsQuiet line s n
 goes-quiet line s n g = record {
   silent = λ k lt.
       ap sent_byte (passes line s n g k (omega arith))
@@ -179,7 +179,7 @@ goes-quiet line s n g = record {
   words = λ k le offset. ap (word_of offset) (passes line s n g k le) ∙ word-stays (4 * k) offset s.sender (heard_longer (4 * k) s.receiver) (waited_longer (4 * k) s.waited) s;
 }
 
-quiet-none : (line : Bool) (s : SerialPort) → IsQuiet line s 0
+quiet-none : (line : Bool) (s : State) → IsQuiet line s 0
 quiet-none line s = record {
   silent = λ k lt. absurd (omega arith);
   output = λ k le. let e : k ≡ 0 = omega arith in rw e refl;
@@ -188,19 +188,19 @@ quiet-none line s = record {
   words = λ k le offset. let e : k ≡ 0 = omega arith in rw e refl;
 }
 
-pub left-quiet : (line : Bool) (s : SerialPort) (n : ℕ) → (0 < n → GoesOn line s n) → IsQuiet line s n
+pub left-quiet : (line : Bool) (s : State) (n : ℕ) → (0 < n → GoesOn line s n) → IsQuiet line s n
 left-quiet line s zero h = quiet-none line s
 left-quiet line s (suc n) h = goes-quiet line s (suc n) (h (omega arith))
 
 -- ---- a UART without a divisor
 
-pub stands : (line : Bool) (s : SerialPort) (n : ℕ) → is_running s ≡ false → after_cycles line n s ≡ s
+pub stands : (line : Bool) (s : State) (n : ℕ) → is_running s ≡ false → after_cycles line n s ≡ s
 stands line s zero e = refl
 stands line s (suc n) e =
     ap (after_step line) (stands line s n e)
     ∙ ap (λ (b : Bool). cond b (after_receiving (heard_of line s) (after_sending s)) s) e
 
-pub stands-quiet : (line : Bool) (s : SerialPort) (n : ℕ) → is_running s ≡ false → IsQuiet line s n
+pub stands-quiet : (line : Bool) (s : State) (n : ℕ) → is_running s ≡ false → IsQuiet line s n
 stands-quiet line s n e = record {
   silent = λ k lt. ap sent_byte (stands line s k e) ∙ ap (λ (b : Bool). cond b (ended_byte s.sender s) None) e;
   output = λ k le. ap output_of (stands line s k e);
@@ -228,7 +228,7 @@ waits-less : (n k : ℕ) (x : Option ℕ) (d : Divisor) → k ≤ n → WaitsOn 
 waits-less n k None d le h = h
 waits-less n k (Some elapsed) d le h = omega (arith, h)
 
-pub goes-less : (line : Bool) (s : SerialPort) (n k : ℕ) → GoesOn line s n → k ≤ n → GoesOn line s k
+pub goes-less : (line : Bool) (s : State) (n k : ℕ) → GoesOn line s n → k ≤ n → GoesOn line s k
 goes-less line s n k g le = record {
   running = g.running;
   sends = sends-less n k s.sender (has_frame s) s.divisor le g.sends;

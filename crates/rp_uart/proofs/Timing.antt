@@ -15,7 +15,7 @@ use Rattle.rp_uart.specs.Frame.{level_at, frame_length}
 use Rattle.rp_uart.specs.Laws.{after_cycles, frame_time, AFrameTakesItsTime}
 use Rattle.rp_uart.specs.Receiver.{after_receiving}
 use Rattle.rp_uart.specs.Sender.{bit_time, is_over, level_of, with_sender, is_last_bit, after_frame, after_sender, after_sending, ended_byte}
-use Rattle.rp_uart.specs.State.{SerialPort}
+use Rattle.rp_uart.specs.State.{State}
 use Rattle.rp_uart.specs.Step.{is_running, output_of, heard_of, after_step, sent_byte}
 use Rattle.rp_uart.proofs.Kept.{sending-keeps, receiving-keeps}
 
@@ -108,38 +108,38 @@ pub record Sent (byte time d : ℕ) (sender : Sender) : Type 0 where
   pub passed : bit * d + elapsed ≡ time
   pub within : elapsed < d
 
-not_over : (f : Sending) (s : SerialPort) → is_over f.elapsed s.divisor ≡ false →
+not_over : (f : Sending) (s : State) → is_over f.elapsed s.divisor ≡ false →
     after_frame f s ≡ with_sender (senders.Frame (record f { elapsed = f.elapsed + 4 })) s
 not_over f s e = rw e refl
 
-next_bit : (f : Sending) (s : SerialPort) → is_over f.elapsed s.divisor ≡ true → is_last_bit f s ≡ false →
+next_bit : (f : Sending) (s : State) → is_over f.elapsed s.divisor ≡ true → is_last_bit f s ≡ false →
     after_frame f s
     ≡ with_sender (senders.Frame (record f { bit = f.bit + 1; elapsed = f.elapsed + 4 - bit_time s.divisor })) s
 next_bit f s e h = rw (e, h) refl
 
-sending-frame : (f : Sending) (s : SerialPort) → s.sender ≡ senders.Frame f → after_sending s ≡ after_frame f s
+sending-frame : (f : Sending) (s : State) → s.sender ≡ senders.Frame f → after_sending s ≡ after_frame f s
 unfolding after_sending
 sending-frame f s e = ap (λ (x : Sender). after_sender x s) e
 
 -- a cycle of a frame that does not end in it changes the sender alone
-pub record Goes (byte time : ℕ) (s t : SerialPort) : Type 0 where
+pub record Goes (byte time : ℕ) (s t : State) : Type 0 where
   pub sent : Sent byte time (bit_time s.divisor) t.sender
   pub to_send : t.to_send ≡ s.to_send
 
-goes-by : (s t : SerialPort) (f : Sending) (byte time : ℕ) → t ≡ with_sender (senders.Frame f) s →
+goes-by : (s t : State) (f : Sending) (byte time : ℕ) → t ≡ with_sender (senders.Frame f) s →
     f.byte ≡ byte → f.bit * bit_time s.divisor + f.elapsed ≡ time → f.elapsed < bit_time s.divisor → Goes byte time s t
 goes-by s t f byte time e b p w = record {
   sent = record {
     bit = f.bit;
     elapsed = f.elapsed;
-    is = ap (λ (x : SerialPort). x.sender) e ∙ ap (λ (x : ℕ). senders.Frame (record f { byte = x })) b;
+    is = ap (λ (x : State). x.sender) e ∙ ap (λ (x : ℕ). senders.Frame (record f { byte = x })) b;
     passed = p;
     within = w;
   };
-  to_send = ap (λ (x : SerialPort). x.to_send) e;
+  to_send = ap (λ (x : State). x.to_send) e;
 }
 
-goes-over : (s : SerialPort) (byte bit elapsed time : ℕ) → 64 ≤ bit_time s.divisor →
+goes-over : (s : State) (byte bit elapsed time : ℕ) → 64 ≤ bit_time s.divisor →
     s.sender ≡ senders.Frame (record { byte = byte; bit = bit; elapsed = elapsed }) →
     bit * bit_time s.divisor + elapsed ≡ time → elapsed < bit_time s.divisor →
     time + 4 < frame_time byte s →
@@ -161,65 +161,65 @@ goes-over s byte bit elapsed time large is passed within early false over =
     goes-by s (after_sending s) g byte (time + 4) (sending-frame f s is ∙ not_over f s over) refl
     (on-time (bit * d) elapsed time passed) (leb-false d (elapsed + 4) over)
 
-pub goes : (s : SerialPort) (byte time : ℕ) → 64 ≤ bit_time s.divisor → Sent byte time (bit_time s.divisor) s.sender →
+pub goes : (s : State) (byte time : ℕ) → 64 ≤ bit_time s.divisor → Sent byte time (bit_time s.divisor) s.sender →
     time + 4 < frame_time byte s → Goes byte (time + 4) s (after_sending s)
 goes s byte time large a early =
     goes-over s byte a.bit a.elapsed time large a.is a.passed a.within early (is_over a.elapsed s.divisor) refl
 
 -- ---- a cycle of the whole
 
-pub runs : (line : Bool) (s : SerialPort) → is_running s ≡ true → after_step line s ≡ after_receiving (heard_of line s) (after_sending s)
+pub runs : (line : Bool) (s : State) → is_running s ≡ true → after_step line s ≡ after_receiving (heard_of line s) (after_sending s)
 runs line s e = rw e refl
 
 -- what neither sending nor receiving touches
-pub record Same (s t : SerialPort) : Type 0 where
+pub record Same (s t : State) : Type 0 where
   pub line : t.line ≡ s.line
   pub divisor : t.divisor ≡ s.divisor
   pub control : t.control ≡ s.control
 
-pub same-sending : (s : SerialPort) → Same s (after_sending s)
+pub same-sending : (s : State) → Same s (after_sending s)
 same-sending s = record {
-  line = sending-keeps (λ (t : SerialPort). t.line) (λ a b c t. refl) s;
-  divisor = sending-keeps (λ (t : SerialPort). t.divisor) (λ a b c t. refl) s;
-  control = sending-keeps (λ (t : SerialPort). t.control) (λ a b c t. refl) s;
+  line = sending-keeps (λ (t : State). t.line) (λ a b c t. refl) s;
+  divisor = sending-keeps (λ (t : State). t.divisor) (λ a b c t. refl) s;
+  control = sending-keeps (λ (t : State). t.control) (λ a b c t. refl) s;
 }
 
-same-receiving : (line : Bool) (s : SerialPort) → Same s (after_receiving line s)
+same-receiving : (line : Bool) (s : State) → Same s (after_receiving line s)
 same-receiving line s = record {
-  line = receiving-keeps (λ (t : SerialPort). t.line) (λ a b c d e f t. refl) line s;
-  divisor = receiving-keeps (λ (t : SerialPort). t.divisor) (λ a b c d e f t. refl) line s;
-  control = receiving-keeps (λ (t : SerialPort). t.control) (λ a b c d e f t. refl) line s;
+  line = receiving-keeps (λ (t : State). t.line) (λ a b c d e f t. refl) line s;
+  divisor = receiving-keeps (λ (t : State). t.divisor) (λ a b c d e f t. refl) line s;
+  control = receiving-keeps (λ (t : State). t.control) (λ a b c d e f t. refl) line s;
 }
 
-pub same-both : (s t u : SerialPort) → Same s t → Same t u → Same s u
+pub same-both : (s t u : State) → Same s t → Same t u → Same s u
 same-both s t u a b = record {
   line = b.line ∙ a.line;
   divisor = b.divisor ∙ a.divisor;
   control = b.control ∙ a.control;
 }
 
-pub same-step : (line : Bool) (s : SerialPort) → is_running s ≡ true → Same s (after_step line s)
+pub same-step : (line : Bool) (s : State) → is_running s ≡ true → Same s (after_step line s)
 same-step line s e =
     rw (runs line s e)
     (same-both s (after_sending s) (after_receiving (heard_of line s) (after_sending s)) (same-sending s)
     (same-receiving (heard_of line s) (after_sending s)))
 
-pub running-as : (s t : SerialPort) → Same s t → is_running s ≡ true → is_running t ≡ true
+pub running-as : (s t : State) → Same s t → is_running s ≡ true → is_running t ≡ true
 running-as s t a e = ap (λ (d : Divisor). nat_lt 0 d.integer) a.divisor ∙ e
 
-pub sender-received : (line : Bool) (s : SerialPort) → (after_receiving line s).sender ≡ s.sender
-sender-received line s = receiving-keeps (λ (t : SerialPort). t.sender) (λ a b c d e f t. refl) line s
+pub sender-received : (line : Bool) (s : State) → (after_receiving line s).sender ≡ s.sender
+sender-received line s = receiving-keeps (λ (t : State). t.sender) (λ a b c d e f t. refl) line s
 
-pub to_send-received : (line : Bool) (s : SerialPort) → (after_receiving line s).to_send ≡ s.to_send
-to_send-received line s = receiving-keeps (λ (t : SerialPort). t.to_send) (λ a b c d e f t. refl) line s
+pub to_send-received : (line : Bool) (s : State) → (after_receiving line s).to_send ≡ s.to_send
+to_send-received line s = receiving-keeps (λ (t : State). t.to_send) (λ a b c d e f t. refl) line s
 
-pub sender-step : (line : Bool) (s : SerialPort) → is_running s ≡ true → (after_step line s).sender ≡ (after_sending s).sender
-sender-step line s e = ap (λ (t : SerialPort). t.sender) (runs line s e) ∙ sender-received (heard_of line s) (after_sending s)
+pub sender-step : (line : Bool) (s : State) → is_running s ≡ true → (after_step line s).sender ≡ (after_sending s).sender
+sender-step line s e = ap (λ (t : State). t.sender) (runs line s e) ∙ sender-received (heard_of line s) (after_sending s)
 
 -- ---- many cycles
 
 -- the frame of a byte goes on in a UART with the settings of the one at first
-pub record On (byte time : ℕ) (s t : SerialPort) : Type 0 where
+pub record On (byte time : ℕ) (s t : State) : Type 0 where
   pub same : Same s t
   pub sent : Sent byte time (bit_time s.divisor) t.sender
 
@@ -232,12 +232,12 @@ moved byte time d e x y p q a = record {
   within = rw (sym p) a.within;
 }
 
-pub frame_time-as : (byte : ℕ) (s t : SerialPort) → Same s t → frame_time byte t ≡ frame_time byte s
+pub frame_time-as : (byte : ℕ) (s t : State) → Same s t → frame_time byte t ≡ frame_time byte s
 frame_time-as byte s t a =
     ap (λ (l : LineControl). frame_length l byte * bit_time t.divisor) a.line
     ∙ ap (λ (v : Divisor). frame_length s.line byte * bit_time v) a.divisor
 
-pub goes-on : (s t : SerialPort) (byte time : ℕ) → is_running s ≡ true → On byte time s t →
+pub goes-on : (s t : State) (byte time : ℕ) → is_running s ≡ true → On byte time s t →
     time + 4 < frame_time byte s → Goes byte (time + 4) t (after_sending t)
 goes-on s t byte time runs a early =
     let large : 64 ≤ bit_time t.divisor = bit_time-large t.divisor (running-as s t a.same runs) in
@@ -245,7 +245,7 @@ goes-on s t byte time runs a early =
     let here : Sent byte time (bit_time t.divisor) t.sender = moved byte time _ _ _ _ (sym d) refl a.sent in
     goes t byte time large here (lt-as (time + 4) (frame_time byte t) (frame_time byte s) (frame_time-as byte s t a.same) early)
 
-pub on-next : (line : Bool) (s t : SerialPort) (byte time : ℕ) → is_running s ≡ true → On byte time s t →
+pub on-next : (line : Bool) (s t : State) (byte time : ℕ) → is_running s ≡ true → On byte time s t →
     time + 4 < frame_time byte s → On byte (time + 4) s (after_step line t)
 on-next line s t byte time runs a early =
     let running : is_running t ≡ true = running-as s t a.same runs in
@@ -255,7 +255,7 @@ on-next line s t byte time runs a early =
       sent = moved byte (time + 4) _ _ _ _ d (sender-step line t running) (goes-on s t byte time runs a early).sent;
     }
 
-at-time : (byte t u : ℕ) (s x : SerialPort) → t ≡ u → On byte t s x → On byte u s x
+at-time : (byte t u : ℕ) (s x : State) → t ≡ u → On byte t s x → On byte u s x
 at-time byte t u s x e a = record {
   same = a.same;
   sent = record {
@@ -267,7 +267,7 @@ at-time byte t u s x e a = record {
   };
 }
 
-on-after : (s : SerialPort) (levels : ℕ → Bool) (byte elapsed n : ℕ) → is_running s ≡ true →
+on-after : (s : State) (levels : ℕ → Bool) (byte elapsed n : ℕ) → is_running s ≡ true →
     On byte elapsed s s → elapsed + 4 * n < frame_time byte s → On byte (elapsed + 4 * n) s (after_cycles levels n s)
 on-after s levels byte elapsed zero runs a early =
     at-time byte elapsed (elapsed + 4 * zero) s s (omega arith) a
@@ -279,7 +279,7 @@ on-after s levels byte elapsed (suc n) runs a early =
     (on-next (levels n) s (after_cycles levels n s) byte (elapsed + 4 * n) runs
     (on-after s levels byte elapsed n runs a now) sooner)
 
-pub level_by : (s t : SerialPort) (byte time : ℕ) → On byte time s t →
+pub level_by : (s t : State) (byte time : ℕ) → On byte time s t →
     output_of t ≡ level_at s.line byte (time / bit_time s.divisor)
 level_by s t byte time a =
     ap (λ (x : Sender). level_of x t.line) a.sent.is
@@ -287,10 +287,10 @@ level_by s t byte time a =
     ∙ ap (level_at s.line byte)
     (sym (times_of a.sent.bit (bit_time s.divisor) a.sent.elapsed time a.sent.passed a.sent.within)))
 
-runs-sent : (t : SerialPort) → is_running t ≡ true → sent_byte t ≡ ended_byte t.sender t
+runs-sent : (t : State) → is_running t ≡ true → sent_byte t ≡ ended_byte t.sender t
 runs-sent t e = rw e refl
 
-ends_by : (s t : SerialPort) (byte time : ℕ) → is_running s ≡ true → On byte time s t → time < frame_time byte s →
+ends_by : (s t : State) (byte time : ℕ) → is_running s ≡ true → On byte time s t → time < frame_time byte s →
     sent_byte t ≡ cond (nat_le (frame_time byte s) (time + 4)) (Some byte) None
 ends_by s t byte time runs a early =
     let running : is_running t ≡ true = running-as s t a.same runs in

@@ -3,7 +3,7 @@
 use Rattle.std.specs.Prelude.{ℕ, ◌+◌, ◌*◌, ◌/◌, ◌%◌, ◌^◌, ◌==◌, Bool, not, nat_lt, if◌then◌else◌, length, bit_and, bit_or}
 use Rattle.rp_base.specs.Word.{bit_number, minus}
 use Rattle.rp_uart.specs.declared.receiver.Errors.{Errors}
-use Rattle.rp_uart.specs.State.{SerialPort}
+use Rattle.rp_uart.specs.State.{State}
 
 -- the interrupts as sets of bits of UARTRIS: RX, TX and RT
 abbrev pub receive_interrupt : ℕ
@@ -24,7 +24,7 @@ abbrev pub error_interrupts : Errors → ℕ
 error_interrupts e = error_bits e * 2 ^ 7
 
 -- how many bytes a FIFO holds
-abbrev pub depth_of : SerialPort → ℕ
+abbrev pub depth_of : State → ℕ
 depth_of s = if s.line.fifos then 32 else 1
 
 -- an eighth, a quarter, half, three quarters and seven eighths of 32; the codes above these act as the last
@@ -36,38 +36,38 @@ trigger_of code =
     if code == 3 then 24 else 28
 
 -- RXIFLSEL is bits 5:3 of UARTIFLS and TXIFLSEL bits 2:0; a single entry triggers when it is taken, or free
-abbrev pub receive_trigger : SerialPort → ℕ
+abbrev pub receive_trigger : State → ℕ
 receive_trigger s = if s.line.fifos then trigger_of (s.levels / 8) else 1
 
-abbrev pub transmit_trigger : SerialPort → ℕ
+abbrev pub transmit_trigger : State → ℕ
 transmit_trigger s = if s.line.fifos then trigger_of (s.levels % 8) else 0
 
 -- interrupts come and go
-abbrev pub with_raw : ℕ → SerialPort → SerialPort
+abbrev pub with_raw : ℕ → State → State
 with_raw raw s = record s { raw = raw }
 
-abbrev pub told : ℕ → SerialPort → SerialPort
+abbrev pub told : ℕ → State → State
 told set s = with_raw (bit_or s.raw set) s
 
-abbrev pub told_if : Bool → ℕ → SerialPort → SerialPort
+abbrev pub told_if : Bool → ℕ → State → State
 told_if comes set s = if comes then told set s else s
 
-abbrev pub cleared : ℕ → SerialPort → SerialPort
+abbrev pub cleared : ℕ → State → State
 cleared set s = with_raw (minus s.raw set) s
 
-abbrev pub cleared_if : Bool → ℕ → SerialPort → SerialPort
+abbrev pub cleared_if : Bool → ℕ → State → State
 cleared_if goes set s = if goes then cleared set s else s
 
 -- RX goes below its trigger, TX above its trigger, and RT where no byte waits
-unfoldable pub settled : SerialPort → SerialPort
+unfoldable pub settled : State → State
 settled s =
     cleared_if (length s.received == 0) timeout_interrupt
     (cleared_if (nat_lt (transmit_trigger s) (length s.to_send)) transmit_interrupt
     (cleared_if (nat_lt (length s.received) (receive_trigger s)) receive_interrupt s))
 
 -- an interrupt that is not masked is told to the processors (UARTMIS)
-abbrev pub masked : SerialPort → ℕ
+abbrev pub masked : State → ℕ
 masked s = bit_and s.raw s.mask
 
-abbrev pub is_line_high : SerialPort → Bool
+abbrev pub is_line_high : State → Bool
 is_line_high s = not (masked s == 0)

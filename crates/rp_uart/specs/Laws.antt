@@ -9,7 +9,7 @@ use Rattle.rp_uart.specs.Frame.{width_of, level_at, frame_length, stop_at}
 use Rattle.rp_uart.specs.Interrupts.{depth_of}
 use Rattle.rp_uart.specs.Receiver.{with_sample, byte_heard, errors_of, can_receive}
 use Rattle.rp_uart.specs.Sender.{bit_time, can_send}
-use Rattle.rp_uart.specs.State.{SerialPort, no_errors}
+use Rattle.rp_uart.specs.State.{State, no_errors}
 use Rattle.rp_uart.specs.Step.{is_running, output_of, after_step, sent_byte}
 
 -- ---- one frame
@@ -30,7 +30,7 @@ WhatIsSentIsHeard = (line : LineControl) (byte : ℕ) → IsHeard line byte (sam
 -- ---- cycles
 
 -- so many cycles, in which RX has these levels
-abbrev pub after_cycles : (ℕ → Bool) → ℕ → SerialPort → SerialPort
+abbrev pub after_cycles : (ℕ → Bool) → ℕ → State → State
 after_cycles levels zero s = s
 after_cycles levels (suc n) s = after_step (levels n) (after_cycles levels n s)
 
@@ -39,12 +39,12 @@ abbrev pub begun : ℕ → ℕ → Sender
 begun byte elapsed = senders.Frame (record { byte = byte; bit = 0; elapsed = elapsed })
 
 -- how many quarters of a cycle the frame of a byte lasts: each of its bits lasts 64 times the divisor
-abbrev pub frame_time : ℕ → SerialPort → ℕ
+abbrev pub frame_time : ℕ → State → ℕ
 frame_time byte s = frame_length s.line byte * bit_time s.divisor
 
 -- before the n-th cycle from here, TX has the level of the bit whose time it is; and the frame ends with that cycle exactly
 -- where its time is over then
-pub record IsSent (byte elapsed n : ℕ) (levels : ℕ → Bool) (s : SerialPort) : Type 0 where
+pub record IsSent (byte elapsed n : ℕ) (levels : ℕ → Bool) (s : State) : Type 0 where
   pub level : output_of (after_cycles levels n s) ≡ level_at s.line byte ((elapsed + 4 * n) / bit_time s.divisor)
   pub ends :
       sent_byte (after_cycles levels n s)
@@ -53,7 +53,7 @@ pub record IsSent (byte elapsed n : ℕ) (levels : ℕ → Bool) (s : SerialPort
 -- a frame takes the time of its bits: it ends in the first cycle in which four times the cycles since it began reach that time
 abbrev pub AFrameTakesItsTime : Type 0
 AFrameTakesItsTime =
-    (s : SerialPort) (levels : ℕ → Bool) (byte elapsed n : ℕ)
+    (s : State) (levels : ℕ → Bool) (byte elapsed n : ℕ)
     → is_running s ≡ true
     → s.sender ≡ begun byte elapsed
     → elapsed < bit_time s.divisor
@@ -61,7 +61,7 @@ AFrameTakesItsTime =
     → IsSent byte elapsed n levels s
 
 -- a UART at rest that hears itself, with room for a byte and with one byte to send
-pub record HearsItself (byte : ℕ) (s : SerialPort) : Type 0 where
+pub record HearsItself (byte : ℕ) (s : State) : Type 0 where
   pub running : is_running s ≡ true
   pub loops : s.control.loopback ≡ true
   pub sends : can_send s ≡ true
@@ -75,7 +75,7 @@ pub record HearsItself (byte : ℕ) (s : SerialPort) : Type 0 where
 -- once the time of its frame is over, the byte stands in the receive FIFO, and has no error
 abbrev pub TheByteComesBack : Type 0
 TheByteComesBack =
-    (s : SerialPort) (levels : ℕ → Bool) (byte n : ℕ)
+    (s : State) (levels : ℕ → Bool) (byte n : ℕ)
     → HearsItself byte s
     → frame_time byte s ≤ 4 * n
     → (after_cycles levels (suc n) s).received

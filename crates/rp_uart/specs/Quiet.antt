@@ -9,17 +9,17 @@ use Rattle.rp_uart.specs.declared.sender.Sender.TheVariants as senders
 use Rattle.rp_uart.specs.Interrupts.{is_line_high}
 use Rattle.rp_uart.specs.Receiver.{can_receive}
 use Rattle.rp_uart.specs.Sender.{bit_time, can_send}
-use Rattle.rp_uart.specs.State.{SerialPort}
+use Rattle.rp_uart.specs.State.{State}
 use Rattle.rp_uart.specs.Step.{is_running, output_of, heard_of, after_step, sent_byte, pacing_of}
 use Rattle.rp_uart.specs.Words.{word_of}
 
 -- so many cycles, in which RX stays at a level
-abbrev pub after_cycles : Bool → ℕ → SerialPort → SerialPort
+abbrev pub after_cycles : Bool → ℕ → State → State
 after_cycles line zero s = s
 after_cycles line (suc n) s = after_step line (after_cycles line n s)
 
 -- in so many cycles no frame ends, and TX, the interrupt line, what the DMA engine is told and what each word reads as stay
-pub record IsQuiet (line : Bool) (s : SerialPort) (n : ℕ) : Type 0 where
+pub record IsQuiet (line : Bool) (s : State) (n : ℕ) : Type 0 where
   pub silent : (k : ℕ) → k < n → sent_byte (after_cycles line k s) ≡ None
   pub output : (k : ℕ) → k ≤ n → output_of (after_cycles line k s) ≡ output_of s
   pub lines : (k : ℕ) → k ≤ n → is_line_high (after_cycles line k s) ≡ is_line_high s
@@ -42,7 +42,7 @@ abbrev pub waited_longer : ℕ → Option ℕ → Option ℕ
 waited_longer time None = None
 waited_longer time (Some elapsed) = Some (elapsed + time)
 
-abbrev pub passed : ℕ → SerialPort → SerialPort
+abbrev pub passed : ℕ → State → State
 passed n s =
     record s {
       sender = sent_longer (4 * n) s.sender;
@@ -51,7 +51,7 @@ passed n s =
     }
 
 -- a frame is about to begin
-abbrev pub has_frame : SerialPort → Bool
+abbrev pub has_frame : State → Bool
 has_frame s = can_send s && not (length s.to_send == 0)
 
 -- in so many cycles no bit of a frame that is sent ends, and none begins
@@ -70,7 +70,7 @@ abbrev pub WaitsOn : ℕ → Option ℕ → Divisor → Type 0
 WaitsOn n None d = ⊤
 WaitsOn n (Some elapsed) d = elapsed + 4 * n < 32 * bit_time d
 
-pub record GoesOn (line : Bool) (s : SerialPort) (n : ℕ) : Type 0 where
+pub record GoesOn (line : Bool) (s : State) (n : ℕ) : Type 0 where
   pub running : is_running s ≡ true
   pub sends : SendsOn n s.sender (has_frame s) s.divisor
   pub hears : HearsOn n s.receiver (heard_of line s) (can_receive s) s.divisor

@@ -9,7 +9,7 @@ use Rattle.rp_uart.specs.declared.sender.Sender.{Sender}
 use Rattle.rp_uart.specs.declared.sender.Sender.TheVariants as senders
 use Rattle.rp_uart.specs.Frame.{level_at, frame_length}
 use Rattle.rp_uart.specs.Interrupts.{transmit_trigger, transmit_interrupt, told_if}
-use Rattle.rp_uart.specs.State.{SerialPort}
+use Rattle.rp_uart.specs.State.{State}
 
 -- how long a bit lasts
 abbrev pub bit_time : Divisor → ℕ
@@ -31,11 +31,11 @@ abbrev pub is_idle : Sender → Bool
 is_idle senders.Idle = true
 is_idle (senders.Frame f) = false
 
-abbrev pub with_sender : Sender → SerialPort → SerialPort
+abbrev pub with_sender : Sender → State → State
 with_sender sender s = record s { sender = sender }
 
 -- the oldest byte, where one waits, goes from the FIFO into a frame, whose start bit has lasted for so long
-abbrev pub with_first : Option ℕ → ℕ → SerialPort → SerialPort
+abbrev pub with_first : Option ℕ → ℕ → State → State
 with_first None elapsed s = s
 with_first (Some byte) elapsed s =
     let rest = record s {
@@ -45,39 +45,39 @@ with_first (Some byte) elapsed s =
     told_if (length rest.to_send == transmit_trigger rest) transmit_interrupt rest
 
 -- a frame begins only where the UART and its transmitter are enabled
-abbrev pub can_send : SerialPort → Bool
+abbrev pub can_send : State → Bool
 can_send s = s.control.enabled && s.control.transmit
 
-unfoldable pub next_frame : ℕ → SerialPort → SerialPort
+unfoldable pub next_frame : ℕ → State → State
 next_frame elapsed s = if can_send s then with_first (slice_get s.to_send 0) elapsed s else s
 
 -- the bit is over: the next one follows, or the frame ends
-abbrev pub is_last_bit : Sending → SerialPort → Bool
+abbrev pub is_last_bit : Sending → State → Bool
 is_last_bit f s = nat_le (frame_length s.line f.byte) (f.bit + 1)
 
-abbrev pub after_bit : Sending → ℕ → SerialPort → SerialPort
+abbrev pub after_bit : Sending → ℕ → State → State
 after_bit f elapsed s =
     if is_last_bit f s then next_frame elapsed (with_sender senders.Idle s)
     else with_sender (senders.Frame (record f { bit = f.bit + 1; elapsed = elapsed })) s
 
 -- a frame that has begun goes on, whether or not the UART is enabled
-abbrev pub after_frame : Sending → SerialPort → SerialPort
+abbrev pub after_frame : Sending → State → State
 after_frame f s =
     let elapsed = elapsed_after f.elapsed s.divisor in
     if is_over f.elapsed s.divisor then after_bit f elapsed s
     else with_sender (senders.Frame (record f { elapsed = elapsed })) s
 
-abbrev pub after_sender : Sender → SerialPort → SerialPort
+abbrev pub after_sender : Sender → State → State
 after_sender senders.Idle s = next_frame 0 s
 after_sender (senders.Frame f) s = after_frame f s
 
-unfoldable pub after_sending : SerialPort → SerialPort
+unfoldable pub after_sending : State → State
 after_sending s = after_sender s.sender s
 
 -- the byte whose frame ends in this cycle, with all its bits, whatever the number of data bits is
-abbrev pub frame_byte : Sending → SerialPort → Option ℕ
+abbrev pub frame_byte : Sending → State → Option ℕ
 frame_byte f s = if is_over f.elapsed s.divisor && is_last_bit f s then Some f.byte else None
 
-abbrev pub ended_byte : Sender → SerialPort → Option ℕ
+abbrev pub ended_byte : Sender → State → Option ℕ
 ended_byte senders.Idle s = None
 ended_byte (senders.Frame f) s = frame_byte f s

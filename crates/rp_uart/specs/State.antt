@@ -13,7 +13,7 @@ use Rattle.rp_uart.specs.declared.receiver.Receiver.TheVariants as receivers
 use Rattle.rp_uart.specs.declared.sender.Sender.{Sender}
 use Rattle.rp_uart.specs.declared.sender.Sender.TheVariants as senders
 
-pub record SerialPort : Type 0 where
+pub record State : Type 0 where
   -- the bytes that wait to be sent, the oldest first
   pub to_send : List ℕ
   -- the bytes that wait to be read, the oldest first, each with its errors
@@ -41,7 +41,7 @@ abbrev pub no_errors : Errors
 no_errors = record { framing = false; parity = false; break_line = false; overrun = false }
 
 -- at reset both FIFOs are empty and the UART is disabled, but its two halves are not
-abbrev pub at_reset : SerialPort
+abbrev pub at_reset : State
 at_reset =
     record {
       to_send = [];

@@ -4,33 +4,33 @@ use Rattle.std.specs.Prelude.{ℕ, ◌-◌, ◌==◌, ◌&&◌, ◌||◌, Bool, 
 use Rattle.rp_uart.specs.Interrupts.{depth_of}
 use Rattle.rp_uart.specs.Receiver.{after_receiving, is_free}
 use Rattle.rp_uart.specs.Sender.{level_of, is_idle, after_sending, ended_byte}
-use Rattle.rp_uart.specs.State.{SerialPort}
+use Rattle.rp_uart.specs.State.{State}
 
 -- with an integer divisor of 0 nothing runs
-abbrev pub is_running : SerialPort → Bool
+abbrev pub is_running : State → Bool
 is_running s = nat_lt 0 s.divisor.integer
 
-abbrev pub output_of : SerialPort → Bool
+abbrev pub output_of : State → Bool
 output_of s = level_of s.sender s.line
 
 -- with LBE the UART receives what it sends itself
-abbrev pub heard_of : Bool → SerialPort → Bool
+abbrev pub heard_of : Bool → State → Bool
 heard_of line s = if s.control.loopback then output_of s else line
 
-abbrev pub after_step : Bool → SerialPort → SerialPort
+abbrev pub after_step : Bool → State → State
 after_step line s = if is_running s then after_receiving (heard_of line s) (after_sending s) else s
 
 -- the byte whose frame ends in this cycle
-abbrev pub sent_byte : SerialPort → Option ℕ
+abbrev pub sent_byte : State → Option ℕ
 sent_byte s = if is_running s then ended_byte s.sender s else None
 
 -- nothing is sent, nothing is received, and no byte waits to be sent or to be told; a low line, which is heard, would begin a frame
-abbrev pub has_nothing_to_do : Bool → SerialPort → Bool
+abbrev pub has_nothing_to_do : Bool → State → Bool
 has_nothing_to_do line s =
     is_idle s.sender
     && (is_free s.receiver && (is_none s.waited && ((length s.to_send == 0) && (line || s.control.loopback))))
 
 -- the free entries of the transmit FIFO and the words of the receive FIFO, each where the DMA engine is asked to move them
-abbrev pub pacing_of : SerialPort → List ℕ
+abbrev pub pacing_of : State → List ℕ
 pacing_of s =
     (if s.dma.transmit then depth_of s - length s.to_send else 0) ∷ (if s.dma.receive then length s.received else 0) ∷ []

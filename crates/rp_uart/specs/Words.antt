@@ -15,7 +15,7 @@ use Rattle.rp_uart.specs.declared.sender.Sender.{Sender}
 use Rattle.rp_uart.specs.declared.sender.Sender.TheVariants as senders
 use Rattle.rp_uart.specs.Interrupts.{depth_of, error_bits, masked, cleared, settled}
 use Rattle.rp_uart.specs.Receiver.{with_overrun}
-use Rattle.rp_uart.specs.State.{SerialPort, no_errors}
+use Rattle.rp_uart.specs.State.{State, no_errors}
 
 -- ---- UARTDR and UARTRSR
 
@@ -25,23 +25,23 @@ received_word None = 0
 received_word (Some r) = r.byte + error_bits r.errors * 2 ^ 8
 
 -- the errors of the byte that was read last, and that a byte was lost
-abbrev pub status_of : SerialPort → Errors
+abbrev pub status_of : State → Errors
 status_of s = with_overrun (s.last.overrun || s.overrun) s.last
 
 -- a read of UARTDR takes the oldest byte, whose errors UARTRSR has from then on
-abbrev pub after_taking : Option Received → SerialPort → SerialPort
+abbrev pub after_taking : Option Received → State → State
 after_taking None s = s
 after_taking (Some r) s =
     let rest = drop 1 s.received in
     record s { received = rest; last = r.errors; waited = if length rest == 0 then None else Some 0 }
 
 -- a byte for a full FIFO is dropped
-abbrev pub after_giving : ℕ → SerialPort → SerialPort
+abbrev pub after_giving : ℕ → State → State
 after_giving byte s =
     if nat_lt (length s.to_send) (depth_of s) then record s { to_send = s.to_send ++ byte ∷ [] } else s
 
 -- any write of UARTRSR clears it
-abbrev pub without_errors : SerialPort → SerialPort
+abbrev pub without_errors : State → State
 without_errors s = record s { last = no_errors; overrun = false }
 
 -- ---- UARTFR: TXFE, RXFF, TXFF, RXFE and BUSY, which is set while bytes wait to be sent or one is being sent
@@ -50,10 +50,10 @@ abbrev pub is_sending : Sender → Bool
 is_sending senders.Idle = false
 is_sending (senders.Frame f) = true
 
-abbrev pub is_busy : SerialPort → Bool
+abbrev pub is_busy : State → Bool
 is_busy s = nat_lt 0 (length s.to_send) || is_sending s.sender
 
-abbrev pub flags_of : SerialPort → ℕ
+abbrev pub flags_of : State → ℕ
 flags_of s =
     bit_number (length s.to_send == 0) * 2 ^ 7 + bit_number (nat_le (depth_of s) (length s.received)) * 2 ^ 6
     + bit_number (nat_le (depth_of s) (length s.to_send)) * 2 ^ 5 + bit_number (length s.received == 0) * 2 ^ 4
@@ -99,13 +99,13 @@ control_from w = record {
   receive = has_bit w 9;
 }
 
-abbrev pub with_divisor : Divisor → SerialPort → SerialPort
+abbrev pub with_divisor : Divisor → State → State
 with_divisor divisor s = record s { divisor = divisor }
 
-abbrev pub with_integer : ℕ → SerialPort → SerialPort
+abbrev pub with_integer : ℕ → State → State
 with_integer w s = with_divisor (record s.divisor { integer = w % 2 ^ 16 }) s
 
-abbrev pub with_fraction : ℕ → SerialPort → SerialPort
+abbrev pub with_fraction : ℕ → State → State
 with_fraction w s = with_divisor (record s.divisor { fraction = w % 2 ^ 6 }) s
 
 -- ---- UARTDMACR
@@ -119,7 +119,7 @@ dma_control_from w = record { receive = has_bit w 0; transmit = has_bit w 1 }
 -- ---- all registers
 
 -- UARTICR clears the interrupts whose bits are 1
-abbrev pub uart_rows : List (Row ⊤ SerialPort)
+abbrev pub uart_rows : List (Row ⊤ State)
 uart_rows =
     register 0x00 "UARTDR" (λ seen s. received_word (slice_get s.received 0)) (λ s. after_taking (slice_get s.received 0) s) (λ w s. after_giving (w % 2 ^ 8) s)
     ∷ read_write 0x04 "UARTRSR" (λ s. error_bits (status_of s)) (λ w s. without_errors s)
@@ -137,17 +137,17 @@ uart_rows =
     ∷ []
 
 -- what a word reads as; None where there is none
-abbrev pub word_of : ℕ → SerialPort → Option ℕ
+abbrev pub word_of : ℕ → State → Option ℕ
 word_of offset s = word_at uart_rows tt offset s
 
 abbrev pub is_word : ℕ → Bool
 is_word offset = has_row uart_rows offset
 
-abbrev pub after_access : ℕ → Option ℕ → SerialPort → SerialPort
+abbrev pub after_access : ℕ → Option ℕ → State → State
 after_access offset write s = effect_at uart_rows offset write s
 
 -- what a read or a write does; nothing where there is no such word
-unfoldable pub effect_of : ℕ → Option ℕ → SerialPort → SerialPort
+unfoldable pub effect_of : ℕ → Option ℕ → State → State
 effect_of offset write s = if is_word offset then settled (after_access offset write s) else s
 
 -- each register is what stands at its offset, and nothing stands at any other

@@ -34,9 +34,9 @@ pub struct Uart {
 }
 
 impl Model for Uart {
-    ghost use Rattle.rp_uart.specs.State.{SerialPort};
+    ghost use Rattle.rp_uart.specs.State.{State};
 
-    ghost Value = { SerialPort };
+    ghost Value = { State };
 
     ghost view = { λ u. record {
       to_send = u.to_send.items;

@@ -10,7 +10,7 @@ use Rattle.sio_block.specs.declared.locks.Locks.{Locks}
 use Rattle.rp_base.specs.Word.{minus}
 use Rattle.sio_block.specs.Locks.{is_free, lock_word, lock_read, lock_written}
 use Rattle.rp_base.specs.Rows.{Each, is_at, number_at}
-use Rattle.sio_block.specs.State.{SioState}
+use Rattle.sio_block.specs.State.{State}
 use Rattle.sio_block.specs.Words.{word_of}
 use Rattle.sio_block.specs.Changes.{finds, effect_where}
 use Rattle.sio_block.specs.Laws.{lock_offset, does_by, both_read, ALockHasOneOwner}
@@ -22,16 +22,16 @@ offset_is_lock : (n : ℕ) → n < 32 → is_at (Each 0x100 32 4) (lock_offset n
 offset_is_lock n h = grind (arith, nat_tests, common_steps)
 
 -- a lock's word, read and written
-word-lock : (core n inputs : ℕ) (s : SioState) → n < 32 → word_of core (lock_offset n) inputs s ≡ lock_word (lock_offset n) s.locks
+word-lock : (core n inputs : ℕ) (s : State) → n < 32 → word_of core (lock_offset n) inputs s ≡ lock_word (lock_offset n) s.locks
 word-lock core n inputs s h = grind (arith, nat_tests, common_steps)
 
-finds-lock : (core n : ℕ) (s : SioState) → n < 32 → finds core (lock_offset n) None s ≡ is_free (lock_offset n) s.locks
+finds-lock : (core n : ℕ) (s : State) → n < 32 → finds core (lock_offset n) None s ≡ is_free (lock_offset n) s.locks
 finds-lock core n s h = grind (arith, nat_tests, common_steps)
 
-read-lock : (found : Bool) (core n : ℕ) (s : SioState) → n < 32 → (effect_where found core (lock_offset n) None s).locks ≡ lock_read found (lock_offset n) s.locks
+read-lock : (found : Bool) (core n : ℕ) (s : State) → n < 32 → (effect_where found core (lock_offset n) None s).locks ≡ lock_read found (lock_offset n) s.locks
 read-lock found core n s h = grind (arith, nat_tests, common_steps)
 
-write-lock : (found : Bool) (core n w : ℕ) (s : SioState) → n < 32 → (effect_where found core (lock_offset n) (Some w) s).locks ≡ lock_written (lock_offset n) w s.locks
+write-lock : (found : Bool) (core n w : ℕ) (s : State) → n < 32 → (effect_where found core (lock_offset n) (Some w) s).locks ≡ lock_written (lock_offset n) w s.locks
 write-lock found core n w s h = grind (arith, nat_tests, common_steps)
 
 word-number : (n : ℕ) (l : Locks) → n < 32 → lock_word (lock_offset n) l ≡ Some (if has_bit l.taken n then 0 else 2 ^ n)
@@ -62,10 +62,10 @@ clear_bit x n h =
     rw f refl
 
 -- what a read of a free lock finds, and what it leaves
-found_free : (core n : ℕ) (s : SioState) → n < 32 → has_bit s.locks.taken n ≡ false → finds core (lock_offset n) None s ≡ true
+found_free : (core n : ℕ) (s : State) → n < 32 → has_bit s.locks.taken n ≡ false → finds core (lock_offset n) None s ≡ true
 found_free core n s h free = finds-lock core n s h ∙ free-number n s.locks h free
 
-read-free : (core n : ℕ) (s t : SioState) → n < 32 → has_bit s.locks.taken n ≡ false
+read-free : (core n : ℕ) (s t : State) → n < 32 → has_bit s.locks.taken n ≡ false
     → (does_by s core (lock_offset n) None t).locks ≡ record t.locks { taken = bit_or t.locks.taken (2 ^ n) }
 read-free core n s t h free =
     read-lock (finds core (lock_offset n) None s) core n t h

@@ -8,7 +8,7 @@ use Rattle.std.proofs.lemmas.List.{append-nil}
 use Rattle.sio_block.specs.Mailbox.{front_of}
 use Rattle.sio_block.specs.Side.{mailbox_written}
 use Rattle.sio_block.specs.Launcher.{answer_to, word_taken, after_turn}
-use Rattle.sio_block.specs.State.{SioState}
+use Rattle.sio_block.specs.State.{State}
 use Rattle.sio_block.specs.Words.{word_of}
 use Rattle.sio_block.specs.MailLaws.{Post, core_of, words_of, posted, all_posted, coming, given_by, came, given, WordsStayInOrder, first_words, Fits, DoesNotFit, Answers, TheLauncherAnswers}
 use Rattle.sio_block.specs.MailLaws.Post.{Sends, Takes}
@@ -29,24 +29,24 @@ taken_by (w ∷ ws) = sym (ap (λ b. cond b (w ∷ []) [] ++ cond b ws (w ∷ ws
 
 -- ---- one cycle
 
-sent : (second : Bool) (w : ℕ) (s : SioState) →
+sent : (second : Bool) (w : ℕ) (s : State) →
     words_of (core_of (not second)) (posted second (Sends w) s)
     ≡ mailbox_written (nat_lt (length (words_of (core_of (not second)) s)) 8) 0x054 w (words_of (core_of (not second)) s)
 sent true w s = refl
 sent false w s = refl
 
-took : (second : Bool) (s : SioState) →
+took : (second : Bool) (s : State) →
     words_of (core_of (not second)) (posted second Takes s)
     ≡ cond (nat_lt 0 (length (words_of (core_of (not second)) s))) (drop 1 (words_of (core_of (not second)) s)) (words_of (core_of (not second)) s)
 took true s = refl
 took false s = refl
 
-reads : (second : Bool) (s : SioState) →
+reads : (second : Bool) (s : State) →
     unwrap_or (word_of (core_of (not second)) 0x058 0 s) 0 ≡ front_of (words_of (core_of (not second)) s)
 reads true s = refl
 reads false s = refl
 
-one_post : (second : Bool) (p : Post) (s : SioState) →
+one_post : (second : Bool) (p : Post) (s : State) →
     words_of (core_of (not second)) s ++ coming p (words_of (core_of (not second)) s)
     ≡ given_by p (words_of (core_of (not second)) s) (word_of (core_of (not second)) 0x058 0 s)
     ++ words_of (core_of (not second)) (posted second p s)
@@ -101,12 +101,12 @@ refused_by (suc zero) w h = not_equal w 0 h
 refused_by (suc (suc zero)) w h = not_equal w 1 h
 refused_by (suc (suc (suc n))) w h = absurd h
 
-turn_is : (s : SioState) (w : ℕ) (rest : List ℕ) → words_of 1 s ≡ w ∷ rest → length (words_of 0 s) < 8 → after_turn s ≡ word_taken w s
+turn_is : (s : State) (w : ℕ) (rest : List ℕ) → words_of 1 s ≡ w ∷ rest → length (words_of 0 s) < 8 → after_turn s ≡ word_taken w s
 turn_is s w rest h room =
     ap₂ (λ a b. cond (a && b) (word_taken (front_of s.core1.mailbox) s) s) (some_word (words_of 1 s) w rest h) (some_room (length (words_of 0 s)) room)
     ∙ ap (λ l. word_taken (front_of l) s) h
 
-answers_by : (s : SioState) (w answer : ℕ) (rest : List ℕ) → words_of 1 s ≡ w ∷ rest → length (words_of 0 s) < 8 → answer_to s.launched w ≡ answer →
+answers_by : (s : State) (w answer : ℕ) (rest : List ℕ) → words_of 1 s ≡ w ∷ rest → length (words_of 0 s) < 8 → answer_to s.launched w ≡ answer →
     Answers s w answer rest
 answers_by s w answer rest h room is =
     record {

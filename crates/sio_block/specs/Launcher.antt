@@ -6,10 +6,10 @@ use Rattle.std.specs.Prelude.{ℕ, ◌-◌, ◌^◌, Bool, true, ◌&&◌, ◌==
 use Rattle.sio_block.specs.declared.Launch.{Launch}
 use Rattle.sio_block.specs.Mailbox.{has_word, has_room, front_of, taken_from, put_into}
 use Rattle.sio_block.specs.Side.{with_mailbox}
-use Rattle.sio_block.specs.State.{SioState}
+use Rattle.sio_block.specs.State.{State}
 
 -- the launcher has a word to take, and room for the answer
-abbrev pub offers_of : SioState → Bool
+abbrev pub offers_of : State → Bool
 offers_of s = has_word s.core1.mailbox && has_room s.core0.mailbox
 
 -- a word fits after those that were taken
@@ -36,7 +36,7 @@ launch_after taken w =
     else None
 
 -- the launcher takes a word
-abbrev pub word_taken : ℕ → SioState → SioState
+abbrev pub word_taken : ℕ → State → State
 word_taken w s =
     record s {
       core0 = with_mailbox (put_into (answer_to s.launched w) s.core0.mailbox) s.core0;
@@ -45,8 +45,8 @@ word_taken w s =
     }
 
 -- one turn of the launcher, and what it starts
-abbrev pub after_turn : SioState → SioState
+abbrev pub after_turn : State → State
 after_turn s = if offers_of s then word_taken (front_of s.core1.mailbox) s else s
 
-abbrev pub launch_of : SioState → Option Launch
+abbrev pub launch_of : State → Option Launch
 launch_of s = if offers_of s then launch_after s.launched (front_of s.core1.mailbox) else None

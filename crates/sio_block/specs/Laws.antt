@@ -11,7 +11,7 @@ use Rattle.sio_block.specs.Launcher.{answer_to, taken_after, launch_after}
 use Rattle.sio_block.specs.Locks.{lock_rows}
 use Rattle.sio_block.specs.Pins.{pin_rows}
 use Rattle.sio_block.specs.Side.{mailbox_rows}
-use Rattle.sio_block.specs.State.{SioState}
+use Rattle.sio_block.specs.State.{State}
 use Rattle.sio_block.specs.Words.{core_rows, word_of}
 use Rattle.sio_block.specs.Changes.{finds, effect_where}
 
@@ -34,16 +34,16 @@ abbrev pub lock_offset : ℕ → ℕ
 lock_offset n = SPINLOCK0 + 4 * n
 
 -- what a core's access does that found what the block at the start of the cycle has
-abbrev pub does_by : SioState → ℕ → ℕ → Option ℕ → SioState → SioState
+abbrev pub does_by : State → ℕ → ℕ → Option ℕ → State → State
 does_by start core offset write s = effect_where (finds core offset write start) core offset write s
 
 -- both cores have read a lock in one cycle
-abbrev pub both_read : ℕ → ℕ → ℕ → SioState → SioState
+abbrev pub both_read : ℕ → ℕ → ℕ → State → State
 both_read n first second s =
     does_by s second (lock_offset n) None (does_by s first (lock_offset n) None s)
 
 -- of two cores that read a free lock in one cycle the first gets its bit, and the second finds it taken until it is written
-pub record HasOneOwner (s : SioState) (n inputs first second w : ℕ) : Type 0 where
+pub record HasOneOwner (s : State) (n inputs first second w : ℕ) : Type 0 where
   pub taken : word_of first (lock_offset n) inputs s ≡ Some (2 ^ n)
   pub refused : word_of second (lock_offset n) inputs (does_by s first (lock_offset n) None s) ≡ Some 0
   pub freed :
@@ -52,7 +52,7 @@ pub record HasOneOwner (s : SioState) (n inputs first second w : ℕ) : Type 0 w
 
 abbrev pub ALockHasOneOwner : Type 0
 ALockHasOneOwner =
-    (s : SioState) (n inputs first second w : ℕ)
+    (s : State) (n inputs first second w : ℕ)
     → n < 32
     → has_bit s.locks.taken n ≡ false
     → HasOneOwner s n inputs first second w

@@ -5,10 +5,10 @@ use Rattle.sio_block.specs.Offsets.{FIFO_ST, SPINLOCK0}
 use Rattle.sio_block.specs.Pins.{pins_word}
 use Rattle.sio_block.specs.Side.{side_word}
 use Rattle.sio_block.specs.Locks.{lock_word}
-use Rattle.sio_block.specs.State.{SioState, own_side, other_side}
+use Rattle.sio_block.specs.State.{State, own_side, other_side}
 
 -- what a core reads of the whole: its number, the levels of the pins, which it sees, and the locks that are taken
-abbrev pub core_rows : ℕ → List (Row ℕ SioState)
+abbrev pub core_rows : ℕ → List (Row ℕ State)
 core_rows core =
     read_only 0x000 "CPUID" (λ s. core)
     ∷ seen_only 0x004 "GPIO_IN" (λ inputs s. inputs)
@@ -16,7 +16,7 @@ core_rows core =
     ∷ []
 
 -- what a word reads as for a core, where `inputs` are the levels of the pins; None where there is no such word
-abbrev pub word_of : ℕ → ℕ → ℕ → SioState → Option ℕ
+abbrev pub word_of : ℕ → ℕ → ℕ → State → Option ℕ
 word_of core offset inputs s =
     if has_row (core_rows core) offset then word_at (core_rows core) inputs offset s else
     if nat_lt offset FIFO_ST then pins_word offset s.pins else

@@ -29,10 +29,10 @@ pub struct Sio {
 
 impl Model for Sio {
     ghost use Rattle.std.specs.Prelude.{◌≡◌, true};
-    ghost use Rattle.sio_block.specs.State.{SioState};
+    ghost use Rattle.sio_block.specs.State.{State};
     ghost use Rattle.sio_block.specs.Cycle.{after_cycle};
 
-    ghost Value = { SioState };
+    ghost Value = { State };
 
     ghost view = { λ s. record {
       pins = s.pins;
@@ -44,7 +44,7 @@ impl Model for Sio {
 
     // a block at rest stays as it is at the end of a cycle
     ghost invariant = { λ s.
-        let now : SioState = record { pins = s.pins; locks = s.locks; core0 = s.core0; core1 = s.core1; launched = s.launched.items } in
+        let now : State = record { pins = s.pins; locks = s.locks; core0 = s.core0; core1 = s.core1; launched = s.launched.items } in
         s.at_rest ≡ true → after_cycle now ≡ now };
 }
 

@@ -7,7 +7,7 @@ use Rattle.lane_look.specs.Alone.{begun_alone, alone, ends_at, least, alone_leng
 use Rattle.io_bank.specs.Levels.{is_used}
 use Rattle.outer_lane.specs.Setting.{Setting}
 use Rattle.outer_lane.specs.declared.world.SeenOutputs.{SeenOutputs}
-use Rattle.outer_lane.specs.State.{OuterState}
+use Rattle.outer_lane.specs.State.{State as OuterState}
 use Rattle.outer_lane.specs.Step.{next_by, next, pads_by, asks_second, asks, pins_in, no_pins}
 use Rattle.rp_machine.specs.State.{State}
 use Rattle.rp_machine.specs.Answers.{answer_of}

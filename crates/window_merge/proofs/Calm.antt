@@ -21,10 +21,10 @@ use Rattle.dma_engine.specs.Cycle as dma
 use Rattle.pio_block.specs.Cycle as pio
 use Rattle.outer_lane.specs.Setting.{Setting}
 use Rattle.outer_lane.specs.declared.world.SeenOutputs.{SeenOutputs}
-use Rattle.outer_lane.specs.State.{OuterState}
+use Rattle.outer_lane.specs.State.{State as OuterState}
 use Rattle.outer_lane.specs.Step as outer
 use Rattle.bus_fabric.specs.State.{has_hold}
-use Rattle.sio_block.specs.State.{SioState}
+use Rattle.sio_block.specs.State.{State as SioState}
 use Rattle.sio_block.specs.Launcher.{offers_of}
 use Rattle.sio_block.specs.Cycle.{after_cycle}
 use Rattle.rp_machine.specs.declared.begun.Begun.{Begun}

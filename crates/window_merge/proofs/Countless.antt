@@ -22,11 +22,11 @@ use Rattle.m0_core.specs.Fetch as core
 use Rattle.dma_engine.specs.Asks.{is_pacing, may_ask_counts, AsksNoCounts}
 use Rattle.dma_engine.specs.Asks as dma_asks
 use Rattle.dma_engine.specs.Cycle as dma
-use Rattle.dma_engine.specs.State.{Engine}
+use Rattle.dma_engine.specs.State.{State as Engine}
 use Rattle.dma_engine.proofs.Counts.{next-no_counts, asks-no_counts}
-use Rattle.pio_block.specs.State.{Block as Pio}
+use Rattle.pio_block.specs.State.{State as Pio}
 use Rattle.pio_block.specs.Cycle as pio
-use Rattle.outer_lane.specs.State.{OuterState}
+use Rattle.outer_lane.specs.State.{State as OuterState}
 use Rattle.outer_lane.specs.Step as outer
 use Rattle.rp_machine.specs.State.{State}
 use Rattle.window_merge.specs.Lanes.{around, dma_lane}

@@ -15,7 +15,7 @@ use Rattle.m0_core.specs.Private.{private_value, accessed}
 use Rattle.m0_core.specs.Cycle as core
 use Rattle.outer_lane.specs.Setting.{Setting}
 use Rattle.outer_lane.specs.declared.world.SeenOutputs.{SeenOutputs}
-use Rattle.outer_lane.specs.State.{OuterState}
+use Rattle.outer_lane.specs.State.{State as OuterState}
 use Rattle.outer_lane.specs.Step as outer
 
 -- a core sleeps on or is awake as before, and knows of the launcher what it knew

@@ -6,7 +6,7 @@ use Rattle.rp_base.specs.declared.Master.{Master}
 use Rattle.rp_base.specs.declared.Master.TheVariants.{Core0, Core1, DmaRead, DmaWrite}
 use Rattle.bus_fabric.specs.declared.Hold.{Hold}
 use Rattle.bus_fabric.specs.Masters.{Access, access_of, is_on, asks_on}
-use Rattle.bus_fabric.specs.State.{Crossbar, last_on, has_hold}
+use Rattle.bus_fabric.specs.State.{State as Crossbar, last_on, has_hold}
 use Rattle.bus_fabric.specs.Grant.{apb, is_high, winner_of, is_done, done_of, hold_after, after_grant}
 use Rattle.bus_fabric.proofs.Arbitration.{arbitrated}
 use Rattle.window_merge.specs.Window.{is_port_of}

@@ -10,7 +10,7 @@ use Rattle.lane_look.specs.Asking.{answered}
 use Rattle.lane_look.specs.Asking.Asking.{Question}
 use Rattle.lane_look.specs.declared.lane.Ask.{Ask}
 use Rattle.lane_look.specs.declared.lane.Ask.TheVariants.{Pacing}
-use Rattle.dma_engine.specs.State.{Engine, channel_at}
+use Rattle.dma_engine.specs.State.{State as Engine, channel_at}
 use Rattle.dma_engine.specs.Transfer.{read_of}
 use Rattle.dma_engine.specs.declared.channel.Channel.{Channel}
 use Rattle.dma_engine.specs.declared.begun.Access.{Access}

@@ -8,7 +8,7 @@ use Rattle.lane_look.specs.Replay.{Meaning, Entry}
 use Rattle.lane_look.specs.Alone.{alone_length}
 use Rattle.lane_look.specs.Truth.{IsTrue}
 use Rattle.outer_lane.specs.Setting.{Setting}
-use Rattle.outer_lane.specs.State.{OuterState}
+use Rattle.outer_lane.specs.State.{State as OuterState}
 use Rattle.rp_machine.specs.State.{State}
 use Rattle.window_merge.specs.declared.lane_run.LaneRun.{LaneRun}
 use Rattle.window_merge.specs.declared.lane_run.LaneRun.TheVariants as run

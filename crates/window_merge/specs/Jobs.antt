@@ -5,7 +5,7 @@ use Rattle.lane_look.specs.Replay.{Meaning}
 use Rattle.lane_look.specs.Alone.{alone, alone_length}
 use Rattle.lane_look.specs.Truth.{IsTrue}
 use Rattle.m0_core.specs.State.{State as Core}
-use Rattle.pio_block.specs.State.{Block as Pio}
+use Rattle.pio_block.specs.State.{State as Pio}
 use Rattle.outer_lane.specs.Setting.{Setting}
 use Rattle.rp_machine.specs.State.{State}
 use Rattle.window_merge.specs.declared.copies.Copies.{Copies}

@@ -10,16 +10,16 @@ use Rattle.m0_core.specs.State.{State as Core}
 use Rattle.m0_core.specs.declared.doing.Doing.{Doing as CoreDoing}
 use Rattle.m0_core.specs.Fetch as core_asks
 use Rattle.m0_core.specs.Cycle as core
-use Rattle.dma_engine.specs.State.{Engine}
+use Rattle.dma_engine.specs.State.{State as Engine}
 use Rattle.dma_engine.specs.declared.begun.BegunTransfer.{BegunTransfer as DmaDoing}
 use Rattle.dma_engine.specs.Asks as dma_asks
 use Rattle.dma_engine.specs.Cycle as dma
-use Rattle.pio_block.specs.State.{Block as Pio}
+use Rattle.pio_block.specs.State.{State as Pio}
 use Rattle.pio_block.specs.declared.inputs.Inputs.{Inputs}
 use Rattle.pio_block.specs.Cycle as pio
 use Rattle.outer_lane.specs.Setting.{Setting}
 use Rattle.outer_lane.specs.declared.world.SeenOutputs.{SeenOutputs}
-use Rattle.outer_lane.specs.State.{OuterState}
+use Rattle.outer_lane.specs.State.{State as OuterState}
 use Rattle.outer_lane.specs.Step as outer
 use Rattle.rp_machine.specs.State.{State}
 use Rattle.rp_machine.specs.Answers.{answer_of}

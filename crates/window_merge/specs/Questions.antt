@@ -8,7 +8,7 @@ use Rattle.lane_look.specs.Bounds.{Few, few_ready, few_ask, few_if}
 use Rattle.lane_look.specs.Asking.Asking.{Ready, Question}
 use Rattle.lane_look.specs.Replay.{Meaning, meaning}
 use Rattle.io_bank.specs.Levels.{is_used}
-use Rattle.outer_lane.specs.State.{OuterState}
+use Rattle.outer_lane.specs.State.{State as OuterState}
 use Rattle.window_merge.specs.declared.questions.Questions.{Questions}
 
 -- they ask for the outputs of a PIO block where some pin has its function

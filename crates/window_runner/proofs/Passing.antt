@@ -8,7 +8,7 @@ use Rattle.lane_look.specs.Replay.{Meaning, Entry, replayed}
 use Rattle.lane_look.specs.Alone.{alone, alone_length, ends_at}
 use Rattle.lane_look.specs.Truth.{IsTrue}
 use Rattle.outer_lane.specs.Setting.{Setting}
-use Rattle.outer_lane.specs.State.{OuterState}
+use Rattle.outer_lane.specs.State.{State as OuterState}
 use Rattle.rp_machine.specs.State.{State}
 use Rattle.rp_machine.specs.Cycle.{stop}
 use Rattle.turn_board.specs.Tickets.{times, SeatState, IsFree}

@@ -4,10 +4,10 @@ use Rattle.lane_look.specs.declared.replay.Report.{Report}
 use Rattle.lane_look.specs.Replay.{Meaning}
 use Rattle.lane_look.specs.Truth.{IsTrue}
 use Rattle.m0_core.specs.State.{State as Core}
-use Rattle.dma_engine.specs.State.{Engine}
-use Rattle.pio_block.specs.State.{Block as Pio}
+use Rattle.dma_engine.specs.State.{State as Engine}
+use Rattle.pio_block.specs.State.{State as Pio}
 use Rattle.outer_lane.specs.Setting.{Setting}
-use Rattle.outer_lane.specs.State.{OuterState}
+use Rattle.outer_lane.specs.State.{State as OuterState}
 use Rattle.rp_machine.specs.State.{State}
 use Rattle.window_merge.specs.Lanes.{core_lane, dma_lane, pio_lane, peripheral_lane}
 use Rattle.window_merge.specs.Merging.{IsRunAlone}

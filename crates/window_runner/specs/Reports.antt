@@ -6,10 +6,10 @@ use Rattle.lane_look.specs.Replay.{Meaning, Entry, told, talk}
 use Rattle.lane_look.specs.Alone.{alone_length, all_stored, differs}
 use Rattle.lane_look.specs.Truth.{IsTrue, replay_of}
 use Rattle.m0_core.specs.State.{State as Core}
-use Rattle.dma_engine.specs.State.{Engine}
-use Rattle.pio_block.specs.State.{Block as Pio}
+use Rattle.dma_engine.specs.State.{State as Engine}
+use Rattle.pio_block.specs.State.{State as Pio}
 use Rattle.outer_lane.specs.Setting.{Setting}
-use Rattle.outer_lane.specs.State.{OuterState}
+use Rattle.outer_lane.specs.State.{State as OuterState}
 use Rattle.rp_machine.specs.State.{State}
 use Rattle.rp_machine.specs.Answers.{answer_of}
 use Rattle.window_merge.specs.Lanes.{around, core_lane, dma_lane, pio_lane, peripheral_lane, core1_bound}

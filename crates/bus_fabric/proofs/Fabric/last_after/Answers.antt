@@ -1,5 +1,5 @@
 use Rattle.std.proofs.Common.{ap}
-use Rattle.bus_fabric.specs.State.{Crossbar}
+use Rattle.bus_fabric.specs.State.{State}
 use Rattle.bus_fabric.proofs.Remembering.{all_remembered}
 use Rattle.bus_fabric.proofs.Fabric.last_after.Goals as goal
 
@@ -11,6 +11,6 @@ returns c =
       c.remember-2.ensures,
       c.remember.ensures,
       c.requires.won,
-      ap (λ (s : Crossbar). s.last) c.self.view_is,
+      ap (λ (s : State). s.last) c.self.view_is,
     )
     (all_remembered c.args.asked.now c.args.self.now)

@@ -1,6 +1,6 @@
 use Rattle.std.proofs.Common.{ap, ◌∙◌}
 use Rattle.std.specs.Prelude.{Some}
-use Rattle.m0_nvic.specs.State.{Exceptions}
+use Rattle.m0_nvic.specs.State.{State as Exceptions}
 use Rattle.m0_nvic.specs.Words.{is_word, after_access, effect_of}
 use Rattle.m0_core.proofs.processor.with_vectors.Goals as goal
 

@@ -1,5 +1,5 @@
 use Rattle.std.proofs.Common.{◌≡◌, ◌+◌, ◌%◌, sym, ap, ◌∙◌, refl}
-use Rattle.dma_engine.specs.State.{Engine}
+use Rattle.dma_engine.specs.State.{State}
 use Rattle.dma_engine.proofs.Search.{passing-none, passing-other_at, passing-candidate_at}
 use Rattle.dma_engine.proofs.engine.Engine.choice_in_turn.Goals as goal
 use Rattle.dma_engine.proofs.engine.Engine.choice_in_turn.Goals.{then-is_candidate+else-is_high, else-is_candidate}
@@ -9,7 +9,7 @@ loop-passed-init c = passing-none c.args.counts c.args.self.now
 
 pub loop-passed-preserved : goal.loop-passed-preserved
 loop-passed-preserved c =
-    let last : c.from.result ≡ c.args.self.now.last_chosen = c.from.ensures ∙ ap (λ (s : Engine). s.last_chosen) c.self.view_is in
+    let last : c.from.result ≡ c.args.self.now.last_chosen = c.from.ensures ∙ ap (λ (s : State). s.last_chosen) c.self.view_is in
     let number : (c.from.result + 1 + c.from-in-loop-passed.result) % 12
     ≡ (c.args.self.now.last_chosen + 1 + c.loop-passed.passed) % 12 = rw (last, c.from-in-loop-passed.ensures) refl in
     elim c.if-is_candidate.branch [

@@ -1,7 +1,7 @@
 use Rattle.std.proofs.Common.{ap, refl}
 use Rattle.rp_base.specs.declared.resettable.Resettable.{Resettable}
-use Rattle.dma_engine.specs.State.{Engine}
-use Rattle.pio_block.specs.State.{Block}
+use Rattle.dma_engine.specs.State.{State as Engine}
+use Rattle.pio_block.specs.State.{State as Block}
 use Rattle.rp_machine.proofs.Agreeing.{bits_agree, outer_agrees}
 use Rattle.rp_machine.proofs.machine.Machine.access_part.Goals as goal
 
