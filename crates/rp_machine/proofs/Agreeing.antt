@@ -18,7 +18,7 @@ use Rattle.sio_block.specs.Launcher.{offers_of}
 use Rattle.outer_lane.proofs.Accesses.{SameCopies, access_leaves, device_leaves, pads_reset}
 use Rattle.rp_machine.specs.Cycle.{pins_of}
 use Rattle.rp_machine.specs.Copies.{Agree}
-use Rattle.rp_machine.proofs.HeldLanes.{outer_next, Offers, core_next}
+use Rattle.rp_machine.proofs.HeldLanes.{outer_next, core_next}
 
 -- ---- one part has changed
 
@@ -30,10 +30,6 @@ with_outer h a = record {
   pins = h.sio ∙ a.pins;
   offer = a.offer;
 }
-
-with_core : {reset : ℕ} {core1 after : Core} {dma pio0 pio1 : Bool} {outer : OuterState} {sio : SioState}
-    → Offers core1.offer after → Agree reset core1 dma pio0 pio1 outer sio → Agree reset after dma pio0 pio1 outer sio
-with_core h a = record { bits = a.bits; held = a.held; pins = a.pins; offer = h.is ∙ a.offer }
 
 -- ---- accesses
 
@@ -71,7 +67,8 @@ reset_agrees w core1 outer sio bits pins offer =
 
 pub step_agrees : {reset : ℕ} {core1 : Core} {dma pio0 pio1 : Bool} {outer : OuterState} {sio : SioState} (begun : CoreDoing) (turns : List Turn)
     → Agree reset core1 dma pio0 pio1 outer sio → Agree reset (core_steps.next core1 begun turns) dma pio0 pio1 outer sio
-step_agrees {reset} {core1} begun turns a = with_core (core_next core1 begun turns core1.offer (record { is = refl })) a
+step_agrees {reset} {core1} begun turns a =
+    record { bits = a.bits; held = a.held; pins = a.pins; offer = (core_next core1 begun turns core1.offer (record { is = refl })).is ∙ a.offer }
 
 -- ---- a step of the peripherals
 
