@@ -13,7 +13,7 @@ use Rattle.lane_look.specs.declared.lane.Ask.TheVariants.{Pacing}
 use Rattle.lane_look.specs.declared.lane.Turn.{Turn}
 use Rattle.lane_look.specs.declared.lane.Want.TheVariants as want
 use Rattle.lane_look.specs.Asking.{Asking, answered}
-use Rattle.lane_look.specs.Asking.Asking.{Ready, Question}
+use Rattle.lane_look.specs.Asking.Asking.{Question}
 use Rattle.lane_look.specs.Times.{times}
 use Rattle.dma_engine.specs.declared.timer.PacingTimer.{PacingTimer}
 use Rattle.dma_engine.specs.declared.begun.Access.{Access}

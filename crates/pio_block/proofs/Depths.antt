@@ -20,7 +20,7 @@ use Rattle.pio_block.specs.Cycle as block
 use Rattle.pio_block.specs.Words.{of_machines, interrupt_rows, pio_rows, is_allowed, after_any, effect_of}
 use Rattle.rp_base.proofs.Rows.{Kept, keeps}
 use Rattle.pio_block.specs.Laws.{AreWithin, Happening, after, after_all, NoFifoHoldsTooMuch}
-use Rattle.pio_block.specs.Laws.Happening.{Cycle, Access, Hold, Counter}
+use Rattle.pio_block.specs.Laws.Happening.{Cycle, Access, Reset, Counter}
 
 -- ---- one machine
 

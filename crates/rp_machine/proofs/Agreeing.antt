@@ -1,26 +1,24 @@
 -- What each part of a cycle leaves of the copies that lanes keep: they agree as before.
-use Rattle.std.proofs.Common.{◌≡◌, ◌<◌, ◌^◌, ℕ, Bool, false, List, Option, refl, arith, ◌∙◌}
+use Rattle.std.proofs.Common.{◌≡◌, ◌<◌, ◌^◌, ℕ, Bool, List, Option, refl, ◌∙◌}
 use Rattle.rp_base.specs.Word.{has_bit}
 use Rattle.rp_base.specs.ResetBits.{DMA, IO_BANK0, PADS_BANK0, PIO0, PIO1}
 use Rattle.rp_base.specs.declared.map.Block.{Block}
 use Rattle.lane_look.specs.declared.lane.Turn.{Turn}
 use Rattle.m0_core.specs.State.{State as Core}
-use Rattle.m0_core.specs.Start.{sleeping}
 use Rattle.m0_core.specs.declared.doing.Doing.{Doing as CoreDoing}
 use Rattle.m0_core.specs.Cycle as core_steps
 use Rattle.outer_lane.specs.Setting.{Setting}
 use Rattle.outer_lane.specs.declared.world.SeenOutputs.{SeenOutputs}
-use Rattle.outer_lane.specs.State.{State as OuterState, outer_at_start, outer_reset}
+use Rattle.outer_lane.specs.State.{State as OuterState, outer_reset}
 use Rattle.outer_lane.specs.Step as outer_steps
 use Rattle.outer_lane.specs.Words.{outer_accessed}
 use Rattle.outer_lane.specs.Device.{device_accessed}
 use Rattle.sio_block.specs.State.{State as SioState}
-use Rattle.sio_block.specs.State as sio_state
 use Rattle.sio_block.specs.Launcher.{offers_of}
 use Rattle.outer_lane.proofs.Accesses.{SameCopies, access_leaves, device_leaves, pads_reset}
-use Rattle.rp_machine.specs.Cycle.{pins_of, with_pins, with_offer}
+use Rattle.rp_machine.specs.Cycle.{pins_of}
 use Rattle.rp_machine.specs.Copies.{Agree}
-use Rattle.rp_machine.proofs.HeldLanes.{outer_next, Offers, core_next}
+use Rattle.rp_machine.proofs.HeldLanes.{outer_next, core_next}
 
 -- ---- one part has changed
 
@@ -32,10 +30,6 @@ with_outer h a = record {
   pins = h.sio ∙ a.pins;
   offer = a.offer;
 }
-
-with_core : {reset : ℕ} {core1 after : Core} {dma pio0 pio1 : Bool} {outer : OuterState} {sio : SioState}
-    → Offers core1.offer after → Agree reset core1 dma pio0 pio1 outer sio → Agree reset after dma pio0 pio1 outer sio
-with_core h a = record { bits = a.bits; held = a.held; pins = a.pins; offer = h.is ∙ a.offer }
 
 -- ---- accesses
 
@@ -73,20 +67,10 @@ reset_agrees w core1 outer sio bits pins offer =
 
 pub step_agrees : {reset : ℕ} {core1 : Core} {dma pio0 pio1 : Bool} {outer : OuterState} {sio : SioState} (begun : CoreDoing) (turns : List Turn)
     → Agree reset core1 dma pio0 pio1 outer sio → Agree reset (core_steps.next core1 begun turns) dma pio0 pio1 outer sio
-step_agrees {reset} {core1} begun turns a = with_core (core_next core1 begun turns core1.offer (record { is = refl })) a
+step_agrees {reset} {core1} begun turns a =
+    record { bits = a.bits; held = a.held; pins = a.pins; offer = (core_next core1 begun turns core1.offer (record { is = refl })).is ∙ a.offer }
 
--- ---- SIO tells what it has
-
-pub told_agree : (reset : ℕ) (core1 : Core) (dma pio0 pio1 : Bool) (outer : OuterState) (sio after : SioState)
-    → Agree reset core1 dma pio0 pio1 outer sio
-    → Agree reset (with_offer (offers_of after) core1) dma pio0 pio1 (with_pins (pins_of after) outer) after
-told_agree reset core1 dma pio0 pio1 outer sio after a =
-    record { bits = a.bits; held = a.held; pins = refl; offer = refl }
-
--- ---- the first state
-
-pub first_agrees : (words : List ℕ) → Agree 0 (sleeping 1) false false false (outer_at_start words) sio_state.at_reset
-first_agrees words = record { bits = omega arith; held = refl; pins = refl; offer = refl }
+-- ---- a step of the peripherals
 
 pub outer_step_agrees : {reset : ℕ} {core1 : Core} {dma pio0 pio1 : Bool} {outer after : OuterState} {sio : SioState} (w : Setting) (seen : SeenOutputs)
     → after ≡ outer_steps.next w outer seen

@@ -1,6 +1,6 @@
 -- The state of the machine between two cycles, and the first one (RP2040 Datasheet, 2.14, Subsystem Resets, and 2.8.2, how
 -- the second core is started; how core 0 starts is the project's own).
-use Rattle.std.specs.Prelude.{ℕ, false, List, [], ◌∷◌, bit_or}
+use Rattle.std.specs.Prelude.{ℕ, List, [], ◌∷◌, bit_or}
 use Rattle.rp_base.specs.declared.resettable.Resettable.{Resettable}
 use Rattle.rp_base.specs.Resettable.{let_go}
 use Rattle.lane_look.specs.Device.{DeviceMeaning}

@@ -37,7 +37,7 @@ pub(crate) fn copy_lane<L: Lane<()>>(lane: &mut Resettable<L>, other: &Resettabl
 
 /// The whole machine between two cycles.
 ///
-/// What a lane keeps of another part is what that part holds: the bits of RESETS in the DMA engine, the PIO blocks and the
+/// What a lane keeps of another part is what that part holds: the bits of RESETS beside the DMA engine and the PIO blocks and in the
 /// peripherals, the levels and enables of SIO in the peripherals, and in core 1 whether its launcher has a word. The type keeps
 /// this. Whoever changes the fields leaves it so where the machine is used whole again.
 #[derive(Drop)]
