@@ -65,8 +65,10 @@ impl Regs {
     pub fn register(&self, k: u8) -> u32
         ensures { result ≡ register_of self.now k }
     {
+        if k < 13 {
+            return self.r[k as usize];
+        }
         match k {
-            0..=12 => self.r[k as usize],
             13 => self.active_sp(),
             14 => self.lr,
             _ => self.read_pc(),
@@ -95,8 +97,11 @@ impl Regs {
     pub fn set_register(&mut self, k: u8, value: u32)
         ensures { self.new ≡ with_register self.old k value }
     {
+        if k < 13 {
+            self.r[k as usize] = value;
+            return;
+        }
         match k {
-            0..=12 => self.r[k as usize] = value,
             13 => self.set_active_sp(value),
             14 => self.lr = value,
             _ => self.set_pc(value),

@@ -55,9 +55,11 @@ impl Doing {
     pub fn wants_nothing(&self) -> bool
         ensures { Decides result (want_of self.now ≡ Nothing) }
     {
+        if let Act::Inner(Work::Instruction(op)) = &self.act {
+            return !is_signal(op);
+        }
         match &self.act {
-            Act::Inner(work) => !signals(work),
-            Act::Asleep | Act::Fault | Act::Private(..) => true,
+            Act::Inner(_) | Act::Asleep | Act::Fault | Act::Private(..) => true,
             Act::Stopped(_) | Act::Read(..) | Act::Write(..) | Act::Outward(..) => false,
         }
     }

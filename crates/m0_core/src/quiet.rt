@@ -42,7 +42,7 @@ impl Core {
     pub fn is_waiting(&self) -> bool
         ensures { result ≡ is_waiting self.now }
     {
-        self.is_asleep() || self.beats_done == 1 && is_wait(&self.work)
+        is_wait(&self.work) && self.beats_done == 1 || self.is_asleep()
     }
 
     /// For so many cycles from that one on, and maybe for more, the core is quiet, as long as its interrupt lines (line 0 in bit 0) stay

@@ -200,7 +200,7 @@ impl Nvic {
     {
         self.end_timer(cycle);
         self.end_lines(lines);
-        let event = (self.scr >> 4) & 1 == 1 && self.arrived;
+        let event = self.arrived && (self.scr >> 4) & 1 == 1;
         self.arrived = false;
         event
     }
@@ -210,7 +210,7 @@ impl Nvic {
     fn end_timer(&mut self, cycle: u64)
         ensures { self.new ≡ after_timer cycle self.old }
     {
-        if self.systick.end_cycle(cycle) {
+        if self.systick.enable && self.systick.end_cycle(cycle) {
             self.pend(SYSTICK);
         }
     }
