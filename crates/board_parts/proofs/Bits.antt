@@ -40,11 +40,3 @@ pub bits_few : (cycle colours last count more number bit : ℕ) → count < 23 �
 bits_few cycle colours last count more number bit few e small =
     let long : length (bits_in count number) ≡ count = bits_long count number in
     rw (bits_more count more number bit e small, long) (grind (arith, common_steps, few))
-
--- with one more bit the number has room for one more
-pub bits_room : (count more number bit : ℕ) → more ≡ count + 1 → number < 2 ^ count → bit < 2 → 2 * number + bit < 2 ^ more
-bits_room count zero number bit e small low = absurd (omega arith)
-bits_room count (suc more) number bit e small low =
-    let same : more ≡ count = omega arith in
-    let power : number < 2 ^ more = rw same small in
-    omega (arith, power)

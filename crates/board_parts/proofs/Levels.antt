@@ -2,13 +2,8 @@
 use Rattle.std.proofs.Common.{◌≡◌, ℕ, zero, suc, ◌*◌, ◌%◌, ◌^◌, ◌<◌, ◌==◌, if◌then◌else◌, max, arith}
 use Rattle.std.specs.Int.{bit_at}
 use Rattle.std.proofs.lemmas.Bool.Decides.{nat_tests}
-use Rattle.std.proofs.lemmas.Nat.{one_shl}
 use Rattle.std.proofs.lemmas.Nat.Bits.{bit_at-zero, bit_at-pow_same, bit_at-pow_other}
 use Rattle.std.proofs.Math.Nat.{one-mul, zero-mul}
-
--- the mask of one pin, as it is computed
-pub one_pin : (pin : ℕ) → pin < 32 → 1 * 2 ^ pin % 2 ^ 32 ≡ 2 ^ pin
-one_pin pin low = one_shl pin 32 low
 
 -- a level, 0 or 1, at its pin
 pub level_at : (level pin : ℕ) → level < 2 → bit_at (level * 2 ^ pin) pin ≡ level

@@ -77,10 +77,6 @@ after_last_left n cycle [] e = refl
 after_last_left n cycle (l ∷ []) e = refl
 after_last_left n cycle (l ∷ m ∷ more) e = after_last_left n (cycle + 1) (m ∷ more) (nvic.after_cycle l cycle e)
 
-closed_regs : (lines cycle : ℕ) (s : State) → (closed lines cycle s).regs ≡ s.regs
-unfolding closed
-closed_regs lines cycle s = refl
-
 -- ---- entry: beats
 
 abbrev entry_by : ℕ → ℕ → Regs → ℕ → Beat

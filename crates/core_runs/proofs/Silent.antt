@@ -35,10 +35,6 @@ timer_untimed cycle t h = go (counts_in cycle t)
     go true = count_untimed t h
     go false = h
 
--- no line that is low makes an interrupt pending
-none_risen : (e : Exceptions) → risen 0 e ≡ 0
-none_risen e = refl
-
 -- the best exception does not depend on the timer and the lines
 least_same : (e : Exceptions) (t : SysTick) (p l : ℕ) (a : Bool) (ns : List ℕ) → least (record e { pending = p; systick = t; lines = l; arrived = a }) ns ≡ least e ns
 least_same e t p l a [] = refl

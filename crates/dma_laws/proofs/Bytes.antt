@@ -93,10 +93,6 @@ moves_write size c is fits =
     ap (λ b. cond b (advanced (ring_of_write c) (bytes_of (size_of c)) c.write) c.write) is.writes
     ∙ goes_on (ring_of_write c) size (size_of c) c.write (no_ring_else (rings_write c) (ring_of c) is.ring) is.sized fits
 
-moves_control : (c : Channel) → (moved c).ctrl ≡ c.ctrl
-unfolding moved
-moves_control c = refl
-
 still_copies : (size : Size) (c : Channel) → Copies size c → Copies size (moved c)
 unfolding moved
 still_copies size c is = record { sized = is.sized; reads = is.reads; writes = is.writes; ring = is.ring; plain = is.plain }

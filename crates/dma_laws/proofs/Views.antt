@@ -26,14 +26,6 @@ pub record Beside (e f : Engine) : Type 0 where
 pub beside : (e : Engine) → Beside e e
 beside e = record { chosen = refl; waiting = refl; raised = refl; long = refl }
 
-pub beside_on : (e f g : Engine) → Beside e f → Beside f g → Beside e g
-beside_on e f g a b = record {
-  chosen = b.chosen ∙ a.chosen;
-  waiting = b.waiting ∙ a.waiting;
-  raised = b.raised ∙ a.raised;
-  long = b.long ∙ a.long;
-}
-
 pub changed_beside : (f : Channel → Channel) (n : ℕ) (e : Engine) → Beside e (changed f n e)
 changed_beside f n e = go (nat_lt n 12)
   where

@@ -51,9 +51,6 @@ pub ruleset bits = (bits_below-none, bits_below-more, bits_below-lt)
 
 -- ---- bits of what the operations give
 
-bit_cases : (n i : ℕ) → (bit_at n i ≡ 0) ⊎ (bit_at n i ≡ 1)
-bit_cases n i = let h = bit_at-lt n i in grind arith
-
 pub same_bit : (a b : ℕ) → a < 2 → b < 2 → eqb a 1 ≡ eqb b 1 → a ≡ b
 same_bit a b h i e = grind (arith, nat_tests)
 

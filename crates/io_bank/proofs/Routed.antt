@@ -13,7 +13,7 @@ use Rattle.io_bank.specs.Pins.{bits_below, pins_where, field, overridden}
 use Rattle.io_bank.specs.State.{State, no_edges}
 use Rattle.io_bank.specs.Levels.{peripheral, function_of, level_to, enable_to, level_outside, pad_level, levels_of, by_sets, level_sensed, input_of, inputs_of, by_list}
 use Rattle.io_bank.specs.Edges.{falling, rising, edges_of}
-use Rattle.io_bank.specs.Routes.{pins_with, override_of, routes_of, routed_override, routed_mix, routed_part, routed_driven, chosen, routed_levels, routed_inputs}
+use Rattle.io_bank.specs.Routes.{pins_with, override_of, routes_of, routed_override, routed_mix, routed_part, chosen, routed_levels, routed_inputs}
 use Rattle.io_bank.proofs.Bits.{differ, has_and, has_or, has_xor, has_ones, bits_below-lt, bits_below-at, bits_below-is, bits_below-same}
 
 -- ---- laws of Bool
@@ -55,10 +55,6 @@ nor-self false = refl
 not-and_self : (a : Bool) → (not a && a) ≡ false
 not-and_self true = refl
 not-and_self false = refl
-
-ap-cond : {A B : Type 0} (g : A → B) (b : Bool) (x y : A) → cond b (g x) (g y) ≡ g (cond b x y)
-ap-cond g true x y = refl
-ap-cond g false x y = refl
 
 pub and_true : (a : Bool) → (a && true) ≡ a
 and_true true = refl

@@ -43,6 +43,3 @@ none_from (Err fault) programs is e = absurd is
 
 pub first_is : (bytes : List ℕ) (programs : List Program) (first : Program) → Assembles programs (plans_of bytes) → 0 < length programs → first ≡ slice_index_or programs 0 first → IsFirst (Some first) (plans_of bytes)
 first_is bytes programs first is some e = first_from (plans_of bytes) programs first (plans_whole bytes) is some e
-
-pub none_is_first : (bytes : List ℕ) (programs : List Program) → Assembles programs (plans_of bytes) → length programs ≡ 0 → IsFirst None (plans_of bytes)
-none_is_first bytes programs is e = none_from (plans_of bytes) programs is e

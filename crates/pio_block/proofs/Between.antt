@@ -17,7 +17,6 @@ use Rattle.pio_machine.specs.declared.machine.Done.{Done}
 use Rattle.pio_machine.specs.Start.{nothing_done}
 use Rattle.pio_machine.specs.Cycle.{ticks, advanced, word_of, word_tried, after_word, written_by_word}
 use Rattle.pio_machine.specs.Cycle as machine
-use Rattle.pio_block.specs.declared.inputs.Inputs.{Inputs}
 use Rattle.pio_block.specs.State.{State, is_written, is_running, is_busy, each_from, machine_of}
 use Rattle.pio_block.specs.Cycle.{seen_by, written_from, all_written, all_stepped, joined, after_cycle, inputs_of, asks, next}
 use Rattle.pio_block.specs.Queues.{bits_of}
@@ -68,9 +67,6 @@ left m n (suc k) h on le =
     omega arith
 
 -- ---- for how long
-
-pub written_now : (m : Machine1) → IsBetweenTicks m 0
-written_now m = record { unwritten = λ some. absurd (omega arith); between = λ k lt. absurd (omega arith) }
 
 pub between_ticks : (m : Machine1) → is_written m.waiting ≡ false → m.enabled ≡ true → IsBetweenTicks m (m.acc / 256)
 between_ticks m none on = record {

@@ -354,9 +354,3 @@ passed_agrees w i s n core0 core1 outer same agree q h =
     (ap held_blocks h.outer_is ∙ q.peripherals.held n (omega arith) ∙ sym (ap (λ (x : State). held_blocks x.outer) same))
     (ap (λ (x : OuterState). x.sio) h.outer_is ∙ q.peripherals.sio n (omega arith) ∙ sym (ap (λ (x : State). x.outer.sio) same))
     agree
-
--- the peripherals are quiet by what is seen now, where the fields are these
-pub outer_by : (w : Setting) (i s : State) (n : ℕ) (seen : SeenOutputs) → i ≡ with_blocks (blocks_after n s) s → seen ≡ (begun s).outer → ArePartsQuiet w s n → outer_quiet.IsQuiet w seen i.outer n
-outer_by w i s n seen same es q =
-    subst (λ (x : State). outer_quiet.IsQuiet w seen x.outer n) (sym same)
-    (subst (λ (x : SeenOutputs). outer_quiet.IsQuiet w x s.outer n) (sym es) q.peripherals)

@@ -1,5 +1,5 @@
 -- Numbers read digit by digit from the front.
-use Rattle.std.proofs.Common.{◌≡◌, ◌<◌, ℕ, ◌+◌, ◌*◌, ◌^◌, Bool, false, cond, if◌then◌else◌, List, [], ◌∷◌, length, drop, ◌≤◌, suc, zero, Option, Some, None, inl, inr, refl, sym, ap, arith, ◌∙◌}
+use Rattle.std.proofs.Common.{◌≡◌, ◌<◌, ℕ, ◌+◌, ◌*◌, ◌^◌, Bool, cond, if◌then◌else◌, List, [], ◌∷◌, length, drop, ◌≤◌, suc, zero, Option, Some, None, inl, inr, refl, sym, ap, arith, ◌∙◌}
 use Rattle.std.proofs.Math.Nat.{pow-zero, pow-succ', pow-le-pow_right}
 use Rattle.std.proofs.lemmas.Bool.{cases_Bool}
 use Rattle.std.specs.List.{list_all}
@@ -50,10 +50,6 @@ drop-all (suc i) (d ∷ ds) le = drop-all i ds (omega arith)
 -- all digits are read
 pub all_read : (base : ℕ) (ok : ℕ → Bool) (value : ℕ → ℕ) (n i : ℕ) (ds : List ℕ) → digits_from base ok value 0 ds ≡ digits_from base ok value n (drop i ds) → length ds ≤ i → Some n ≡ (if list_all ok ds then Some (value_in base value ds) else None)
 all_read base ok value n i ds so_far end = sym (so_far ∙ ap (digits_from base ok value n) (drop-all i ds end)) ∙ by_weights base ok value ds
-
--- one is no digit
-pub not_all : (base : ℕ) (ok : ℕ → Bool) (value : ℕ → ℕ) (n i : ℕ) (ds : List ℕ) (d : ℕ) → digits_from base ok value 0 ds ≡ digits_from base ok value n (drop i ds) → drop i ds ≡ d ∷ drop (i + 1) ds → ok d ≡ false → None ≡ (if list_all ok ds then Some (value_in base value ds) else None)
-not_all base ok value n i ds d so_far here bad = sym (so_far ∙ ap (digits_from base ok value n) here ∙ rw bad refl) ∙ by_weights base ok value ds
 
 -- the value of at most 8 hexadecimal digits
 pub low_value : (n i : ℕ) → n < 16 ^ i → i ≤ 8 → n < 4294967296

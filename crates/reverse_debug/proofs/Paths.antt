@@ -150,9 +150,6 @@ way_there w s t to before now k = record { state = k.path.is; forward = k.path.f
 pub nearer_by_one : (t u : State) (n to : ℕ) → n ≡ t.cycle → u.cycle ≡ n + 1 → t.cycle < to → to - u.cycle < to - t.cycle
 nearer_by_one t u n to e one lt = omega arith
 
-pub way_nearer : (w : Setting) (t u : State) (to : ℕ) → u ≡ next w t → t.cycle < to → to - u.cycle < to - t.cycle
-way_nearer w t u to e lt = let one : u.cycle ≡ t.cycle + 1 = next_at w t u e in omega arith
-
 pub way_counts : (w : Setting) (s t u : State) (to before now after : ℕ) → Way w s t to before now → u ≡ t → after ≡ now → CountsMove s u before after
 way_counts w s t u to before now after k e same =
     let here : u.cycle ≡ t.cycle = same_cycle u t e in
@@ -177,16 +174,3 @@ way_passed w s t u to before now after n most k e quiet within near low more =
     let b : t.cycle + n ≤ w.limit = within_by n t.cycle most w.limit within low k.low in
     let so_far : now + s.cycle ≡ before + t.cycle = k.count in
     record { path = path_join w s t u k.path (record { is = e ∙ ap (states w t) far; forward = omega arith }); low = omega arith; within = omega arith; count = omega arith }
-
--- and the last cycle before the goal is not among them
-pub still_below : (w : Setting) (t u : State) (to n most : ℕ) → u ≡ states w t n → IsQuiet w t n → (0 < n → t.cycle + n ≤ most) → most ≤ to - 1 → t.cycle < to → u.cycle < to
-still_below w t u to n most e quiet within near lt =
-    let there : u.cycle ≡ t.cycle + n = quiet_there w t u n e quiet in
-    let a : t.cycle + n ≤ to - 1 = within_by n t.cycle most (to - 1) within near (omega arith) in
-    omega arith
-
-pub nearer_passed : (w : Setting) (t u v : State) (to n : ℕ) → u ≡ states w t n → IsQuiet w t n → v ≡ next w u → u.cycle < to → to - v.cycle < to - t.cycle
-nearer_passed w t u v to n e quiet nexts lt =
-    let there : u.cycle ≡ t.cycle + n = quiet_there w t u n e quiet in
-    let one : v.cycle ≡ u.cycle + 1 = next_at w u v nexts in
-    omega arith

@@ -110,9 +110,6 @@ addresses_on next (suc left) some = let e : suc left - 1 ≡ left = omega arith 
 pub words_on : (next left : ℕ) → 0 < left → is_ram (place_of next) ≡ true → list_all (λ a. is_ram (place_of a)) (addresses next left) ≡ list_all (λ a. is_ram (place_of a)) (addresses (next + 4) (left - 1))
 words_on next left some is = ap (list_all (λ a. is_ram (place_of a))) (addresses_on next left some) ∙ rw is refl
 
-pub words_off : (next left : ℕ) → 0 < left → is_ram (place_of next) ≡ false → list_all (λ a. is_ram (place_of a)) (addresses next left) ≡ false
-words_off next left some is = ap (list_all (λ a. is_ram (place_of a))) (addresses_on next left some) ∙ rw is refl
-
 -- there are at most 16 of them
 pub few_words : (address count : ℕ) → are_words address count ≡ true → count ≤ 16
 unfolding are_words

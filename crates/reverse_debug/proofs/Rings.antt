@@ -2,7 +2,7 @@
 use Rattle.std.proofs.Common.{◌≡◌, ℕ, ◌+◌, ◌-◌, ◌*◌, ◌/◌, ◌%◌, ◌==◌, ◌<◌, ◌≤◌, max, nat_lt, nat_le, Bool, true, false, not, ◌&&◌, ◌||◌, List, [], ◌∷◌, ◌++◌, Option, Some, None, inl, inr, refl, sym, ap, subst, arith, ◌∙◌}
 use Rattle.std.proofs.lemmas.Bool.{cases_Bool, cases_lt, or_cases, or_left, or_right, and_from, and_parts, eqb-true, eq-eqb, lt-ltb, le-leb, ltb-true, leb-true}
 use Rattle.std.proofs.lemmas.List.Folds.{list_any-append}
-use Rattle.std.proofs.Math.Nat.{mul-add-mod_self_left, div-add-mod, mod-eq_of_lt, mod-lt, mod-le, zero-mod}
+use Rattle.std.proofs.Math.Nat.{mul-add-mod_self_left, div-add-mod, mod-eq_of_lt, mod-le, zero-mod}
 use Rattle.outer_lane.specs.Setting.{Setting}
 use Rattle.rp_machine.specs.State.{State}
 use Rattle.rp_machine.specs.Run.{states}
@@ -34,13 +34,6 @@ next_least ring at c some begun none lt =
     let far : at - ring.origin < c - ring.origin = omega arith in
     let least : at - ring.origin - (at - ring.origin) % ring.spacing + ring.spacing ≤ c - ring.origin = next_multiple (at - ring.origin) ring.spacing (c - ring.origin) some none far in
     let rest : (at - ring.origin) % ring.spacing ≤ at - ring.origin = mod-le (at - ring.origin) ring.spacing in
-    omega arith
-
--- it is above it, and not farther than the spacing
-pub next_above : (ring : Snapshots) (at : ℕ) → 0 < ring.spacing → ring.origin ≤ at → at < next_place ring at
-next_above ring at some begun =
-    let rest : (at - ring.origin) % ring.spacing < ring.spacing = mod-lt (at - ring.origin) some in
-    let le : (at - ring.origin) % ring.spacing ≤ at - ring.origin = mod-le (at - ring.origin) ring.spacing in
     omega arith
 
 pub next_reach : (ring : Snapshots) (at : ℕ) → next_place ring at ≤ at + ring.spacing

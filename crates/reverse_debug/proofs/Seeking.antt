@@ -13,7 +13,7 @@ use Rattle.reverse_debug.proofs.Paths.{Path, joined, path_last}
 use Rattle.reverse_debug.proofs.Ends.{ends_on, ends_later, sees_over}
 use Rattle.reverse_debug.proofs.Moves.{moved_beyond, moved_to_end, move_within}
 use Rattle.reverse_debug.proofs.Rings.{in_same}
-use Rattle.reverse_debug.proofs.Sessions.{now_in_last, now_low, path_of, stays_here, stays_on}
+use Rattle.reverse_debug.proofs.Sessions.{now_in_last, now_low, path_of, stays_on}
 
 fewer_of : (ended : Bool) (n : ℕ) → cond ended n (suc n) ≡ fewer ended (suc n)
 fewer_of true n = omega arith
@@ -48,9 +48,6 @@ unfolding behind_nth
 behind_none w f watched c more = refl
 
 -- ---- cycle by cycle
-
-pub seeking_here : (w : Setting) (s : Standing) (watched : Watched) (count steps : ℕ) → StandsFor w s → Seeks w watched count s s count steps steps
-seeking_here w s watched count steps k = record { stays = stays_here w s k; forward = omega arith; stretch = refl; next = refl; count = refl }
 
 path_between : (w : Setting) (a b : Standing) → StandsFor w a → StaysFor w a b → a.now.cycle ≤ b.now.cycle → Path w a.now b.now
 path_between w a b k stays le =

@@ -43,9 +43,6 @@ limit_in_spacings limit = omega arith
 pub spacing_some : (w : Setting) (first : State) (s : Standing) → IsAlong w first s → 0 < s.ring.spacing
 spacing_some w first s k = k.ring.some
 
-pub closer_some : (w : Setting) (first : State) (s : Standing) → IsAlong w first s → 0 < s.near.spacing
-closer_some w first s k = k.near.some
-
 now_in_spacings : (w : Setting) (first : State) (s : Standing) → IsAlong w first s → s.now.cycle ≤ 64 * s.ring.spacing
 now_in_spacings w first s k =
     let low : s.now.cycle ≤ w.limit = now_low w first s k in

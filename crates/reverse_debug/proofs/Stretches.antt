@@ -159,9 +159,6 @@ pub record Searching (w : Setting) (f : State) (watched : Watched) (count to lef
   pub forward : before ≤ now
   pub steps : now + end ≤ before + to
 
-pub searching_here : (w : Setting) (f : State) (watched : Watched) (count to steps : ℕ) → 0 < count → Searching w f watched count to count to steps steps
-searching_here w f watched count to steps some = record { found = refl; some = some; few = omega arith; within = omega arith; forward = omega arith; steps = omega arith }
-
 -- a stretch that is searched: it begins at the kept state that is the nearest one below its end
 pub record Stretch (w : Setting) (f : State) (ring near : Snapshots) (to start end : ℕ) (s : State) : Type 0 where
   pub begins : IsStart w f start s

@@ -27,9 +27,6 @@ use Rattle.rp_machine.specs.Alone.{Blocks, IsAlone, beside, stepped_alone, alone
 
 -- ---- what the others begin
 
-asleep_doing : ℕ → Doing
-asleep_doing cycle = record { act = act.Asleep; lines = 0; cycle = cycle }
-
 begun_core1 : (s : State) (p : Blocks) → IsAlone s p → (begun s).core1.act ≡ act.Asleep
 unfolding begun core_asks.asks
 begun_core1 s p h = rw h.asleep refl

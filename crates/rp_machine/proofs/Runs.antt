@@ -75,12 +75,6 @@ step_goes_on w s t u h e le same =
     let count : t.cycle ≡ s.cycle + 1 = ap (λ (x : State). x.cycle) e ∙ next_cycle w s in
     (omega arith, ap (last_state w) e ∙ sym (last_on w s h lt) ∙ same)
 
--- a count that rises by one with each cycle stays level with the cycles
-pub step_counts : (w : Setting) (s t : State) (first before now counted : ℕ) → t ≡ next w s → counted ≡ now + 1 → now + first ≡ before + s.cycle → counted + first ≡ before + t.cycle
-step_counts w s t first before now counted e count so_far =
-    let cycle : t.cycle ≡ s.cycle + 1 = ap (λ (x : State). x.cycle) e ∙ next_cycle w s in
-    omega arith
-
 -- no cycle goes back
 pub step_forward : (w : Setting) (s t : State) (first : ℕ) → t ≡ next w s → first ≤ s.cycle → first ≤ t.cycle
 step_forward w s t first e le =

@@ -32,11 +32,6 @@ pub count_same : (r : Bool) (page : ℕ) (words before now : List ℕ) → words
 count_same r page words before now is h same =
     count_step r page words before now is h ∙ ap (λ t. differing page before now + (if t then 0 else 1)) same ∙ omega arith
 
-pub count_other : (r : Bool) (page : ℕ) (words before now : List ℕ) → words ≡ page_of page before → Decides r (page_of page now ≡ words) → r ≡ false →
-    differing (page + 1) before now ≡ differing page before now + 1
-count_other r page words before now is h other =
-    count_step r page words before now is h ∙ ap (λ t. differing page before now + (if t then 0 else 1)) other
-
 pub differing-next : (page : ℕ) (before now : List ℕ) →
     differing (page + 1) before now ≡ differing page before now + (if is_same_page page before now then 0 else 1)
 unfolding differing

@@ -50,10 +50,6 @@ stored_more n m [] le h = tt
 stored_more n m (p ∷ ps) le h =
     (record { long = h.0.long; below = below_more n m p.numbers le h.0.below }, stored_more n m ps le h.1)
 
-pub first_stored : (n : ℕ) (ps : List Snapshot) → AllByRecursion (λ p. AreStored n p.numbers) ps → IfSome (first_numbers ps) (AreStored n)
-first_stored n [] h = tt
-first_stored n (p ∷ ps) h = h.0
-
 pub anew_is : (pages : List (List ℕ)) (ps : List Snapshot) (s : State) → stored_anew 264 pages (first_numbers ps) s.sram ≡ stored_for s (states_in pages ps)
 anew_is pages [] s = refl
 anew_is pages (p ∷ ps) s = refl

@@ -145,8 +145,3 @@ all_stored in_force old pages ram numbers long s =
 pub all_sram : (in_force : Option (List ℕ)) (old pages : List (List ℕ)) (ram numbers : List ℕ) → length numbers ≡ 264 → length ram ≡ 67584 →
     Stores 264 in_force old pages ram numbers → sram_of pages numbers ≡ ram
 all_sram in_force old pages ram numbers long is s = whole_sram pages numbers ram long is (λ k lt. (s.found k (omega (arith, lt, long))).is)
-
-pub known_in : (count later n : ℕ) (in_force : Option (List ℕ)) → n < 264 → count ≤ later → IfSome in_force (AreStored count) →
-    IfSome (number_in n in_force) (λ m. m < later)
-known_in count later n None lt le h = tt
-known_in count later n (Some f) lt le h = omega (arith, le, below_at count n f h.below (omega (arith, lt, h.long)))
