@@ -38,9 +38,7 @@ few_read n counts s = few_for n counts (write_begun s) (next_request s)
 
 asks_few : (s : State) → Few 2 (asks s)
 unfolding asks
-asks_few s =
-    few_if 2 _ _ _ (few_ready 2 _)
-    (few_if 2 _ _ _ (few_ask 1 Pacing (λ counts. asks_read counts s) (λ counts. few_read 0 counts s)) (few_read 1 0 s))
+asks_few s = few_if 2 _ _ _ (few_ask 1 Pacing (λ counts. asks_read counts s) (λ counts. few_read 0 counts s)) (few_read 1 0 s)
 
 -- the counts, and a word of SRAM
 pub two_at_most : (s : State) → AsksAtMost 2 (asks s)
