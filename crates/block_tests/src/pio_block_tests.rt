@@ -155,7 +155,7 @@ const SM2: u16 = SM1 + SM_BYTES;
 const SM3: u16 = SM2 + SM_BYTES;
 
 /// What each word keeps of a write, and the lines after them.
-const WORDS: [Deed; 24] = [
+const WORDS: [Deed; 28] = [
     Deed::Word(FSTAT, 0xffff_ffff, 0x0f00_0f00),
     Deed::Word(FDEBUG, 0xffff_ffff, 0),
     Deed::Word(FLEVEL, 0xffff_ffff, 0),
@@ -186,8 +186,8 @@ const WORDS: [Deed; 24] = [
     Deed::Lines(true, false),
 ];
 
-/// Offsets of no word, bits that are left out, and a hold.
-const REFUSED: [Deed; 17] = [
+/// Offsets of no word, bits that are left out, and a reset.
+const REFUSED: [Deed; 13] = [
     Deed::Missing(0x002),
     Deed::Missing(0x0c9),
     Deed::Missing(0x144),

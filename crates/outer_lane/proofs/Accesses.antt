@@ -8,7 +8,7 @@ use Rattle.rp_base.specs.Held.{unless_held}
 use Rattle.rp_base.specs.Rows.{Row, has_row, word_at}
 use Rattle.rp_base.proofs.Rows.{keeps, either-way, held}
 use Rattle.io_bank.specs.Offsets.{PADS_BANK0}
-use Rattle.io_bank.specs.State.{Bank, after_held}
+use Rattle.io_bank.specs.State.{State as Bank, after_held}
 use Rattle.io_bank.specs.Words as bank
 use Rattle.rp_uart.specs.Words.{uart_rows}
 use Rattle.rp_timer.specs.Words.{timer_rows}
@@ -16,7 +16,7 @@ use Rattle.outer_lane.specs.declared.world.SeenOutputs.{SeenOutputs}
 use Rattle.outer_lane.specs.Device.{device_accessed}
 use Rattle.outer_lane.specs.Quiet.{held_blocks}
 use Rattle.outer_lane.specs.Setting.{Setting}
-use Rattle.outer_lane.specs.State.{OuterState, outer_reset}
+use Rattle.outer_lane.specs.State.{State, outer_reset}
 use Rattle.outer_lane.specs.Step.{is_fitting}
 use Rattle.outer_lane.specs.Words.{outs_now, pads_word, own_word, outer_word, outer_allowed, bank_accessed, outer_accessed}
 
@@ -40,11 +40,11 @@ some-below : (b c : Bool) (word : Option ℕ) → c ≡ is_some word → (b && c
 some-below true c word e = e
 some-below false c word e = refl
 
-pads_open : (w : Setting) (seen : SeenOutputs) (offset : ℕ) (o : OuterState) → bank.is_word offset ≡ is_some (pads_word offset w seen o)
+pads_open : (w : Setting) (seen : SeenOutputs) (offset : ℕ) (o : State) → bank.is_word offset ≡ is_some (pads_word offset w seen o)
 unfolding pads_word
 pads_open w seen offset o = some-read bank.bank_rows (bank.is_held offset o.pads) offset (outs_now w seen o) o.pads
 
-pub outer_open : (w : Setting) (seen : SeenOutputs) (b : Block) (offset : ℕ) (o : OuterState)
+pub outer_open : (w : Setting) (seen : SeenOutputs) (b : Block) (offset : ℕ) (o : State)
     → outer_allowed b offset ≡ is_some (outer_word b offset w seen o)
 unfolding outer_allowed outer_word own_word
 outer_open w seen block.IoBank0 offset o = some-below (nat_lt offset PADS_BANK0) _ (pads_word offset w seen o) (pads_open w seen offset o)
@@ -72,24 +72,24 @@ effect_same offset write b =
     either-way (SamePads b) (bank.is_word offset) (either-way (SamePads b) (bank.is_held offset b) (same_pads b) (any_same offset write b)) (same_pads b)
 
 -- the bits of RESETS, and what SIO puts out
-pub record SameCopies (o p : OuterState) : Type 0 where
+pub record SameCopies (o p : State) : Type 0 where
   pub bank : p.pads.bank_held ≡ o.pads.bank_held
   pub pads : p.pads.pads_held ≡ o.pads.pads_held
   pub blocks : held_blocks p ≡ held_blocks o
   pub sio : p.sio ≡ o.sio
 
 -- the levels of the pads as well
-pub record Leaves (o p : OuterState) : Type 0 where
+pub record Leaves (o p : State) : Type 0 where
   pub copies : SameCopies o p
   pub levels : p.pads.current ≡ o.pads.current
 
-same : (o : OuterState) → Leaves o o
+same : (o : State) → Leaves o o
 same o = record { copies = record { bank = refl; pads = refl; blocks = refl; sio = refl }; levels = refl }
 
-with_pads : (o : OuterState) (b : Bank) → SamePads o.pads b → Leaves o (record o { pads = b })
+with_pads : (o : State) (b : Bank) → SamePads o.pads b → Leaves o (record o { pads = b })
 with_pads o b h = record { copies = record { bank = h.bank; pads = h.pads; blocks = refl; sio = refl }; levels = h.levels }
 
-pub access_leaves : (b : Block) (offset : ℕ) (write : Option ℕ) (o : OuterState) → Leaves o (outer_accessed b offset write o)
+pub access_leaves : (b : Block) (offset : ℕ) (write : Option ℕ) (o : State) → Leaves o (outer_accessed b offset write o)
 unfolding outer_accessed
 access_leaves block.IoBank0 offset write o =
     with_pads o (bank_accessed offset write o.pads)
@@ -98,7 +98,7 @@ access_leaves block.PadsBank0 offset write o =
     with_pads o (bank.effect_of (PADS_BANK0 + offset) write o.pads) (effect_same (PADS_BANK0 + offset) write o.pads)
 access_leaves other offset write o = record { copies = record { bank = refl; pads = refl; blocks = refl; sio = refl }; levels = refl }
 
-pub device_leaves : (w : Setting) (address : ℕ) (write : Option ℕ) (o : OuterState) → Leaves o (device_accessed w address write o)
+pub device_leaves : (w : Setting) (address : ℕ) (write : Option ℕ) (o : State) → Leaves o (device_accessed w address write o)
 unfolding device_accessed
 device_leaves w address write o =
     either-way (Leaves o) (is_fitting w.device o.device)
@@ -114,6 +114,6 @@ pads_reset true false b = (refl, refl, refl)
 pads_reset false true b = (refl, refl, refl)
 pads_reset false false b = (refl, refl, refl)
 
-pub reset_levels : (w : ℕ) (o : OuterState) → (outer_reset w o).pads.current ≡ o.pads.current
+pub reset_levels : (w : ℕ) (o : State) → (outer_reset w o).pads.current ≡ o.pads.current
 unfolding outer_reset
 reset_levels w o = (pads_reset _ _ o.pads).2

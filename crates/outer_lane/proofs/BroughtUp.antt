@@ -3,8 +3,8 @@ use Rattle.std.proofs.Common.{◌≡◌, ℕ, ◌+◌, ◌≤◌, Bool, refl, sy
 use Rattle.rp_base.specs.declared.resettable.Resettable.{Resettable}
 use Rattle.lane_look.specs.Times.{times}
 use Rattle.lane_look.proofs.Times.{times_none, times_more, times_add}
-use Rattle.rp_timer.specs.State.{TimerState, lines_of}
-use Rattle.rp_uart.specs.State.{SerialPort}
+use Rattle.rp_timer.specs.State.{State as TimerState, lines_of}
+use Rattle.rp_uart.specs.State.{State as SerialPort}
 use Rattle.rp_uart.specs.Step.{output_of, pacing_of}
 use Rattle.rp_uart.specs.Interrupts.{is_line_high}
 use Rattle.outer_lane.specs.declared.blocks.Blocks.{Blocks}

@@ -6,7 +6,7 @@ use Rattle.rp_base.specs.declared.resettable.Resettable.{Resettable}
 use Rattle.rp_base.specs.Held.{unless_held}
 use Rattle.rp_base.specs.Resettable.{unless_held_becomes}
 use Rattle.io_bank.specs.declared.outputs.Outs.{Outs}
-use Rattle.io_bank.specs.State.{Bank}
+use Rattle.io_bank.specs.State.{State as Bank}
 use Rattle.io_bank.specs.Edges.{edges_of}
 use Rattle.io_bank.specs.Levels.{by_sets, receive_level, uart_outputs}
 use Rattle.io_bank.specs.Step.{after_step, with_edges, with_levels}
@@ -21,10 +21,10 @@ use Rattle.pin_script.specs.Levels.{is_due, level_after, drive_of, drive_at}
 use Rattle.pin_script.specs.Reading.{cycle_at, IsDueBefore}
 use Rattle.pin_script.specs.Script.{IsScript}
 use Rattle.pin_script.proofs.Due.{due_are_first}
-use Rattle.rp_timer.specs.State.{TimerState, lines_of}
+use Rattle.rp_timer.specs.State.{State as TimerState, lines_of}
 use Rattle.rp_timer.specs.Step as timer
 use Rattle.rp_timer.specs.Quiet as timer_quiet
-use Rattle.rp_uart.specs.State.{SerialPort}
+use Rattle.rp_uart.specs.State.{State as SerialPort}
 use Rattle.rp_uart.specs.Step.{output_of, pacing_of}
 use Rattle.rp_uart.specs.Step as uart
 use Rattle.rp_uart.specs.Quiet as uart_quiet
@@ -32,7 +32,7 @@ use Rattle.rp_uart.specs.Interrupts.{is_line_high}
 use Rattle.outer_lane.specs.declared.world.SeenOutputs.{SeenOutputs}
 use Rattle.outer_lane.specs.Lines.{outer_lines, outer_pacing}
 use Rattle.outer_lane.specs.Setting.{Setting}
-use Rattle.outer_lane.specs.State.{OuterState}
+use Rattle.outer_lane.specs.State.{State}
 use Rattle.outer_lane.specs.Step.{either, outs_of, outside_of, levels_by, pads_by, next_by, next, marked_by, marked, timer_after, uart_after, byte_of, wires_by, words_by, wires_of}
 use Rattle.outer_lane.specs.BroughtUp.{blocks_of, blocks_passed, AreBlocksQuiet}
 use Rattle.outer_lane.specs.Rest.{pads_driven}
@@ -228,7 +228,7 @@ same_outside script wires cycle later e pin =
 -- ---- all of them
 
 -- the state in which each part has gone so far on its own
-abbrev pub passed : Setting → SeenOutputs → ℕ → OuterState → OuterState
+abbrev pub passed : Setting → SeenOutputs → ℕ → State → State
 passed w seen k s = record s {
   timer = times timer_after seen.cycle k s.timer;
   uart0 = times (uart_cycle (receive_level 0 s.pads)) seen.cycle k s.uart0;
@@ -236,51 +236,51 @@ passed w seen k s = record s {
   device = times (words_cycle w.device s.pads.current) seen.cycle k s.device;
 }
 
-with_same : (x : OuterState) (pads : Bank) (irq : ℕ) → x.pads ≡ pads → x.irq ≡ irq → x ≡ record x { pads = pads; irq = irq }
+with_same : (x : State) (pads : Bank) (irq : ℕ) → x.pads ≡ pads → x.irq ≡ irq → x ≡ record x { pads = pads; irq = irq }
 with_same x pads irq e f = rw (← e, ← f) refl
 
-closed_step : (w : Setting) (seen : SeenOutputs) (s : OuterState) (k : ℕ) → outer_after w seen k s ≡ passed w seen k s → (outer_step w seen (seen.cycle + k) (passed w seen k s)).pads ≡ s.pads → (outer_step w seen (seen.cycle + k) (passed w seen k s)).irq ≡ s.irq → outer_after w seen (suc k) s ≡ passed w seen (suc k) s
+closed_step : (w : Setting) (seen : SeenOutputs) (s : State) (k : ℕ) → outer_after w seen k s ≡ passed w seen k s → (outer_step w seen (seen.cycle + k) (passed w seen k s)).pads ≡ s.pads → (outer_step w seen (seen.cycle + k) (passed w seen k s)).irq ≡ s.irq → outer_after w seen (suc k) s ≡ passed w seen (suc k) s
 unfolding times next next_by
 closed_step w seen s k here pads irq =
     ap (outer_step w seen (seen.cycle + k)) here
     ∙ with_same (outer_step w seen (seen.cycle + k) (passed w seen k s)) s.pads s.irq pads irq
 
-closed_none : (w : Setting) (seen : SeenOutputs) (s : OuterState) → outer_after w seen 0 s ≡ passed w seen 0 s
+closed_none : (w : Setting) (seen : SeenOutputs) (s : State) → outer_after w seen 0 s ≡ passed w seen 0 s
 unfolding times
 closed_none w seen s = refl
 
-one_more : (w : Setting) (seen : SeenOutputs) (s : OuterState) (k : ℕ) → outer_after w seen (suc k) s ≡ outer_step w seen (seen.cycle + k) (outer_after w seen k s)
+one_more : (w : Setting) (seen : SeenOutputs) (s : State) (k : ℕ) → outer_after w seen (suc k) s ≡ outer_step w seen (seen.cycle + k) (outer_after w seen k s)
 unfolding times
 one_more w seen s k = refl
 
 -- where the peripherals are quiet, each part has gone on its own
-pub quiet_closed : (w : Setting) (seen : SeenOutputs) (s : OuterState) (n : ℕ) → IsQuiet w seen s n → (k : ℕ) → k ≤ n → outer_after w seen k s ≡ passed w seen k s
+pub quiet_closed : (w : Setting) (seen : SeenOutputs) (s : State) (n : ℕ) → IsQuiet w seen s n → (k : ℕ) → k ≤ n → outer_after w seen k s ≡ passed w seen k s
 quiet_closed w seen s n q zero le = closed_none w seen s
 quiet_closed w seen s n q (suc k) le =
     let here = quiet_closed w seen s n q k (omega arith) in
     let there : outer_step w seen (seen.cycle + k) (passed w seen k s) ≡ outer_after w seen (suc k) s =
     sym (one_more w seen s k ∙ ap (outer_step w seen (seen.cycle + k)) here) in
     closed_step w seen s k here
-    (ap (λ (x : OuterState). x.pads) there ∙ q.pads (suc k) le)
-    (ap (λ (x : OuterState). x.irq) there ∙ q.irq (suc k) le)
+    (ap (λ (x : State). x.pads) there ∙ q.pads (suc k) le)
+    (ap (λ (x : State). x.irq) there ∙ q.irq (suc k) le)
 
 -- the number of the device's words, as its own cycles leave it
-pub quiet_count : (w : Setting) (seen : SeenOutputs) (s : OuterState) (n : ℕ) → IsQuiet w seen s n → (k : ℕ) → k ≤ n → length (times (words_cycle w.device s.pads.current) seen.cycle k s.device) ≡ length s.device
+pub quiet_count : (w : Setting) (seen : SeenOutputs) (s : State) (n : ℕ) → IsQuiet w seen s n → (k : ℕ) → k ≤ n → length (times (words_cycle w.device s.pads.current) seen.cycle k s.device) ≡ length s.device
 quiet_count w seen s n q k le =
-    sym (ap (λ (x : OuterState). length x.device) (quiet_closed w seen s n q k le)) ∙ q.words k le
+    sym (ap (λ (x : State). length x.device) (quiet_closed w seen s n q k le)) ∙ q.words k le
 
 -- what the parts leave, one after another
-pub passed_all : (w : Setting) (seen : SeenOutputs) (s a b : OuterState) (n : ℕ) → IsQuiet w seen s n → a ≡ blocks_passed seen.cycle n s →
+pub passed_all : (w : Setting) (seen : SeenOutputs) (s a b : State) (n : ℕ) → IsQuiet w seen s n → a ≡ blocks_passed seen.cycle n s →
     b ≡ record a { device = words_after w.device a.pads.current seen.cycle n a.device } → b ≡ outer_after w seen n s
 passed_all w seen s a b n q ea eb =
     eb
-    ∙ ap (λ (x : OuterState). record x { device = words_after w.device x.pads.current seen.cycle n x.device }) ea
+    ∙ ap (λ (x : State). record x { device = words_after w.device x.pads.current seen.cycle n x.device }) ea
     ∙ ap (λ (x : List ℕ). record (passed w seen n s) { device = x })
     (words_after_is w.device s.device seen.cycle s.pads.current n (quiet_count w seen s n q))
     ∙ sym (quiet_closed w seen s n q n (omega arith))
 
 -- what makes them quiet
-pub record ArePartsQuiet (w : Setting) (seen : SeenOutputs) (s : OuterState) (n : ℕ) : Type 0 where
+pub record ArePartsQuiet (w : Setting) (seen : SeenOutputs) (s : State) (n : ℕ) : Type 0 where
   pub timer_quiet : IsTimerQuiet s.timer seen.cycle n
   pub uart0_quiet : IsUartQuiet (receive_level 0 s.pads) s.uart0 seen.cycle n
   pub uart1_quiet : IsUartQuiet (receive_level 1 s.pads) s.uart1 seen.cycle n
@@ -290,16 +290,16 @@ pub record ArePartsQuiet (w : Setting) (seen : SeenOutputs) (s : OuterState) (n 
   pub same_irq : (wires_of w.device seen.cycle s).irq ≡ s.irq
 
 -- what the device drives in cycle k
-abbrev wires_at : Setting → SeenOutputs → ℕ → OuterState → Wires
+abbrev wires_at : Setting → SeenOutputs → ℕ → State → Wires
 wires_at w seen k s = wires_by w.device (times (words_cycle w.device s.pads.current) seen.cycle k s.device) (seen.cycle + k) s.pads.current
 
-abbrev outs_with : Wires → SeenOutputs → OuterState → List ℕ → Outs
+abbrev outs_with : Wires → SeenOutputs → State → List ℕ → Outs
 outs_with wires seen s uart = record { sio = s.sio; pio0 = seen.pio0; pio1 = seen.pio1; pwm = wires.pwm ∷ (2 ^ 30 - 1) ∷ []; uart = uart }
 
 uart_outs : (a b c d : Bool) → a ≡ c → b ≡ d → uart_outputs a b ≡ uart_outputs c d
 uart_outs a b c d e f = rw (e, f) refl
 
-pads_stay : (w : Setting) (seen : SeenOutputs) (s : OuterState) (n k : ℕ) → ArePartsQuiet w seen s n → k < n → pads_by w.script (wires_at w seen k s) (seen_in seen (seen.cycle + k)) (passed w seen k s) ≡ s.pads
+pads_stay : (w : Setting) (seen : SeenOutputs) (s : State) (n k : ℕ) → ArePartsQuiet w seen s n → k < n → pads_by w.script (wires_at w seen k s) (seen_in seen (seen.cycle + k)) (passed w seen k s) ≡ s.pads
 unfolding pads_by
 pads_stay w seen s n k p lt =
     let wires = wires_of w.device seen.cycle s in
@@ -313,72 +313,72 @@ pads_stay w seen s n k p lt =
     (λ pin low. same_outside w.script wires seen.cycle cycle (p.script_quiet k lt) pin))
     ∙ p.settled
 
-next_pads : (w : Setting) (seen : SeenOutputs) (s : OuterState) (k : ℕ) → (outer_step w seen (seen.cycle + k) (passed w seen k s)).pads ≡ pads_by w.script (wires_at w seen k s) (seen_in seen (seen.cycle + k)) (passed w seen k s)
+next_pads : (w : Setting) (seen : SeenOutputs) (s : State) (k : ℕ) → (outer_step w seen (seen.cycle + k) (passed w seen k s)).pads ≡ pads_by w.script (wires_at w seen k s) (seen_in seen (seen.cycle + k)) (passed w seen k s)
 unfolding next next_by
 next_pads w seen s k = refl
 
-next_irq : (w : Setting) (seen : SeenOutputs) (s : OuterState) (k : ℕ) → (outer_step w seen (seen.cycle + k) (passed w seen k s)).irq ≡ (wires_at w seen k s).irq
+next_irq : (w : Setting) (seen : SeenOutputs) (s : State) (k : ℕ) → (outer_step w seen (seen.cycle + k) (passed w seen k s)).irq ≡ (wires_at w seen k s).irq
 unfolding next next_by
 next_irq w seen s k = refl
 
-parts_closed : (w : Setting) (seen : SeenOutputs) (s : OuterState) (n : ℕ) → ArePartsQuiet w seen s n → (k : ℕ) → k ≤ n → outer_after w seen k s ≡ passed w seen k s
+parts_closed : (w : Setting) (seen : SeenOutputs) (s : State) (n : ℕ) → ArePartsQuiet w seen s n → (k : ℕ) → k ≤ n → outer_after w seen k s ≡ passed w seen k s
 parts_closed w seen s n p zero le = closed_none w seen s
 parts_closed w seen s n p (suc k) le =
     closed_step w seen s k (parts_closed w seen s n p k (omega arith))
     (next_pads w seen s k ∙ pads_stay w seen s n k p (omega arith))
     (next_irq w seen s k ∙ ap (λ (x : Wires). x.irq) (p.words_quiet.drives k (omega arith)) ∙ p.same_irq)
 
-mark_go : (a b : Option ℕ) (x : ℕ) (s : OuterState) → a ≡ None → b ≡ None → x ≡ s.pads.current → record { uart = a ∷ b ∷ []; pads = x } ≡ quiet_mark s
+mark_go : (a b : Option ℕ) (x : ℕ) (s : State) → a ≡ None → b ≡ None → x ≡ s.pads.current → record { uart = a ∷ b ∷ []; pads = x } ≡ quiet_mark s
 mark_go a b x s e f g = rw (e, f, g) refl
 
-passed_mark : (w : Setting) (seen : SeenOutputs) (s : OuterState) (n k : ℕ) → ArePartsQuiet w seen s n → k < n → marked w (passed w seen k s) (seen_in seen (seen.cycle + k)) ≡ quiet_mark s
+passed_mark : (w : Setting) (seen : SeenOutputs) (s : State) (n k : ℕ) → ArePartsQuiet w seen s n → k < n → marked w (passed w seen k s) (seen_in seen (seen.cycle + k)) ≡ quiet_mark s
 unfolding marked marked_by levels_by pads_by
 passed_mark w seen s n k p lt =
     mark_go _ _ _ s (p.uart0_quiet.silent k lt) (p.uart1_quiet.silent k lt) (ap (λ (x : Bank). x.current) (pads_stay w seen s n k p lt))
 
-passed_lines : (w : Setting) (seen : SeenOutputs) (s : OuterState) (n k core : ℕ) → ArePartsQuiet w seen s n → k ≤ n → outer_lines core (passed w seen k s) ≡ outer_lines core s
+passed_lines : (w : Setting) (seen : SeenOutputs) (s : State) (n k core : ℕ) → ArePartsQuiet w seen s n → k ≤ n → outer_lines core (passed w seen k s) ≡ outer_lines core s
 unfolding outer_lines
 passed_lines w seen s n k core p le = rw (p.timer_quiet.lines k le, p.uart0_quiet.interrupt k le, p.uart1_quiet.interrupt k le) refl
 
 two_pacings : (a b c d : List ℕ) → a ≡ c → b ≡ d → a ++ b ≡ c ++ d
 two_pacings a b c d e f = rw (e, f) refl
 
-passed_pacing : (w : Setting) (seen : SeenOutputs) (s : OuterState) (n k : ℕ) → ArePartsQuiet w seen s n → k ≤ n → outer_pacing (passed w seen k s) ≡ outer_pacing s
+passed_pacing : (w : Setting) (seen : SeenOutputs) (s : State) (n k : ℕ) → ArePartsQuiet w seen s n → k ≤ n → outer_pacing (passed w seen k s) ≡ outer_pacing s
 passed_pacing w seen s n k p le =
     two_pacings (pacing_of (passed w seen k s).uart0.block) (pacing_of (passed w seen k s).uart1.block) (pacing_of s.uart0.block) (pacing_of s.uart1.block)
     (p.uart0_quiet.pacing k le) (p.uart1_quiet.pacing k le)
 
-passed_held : (w : Setting) (seen : SeenOutputs) (s : OuterState) (n k : ℕ) → ArePartsQuiet w seen s n → k ≤ n → held_blocks (passed w seen k s) ≡ held_blocks s
+passed_held : (w : Setting) (seen : SeenOutputs) (s : State) (n k : ℕ) → ArePartsQuiet w seen s n → k ≤ n → held_blocks (passed w seen k s) ≡ held_blocks s
 passed_held w seen s n k p le = rw (p.timer_quiet.held k le, p.uart0_quiet.held k le, p.uart1_quiet.held k le) refl
 
-pub parts_quiet : (w : Setting) (seen : SeenOutputs) (s : OuterState) (n : ℕ) → ArePartsQuiet w seen s n → IsQuiet w seen s n
+pub parts_quiet : (w : Setting) (seen : SeenOutputs) (s : State) (n : ℕ) → ArePartsQuiet w seen s n → IsQuiet w seen s n
 parts_quiet w seen s n p =
     let at = parts_closed w seen s n p in
     record {
-      mark = λ k lt. ap (λ (x : OuterState). marked w x (seen_in seen (seen.cycle + k))) (at k (omega arith)) ∙ passed_mark w seen s n k p lt;
-      pads = λ k le. ap (λ (x : OuterState). x.pads) (at k le);
+      mark = λ k lt. ap (λ (x : State). marked w x (seen_in seen (seen.cycle + k))) (at k (omega arith)) ∙ passed_mark w seen s n k p lt;
+      pads = λ k le. ap (λ (x : State). x.pads) (at k le);
       lines = λ k le core. ap (outer_lines core) (at k le) ∙ passed_lines w seen s n k core p le;
       pacing = λ k le. ap outer_pacing (at k le) ∙ passed_pacing w seen s n k p le;
-      irq = λ k le. ap (λ (x : OuterState). x.irq) (at k le);
-      sio = λ k le. ap (λ (x : OuterState). x.sio) (at k le);
+      irq = λ k le. ap (λ (x : State). x.irq) (at k le);
+      sio = λ k le. ap (λ (x : State). x.sio) (at k le);
       held = λ k le. ap held_blocks (at k le) ∙ passed_held w seen s n k p le;
-      words = λ k le. ap (λ (x : OuterState). length x.device) (at k le) ∙ p.words_quiet.count k le;
+      words = λ k le. ap (λ (x : State). length x.device) (at k le) ∙ p.words_quiet.count k le;
     }
 
 -- ---- for no cycle, and for fewer
 
-pub quiet_zero : (w : Setting) (seen : SeenOutputs) (s : OuterState) → IsQuiet w seen s 0
+pub quiet_zero : (w : Setting) (seen : SeenOutputs) (s : State) → IsQuiet w seen s 0
 quiet_zero w seen s =
     let at : (k : ℕ) → k ≤ 0 → outer_after w seen k s ≡ s = λ k le. times_none (outer_step w seen) seen.cycle k s (omega arith) in
     record {
       mark = λ k lt. absurd (omega arith);
-      pads = λ k le. ap (λ (x : OuterState). x.pads) (at k le);
+      pads = λ k le. ap (λ (x : State). x.pads) (at k le);
       lines = λ k le core. ap (outer_lines core) (at k le);
       pacing = λ k le. ap outer_pacing (at k le);
-      irq = λ k le. ap (λ (x : OuterState). x.irq) (at k le);
-      sio = λ k le. ap (λ (x : OuterState). x.sio) (at k le);
+      irq = λ k le. ap (λ (x : State). x.irq) (at k le);
+      sio = λ k le. ap (λ (x : State). x.sio) (at k le);
       held = λ k le. ap held_blocks (at k le);
-      words = λ k le. ap (λ (x : OuterState). length x.device) (at k le);
+      words = λ k le. ap (λ (x : State). length x.device) (at k le);
     }
 
 uart_less : (line : Bool) (u : Resettable SerialPort) (cycle n m : ℕ) → IsUartQuiet line u cycle n → m ≤ n → IsUartQuiet line u cycle m
@@ -392,7 +392,7 @@ uart_less line u cycle n m q le = record {
 }
 
 -- by the number of cycles that each part is quiet for
-pub least_quiet : (w : Setting) (seen : SeenOutputs) (s : OuterState) (line0 line1 : Bool) (inside script words n : ℕ) →
+pub least_quiet : (w : Setting) (seen : SeenOutputs) (s : State) (line0 line1 : Bool) (inside script words n : ℕ) →
     line0 ≡ receive_level 0 s.pads → line1 ≡ receive_level 1 s.pads → AreBlocksQuiet line0 line1 (blocks_of s) seen.cycle inside →
     IsScriptQuiet w.script seen.cycle script → AreWordsQuiet w.device s.device seen.cycle s.pads.current words →
     n ≤ inside → n ≤ script → n ≤ words → IsSettled w seen s → IsQuiet w seen s n
@@ -408,7 +408,7 @@ least_quiet w seen s line0 line1 inside script words n e0 e1 q x y li ls lw sett
     })
 
 -- by what was stepped on copies
-pub settled_by : (w : Setting) (seen : SeenOutputs) (s : OuterState) (wires : Wires) (drives : Drives) → wires ≡ wires_of w.device seen.cycle s →
+pub settled_by : (w : Setting) (seen : SeenOutputs) (s : State) (wires : Wires) (drives : Drives) → wires ≡ wires_of w.device seen.cycle s →
     ((pin : ℕ) → pin < 30 → by_sets drives.driven drives.high pin ≡ outside_of w.script wires seen.cycle pin) →
     pads_driven wires seen drives s ≡ s.pads → wires.irq ≡ s.irq → IsSettled w seen s
 unfolding pads_driven

@@ -1,6 +1,6 @@
 -- A step of the pads that changes nothing, and any other one.
 use Rattle.std.proofs.Common.{◌≡◌, ℕ, ◌==◌, Bool, true, false, cond, List, [], ◌∷◌, refl, sym, ap, ◌∙◌}
-use Rattle.io_bank.specs.State.{Bank}
+use Rattle.io_bank.specs.State.{State as Bank}
 use Rattle.io_bank.specs.Edges.{edges_of}
 use Rattle.io_bank.specs.Interrupts.{line_of}
 use Rattle.io_bank.specs.Levels.{levels_of, by_sets}

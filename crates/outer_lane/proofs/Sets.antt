@@ -5,7 +5,7 @@ use Rattle.std.specs.Int.{bit_at, w32}
 use Rattle.std.proofs.lemmas.Nat.Bits.{bit_at_not, bit_at-lt}
 use Rattle.rp_base.specs.Word.{has_bit}
 use Rattle.io_bank.specs.declared.outputs.Outs.{Outs}
-use Rattle.io_bank.specs.State.{Bank}
+use Rattle.io_bank.specs.State.{State as Bank}
 use Rattle.io_bank.specs.Levels.{by_sets, levels_of, pad_level, control_of, pad_of}
 use Rattle.io_bank.proofs.Bits.{has_and, has_or, bits_below-same}
 use Rattle.outer_lane.specs.Step.{either}

@@ -1,7 +1,7 @@
 -- A cycle in which the pads stay, and any other one, by what drives the pads from outside.
 use Rattle.std.proofs.Common.{◌≡◌, ◌<◌, ℕ, ◌-◌, ◌^◌, List, [], ◌∷◌, length, Option, refl, sym, ap, ◌∙◌, arith}
 use Rattle.io_bank.specs.declared.outputs.Outs.{Outs}
-use Rattle.io_bank.specs.State.{Bank}
+use Rattle.io_bank.specs.State.{State as Bank}
 use Rattle.io_bank.specs.Edges.{edges_of}
 use Rattle.io_bank.specs.Levels.{by_sets, levels_of, uart_outputs}
 use Rattle.io_bank.specs.Step.{after_step, with_edges, with_levels}
@@ -15,7 +15,7 @@ use Rattle.outer_lane.specs.declared.drivers.Drivers.{Drivers}
 use Rattle.outer_lane.specs.declared.world.SeenOutputs.{SeenOutputs}
 use Rattle.outer_lane.specs.BroughtUp.{blocks_of, blocks_stepped}
 use Rattle.outer_lane.specs.Rest.{Stays, outs_by, pads_after, pads_driven, next_driven, marked_driven}
-use Rattle.outer_lane.specs.State.{OuterState}
+use Rattle.outer_lane.specs.State.{State}
 use Rattle.outer_lane.specs.Step.{outs_of, outside_of, levels_by, pads_by, next_by, marked_by, byte_of}
 use Rattle.outer_lane.proofs.Sets.{levels_same}
 
@@ -51,7 +51,7 @@ SamePwm first next b =
     (outs : Outs) → (enables driven high : ℕ) →
     levels_of (by_pwm outs first enables) (by_sets driven high) b ≡ levels_of (by_pwm outs next enables) (by_sets driven high) b
 
-pub pads_stay : (wires : Wires) (seen : SeenOutputs) (drives : Drives) (s : OuterState) (d : Drivers) → Stays s.sio d s.pads (blocks_of s) →
+pub pads_stay : (wires : Wires) (seen : SeenOutputs) (drives : Drives) (s : State) (d : Drivers) → Stays s.sio d s.pads (blocks_of s) →
     seen.pio0 ≡ d.pio0_levels ∷ d.pio0_enables ∷ [] → seen.pio1 ≡ d.pio1_levels ∷ d.pio1_enables ∷ [] → SamePwm d.pwm wires.pwm s.pads →
     drives.driven ≡ d.driven → drives.high ≡ d.high → pads_driven wires seen drives s ≡ s.pads
 unfolding pads_driven pads_after
@@ -69,7 +69,7 @@ pads_stay wires seen drives s d stays pio0 pio1 pwm driven high =
 
 -- ---- any cycle, part by part
 
-pads-any : (wires : Wires) (seen : SeenOutputs) (drives : Drives) (s : OuterState) (d : Drivers) → outs_by s.sio d ≡ outs_of wires seen s →
+pads-any : (wires : Wires) (seen : SeenOutputs) (drives : Drives) (s : State) (d : Drivers) → outs_by s.sio d ≡ outs_of wires seen s →
     d.driven ≡ drives.driven → d.high ≡ drives.high → pads_after s.sio d s.pads ≡ pads_driven wires seen drives s
 unfolding pads_driven pads_after
 pads-any wires seen drives s d outs driven high =
@@ -77,33 +77,33 @@ pads-any wires seen drives s d outs driven high =
     ∙ ap (λ (n : ℕ). after_step (outs_of wires seen s) (by_sets n d.high) s.pads) driven
     ∙ ap (λ (n : ℕ). after_step (outs_of wires seen s) (by_sets drives.driven n) s.pads) high
 
-pub any_next : (wires : Wires) (seen : SeenOutputs) (drives : Drives) (s a b : OuterState) (d : Drivers) → outs_by s.sio d ≡ outs_of wires seen s →
+pub any_next : (wires : Wires) (seen : SeenOutputs) (drives : Drives) (s a b : State) (d : Drivers) → outs_by s.sio d ≡ outs_of wires seen s →
     d.driven ≡ drives.driven → d.high ≡ drives.high → a ≡ blocks_stepped seen.cycle s → b ≡ record a { pads = pads_after a.sio d a.pads } →
     record b { irq = wires.irq } ≡ next_driven wires seen drives s
 any_next wires seen drives s a b d outs driven high ea eb =
-    ap (λ (x : OuterState). record x { irq = wires.irq }) eb
-    ∙ ap (λ (x : OuterState). record x { pads = pads_after x.sio d x.pads; irq = wires.irq }) ea
+    ap (λ (x : State). record x { irq = wires.irq }) eb
+    ∙ ap (λ (x : State). record x { pads = pads_after x.sio d x.pads; irq = wires.irq }) ea
     ∙ ap (λ (p : Bank). record (blocks_stepped seen.cycle s) { pads = p; irq = wires.irq }) (pads-any wires seen drives s d outs driven high)
 
 abbrev pub mark_by : List (Option ℕ) → ℕ → Mark
 mark_by uart levels = record { uart = uart; pads = levels }
 
-mark-go : (s : OuterState) (uart : List (Option ℕ)) (n m : ℕ) → uart ≡ byte_of s.uart0 ∷ byte_of s.uart1 ∷ [] → n ≡ m →
+mark-go : (s : State) (uart : List (Option ℕ)) (n m : ℕ) → uart ≡ byte_of s.uart0 ∷ byte_of s.uart1 ∷ [] → n ≡ m →
     mark_by uart n ≡ mark_by (byte_of s.uart0 ∷ byte_of s.uart1 ∷ []) m
 mark-go s uart n m e f = rw (e, f) refl
 
-pub any_marked : (wires : Wires) (seen : SeenOutputs) (drives : Drives) (s a : OuterState) (d : Drivers) (uart : List (Option ℕ)) (levels : ℕ) →
+pub any_marked : (wires : Wires) (seen : SeenOutputs) (drives : Drives) (s a : State) (d : Drivers) (uart : List (Option ℕ)) (levels : ℕ) →
     outs_by s.sio d ≡ outs_of wires seen s → d.driven ≡ drives.driven → d.high ≡ drives.high → a ≡ blocks_stepped seen.cycle s →
     uart ≡ byte_of s.uart0 ∷ byte_of s.uart1 ∷ [] → levels ≡ (pads_after a.sio d a.pads).current →
     mark_by uart levels ≡ marked_driven wires seen drives s
 any_marked wires seen drives s a d uart levels outs driven high ea bytes is =
     mark-go s uart levels (pads_driven wires seen drives s).current bytes
-    (is ∙ ap (λ (x : OuterState). (pads_after x.sio d x.pads).current) ea
+    (is ∙ ap (λ (x : State). (pads_after x.sio d x.pads).current) ea
     ∙ ap (λ (p : Bank). p.current) (pads-any wires seen drives s d outs driven high))
 
 -- ---- by the definition of a cycle
 
-pub driven_next : (script : List Entry) (wires : Wires) (seen : SeenOutputs) (drives : Drives) (s : OuterState) →
+pub driven_next : (script : List Entry) (wires : Wires) (seen : SeenOutputs) (drives : Drives) (s : State) →
     ((pin : ℕ) → pin < 30 → by_sets drives.driven drives.high pin ≡ outside_of script wires seen.cycle pin) →
     next_driven wires seen drives s ≡ next_by script wires seen s
 unfolding pads_driven pads_by next_by
@@ -111,7 +111,7 @@ driven_next script wires seen drives s outside =
     ap (λ (n : ℕ). record (blocks_stepped seen.cycle s) { pads = with_levels n (with_edges (edges_of s.pads) s.pads); irq = wires.irq })
     (levels_same (outs_of wires seen s) (by_sets drives.driven drives.high) (outside_of script wires seen.cycle) s.pads outside)
 
-pub driven_marked : (script : List Entry) (wires : Wires) (seen : SeenOutputs) (drives : Drives) (s : OuterState) →
+pub driven_marked : (script : List Entry) (wires : Wires) (seen : SeenOutputs) (drives : Drives) (s : State) →
     ((pin : ℕ) → pin < 30 → by_sets drives.driven drives.high pin ≡ outside_of script wires seen.cycle pin) →
     marked_driven wires seen drives s ≡ marked_by script wires seen s
 unfolding pads_driven levels_by marked_by

@@ -5,49 +5,49 @@ use Rattle.lane_look.specs.Device.{no_wires}
 use Rattle.lane_look.specs.declared.device.Wires.{Wires}
 use Rattle.outer_lane.specs.declared.world.SeenOutputs.{SeenOutputs}
 use Rattle.outer_lane.specs.Setting.{Setting}
-use Rattle.outer_lane.specs.State.{OuterState}
+use Rattle.outer_lane.specs.State.{State}
 use Rattle.outer_lane.specs.Step.{wires_by, words_by, levels_by, pads_by, next_by, next, marked_by, marked}
 
 -- the state in which the device has stepped
-abbrev pub device_first : Setting → SeenOutputs → OuterState → OuterState
+abbrev pub device_first : Setting → SeenOutputs → State → State
 device_first w seen s = record s { device = w.device.after_step s.device seen.cycle s.pads.current }
 
-pub next-fits : (w : Setting) (seen : SeenOutputs) (s : OuterState) → (length s.device == w.device.count) ≡ true →
+pub next-fits : (w : Setting) (seen : SeenOutputs) (s : State) → (length s.device == w.device.count) ≡ true →
     next_by w.script (w.device.wires s.device seen.cycle s.pads.current) seen (device_first w seen s) ≡ next w s seen
 unfolding wires_by words_by pads_by next_by next
 next-fits w seen s e = rw e refl
 
-pub marked-fits : (w : Setting) (seen : SeenOutputs) (s : OuterState) → (length s.device == w.device.count) ≡ true →
+pub marked-fits : (w : Setting) (seen : SeenOutputs) (s : State) → (length s.device == w.device.count) ≡ true →
     marked_by w.script (w.device.wires s.device seen.cycle s.pads.current) seen (device_first w seen s) ≡ marked w s seen
 unfolding wires_by levels_by marked_by marked
 marked-fits w seen s e = rw e refl
 
-pub next-none : (w : Setting) (seen : SeenOutputs) (s : OuterState) → (length s.device == w.device.count) ≡ false →
+pub next-none : (w : Setting) (seen : SeenOutputs) (s : State) → (length s.device == w.device.count) ≡ false →
     next_by w.script no_wires seen s ≡ next w s seen
 unfolding wires_by words_by next_by next
 next-none w seen s e = rw e refl
 
-pub marked-none : (w : Setting) (seen : SeenOutputs) (s : OuterState) → (length s.device == w.device.count) ≡ false →
+pub marked-none : (w : Setting) (seen : SeenOutputs) (s : State) → (length s.device == w.device.count) ≡ false →
     marked_by w.script no_wires seen s ≡ marked w s seen
 unfolding wires_by marked_by marked
 marked-none w seen s e = rw e refl
 
 -- the same of what the calls of a cycle leave
-pub next_fits : (w : Setting) (seen : SeenOutputs) (s stepped : OuterState) (wires : Wires) → (length s.device == w.device.count) ≡ true →
+pub next_fits : (w : Setting) (seen : SeenOutputs) (s stepped : State) (wires : Wires) → (length s.device == w.device.count) ≡ true →
     wires ≡ w.device.wires s.device seen.cycle s.pads.current → stepped ≡ device_first w seen s →
     next_by w.script wires seen stepped ≡ next w s seen
 next_fits w seen s stepped wires fits drives e = rw (drives, e) (next-fits w seen s fits)
 
-pub marked_fits : (w : Setting) (seen : SeenOutputs) (s stepped : OuterState) (wires : Wires) → (length s.device == w.device.count) ≡ true →
+pub marked_fits : (w : Setting) (seen : SeenOutputs) (s stepped : State) (wires : Wires) → (length s.device == w.device.count) ≡ true →
     wires ≡ w.device.wires s.device seen.cycle s.pads.current → stepped ≡ device_first w seen s →
     marked_by w.script wires seen stepped ≡ marked w s seen
 marked_fits w seen s stepped wires fits drives e = rw (drives, e) (marked-fits w seen s fits)
 
-pub next_none : (w : Setting) (seen : SeenOutputs) (s stepped : OuterState) (wires : Wires) → (length s.device == w.device.count) ≡ false →
+pub next_none : (w : Setting) (seen : SeenOutputs) (s stepped : State) (wires : Wires) → (length s.device == w.device.count) ≡ false →
     wires ≡ no_wires → stepped ≡ s → next_by w.script wires seen stepped ≡ next w s seen
 next_none w seen s stepped wires fits drives e = rw (drives, e) (next-none w seen s fits)
 
-pub marked_none : (w : Setting) (seen : SeenOutputs) (s stepped : OuterState) (wires : Wires) → (length s.device == w.device.count) ≡ false →
+pub marked_none : (w : Setting) (seen : SeenOutputs) (s stepped : State) (wires : Wires) → (length s.device == w.device.count) ≡ false →
     wires ≡ no_wires → stepped ≡ s → marked_by w.script wires seen stepped ≡ marked w s seen
 marked_none w seen s stepped wires fits drives e = rw (drives, e) (marked-none w seen s fits)
 

@@ -3,14 +3,14 @@ use Rattle.std.specs.Prelude.{ℕ, suc, List}
 use Rattle.lane_look.specs.declared.lane.Ask.TheVariants.{Outs}
 use Rattle.lane_look.specs.Asking.{AsksAtMost}
 use Rattle.lane_look.specs.Bounds.{Few, few_ready, few_ask, few_if}
-use Rattle.outer_lane.specs.State.{OuterState}
+use Rattle.outer_lane.specs.State.{State}
 use Rattle.outer_lane.specs.Step.{pins_in, no_pins, asks_second, asks}
 
-few_second : (n : ℕ) (s : OuterState) (cycle : ℕ) (first : List ℕ) → Few (suc n) (asks_second s cycle first)
+few_second : (n : ℕ) (s : State) (cycle : ℕ) (first : List ℕ) → Few (suc n) (asks_second s cycle first)
 unfolding asks_second
 few_second n s cycle first = few_if (suc n) _ _ _ (few_ask n (Outs 1) _ (λ answer. few_ready n _)) (few_ready _ _)
 
-asks_few : (s : OuterState) (cycle : ℕ) → Few 2 (asks s cycle)
+asks_few : (s : State) (cycle : ℕ) → Few 2 (asks s cycle)
 unfolding asks
 asks_few s cycle =
     few_if 2 _ _ _
@@ -18,5 +18,5 @@ asks_few s cycle =
     (few_second 1 s cycle no_pins)
 
 -- the outputs of the two PIO blocks
-pub two_at_most : (s : OuterState) (cycle : ℕ) → AsksAtMost 2 (asks s cycle)
+pub two_at_most : (s : State) (cycle : ℕ) → AsksAtMost 2 (asks s cycle)
 two_at_most s cycle = (asks_few s cycle).few

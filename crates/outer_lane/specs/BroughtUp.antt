@@ -12,7 +12,7 @@ use Rattle.rp_uart.specs.Step.{output_of}
 use Rattle.rp_timer.specs.State as timer
 use Rattle.outer_lane.specs.declared.blocks.Blocks.{Blocks}
 use Rattle.outer_lane.specs.Quiet.{uart_cycle, IsTimerQuiet, IsUartQuiet}
-use Rattle.outer_lane.specs.State.{OuterState, outer_at_start}
+use Rattle.outer_lane.specs.State.{State, outer_at_start}
 use Rattle.outer_lane.specs.Step.{timer_after, uart_after}
 use Rattle.outer_lane.specs.Words.{own_word, outer_accessed}
 
@@ -23,10 +23,10 @@ pub record Told : Type 0 where
   pub line1 : Bool
 
 -- those of the peripherals, and the peripherals with others
-abbrev pub blocks_of : OuterState → Blocks
+abbrev pub blocks_of : State → Blocks
 blocks_of s = record { timer = s.timer; uart0 = s.uart0; uart1 = s.uart1 }
 
-abbrev pub with_blocks : Blocks → OuterState → OuterState
+abbrev pub with_blocks : Blocks → State → State
 with_blocks b s = record s { timer = b.timer; uart0 = b.uart0; uart1 = b.uart1 }
 
 -- each is out of reset, and no pin has the function of a UART
@@ -59,10 +59,10 @@ abbrev pub told_after : ℕ → ℕ → Told → Told
 told_after first n t = record t { blocks = blocks_after t.line0 t.line1 first n t.blocks }
 
 -- the same of the peripherals, as long as the pads stay
-abbrev pub blocks_stepped : ℕ → OuterState → OuterState
+abbrev pub blocks_stepped : ℕ → State → State
 blocks_stepped cycle s = with_blocks (blocks_step (receive_level 0 s.pads) (receive_level 1 s.pads) cycle (blocks_of s)) s
 
-abbrev pub blocks_passed : ℕ → ℕ → OuterState → OuterState
+abbrev pub blocks_passed : ℕ → ℕ → State → State
 blocks_passed first n s = with_blocks (blocks_after (receive_level 0 s.pads) (receive_level 1 s.pads) first n (blocks_of s)) s
 
 -- for so many cycles from a first one on each of them is quiet

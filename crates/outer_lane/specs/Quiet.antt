@@ -12,14 +12,14 @@ use Rattle.lane_look.specs.Times.{times}
 use Rattle.io_bank.specs.Step.{after_step}
 use Rattle.pin_script.specs.declared.entry.Entry.{Entry}
 use Rattle.pin_script.specs.Levels.{is_due}
-use Rattle.rp_timer.specs.State.{TimerState, lines_of}
-use Rattle.rp_uart.specs.State.{SerialPort}
+use Rattle.rp_timer.specs.State.{State as TimerState, lines_of}
+use Rattle.rp_uart.specs.State.{State as SerialPort}
 use Rattle.rp_uart.specs.Step.{output_of, pacing_of}
 use Rattle.rp_uart.specs.Interrupts.{is_line_high}
 use Rattle.rp_uart.specs.Words.{word_of}
 use Rattle.outer_lane.specs.declared.world.SeenOutputs.{SeenOutputs}
 use Rattle.outer_lane.specs.Setting.{Setting}
-use Rattle.outer_lane.specs.State.{OuterState}
+use Rattle.outer_lane.specs.State.{State}
 use Rattle.outer_lane.specs.Lines.{outer_lines, outer_pacing}
 use Rattle.outer_lane.specs.Step.{is_fitting, next, marked, outs_of, outside_of, timer_after, uart_after, byte_of, wires_by, wires_of, words_by}
 
@@ -28,28 +28,28 @@ abbrev pub seen_in : SeenOutputs → ℕ → SeenOutputs
 seen_in seen cycle = record seen { cycle = cycle }
 
 -- a cycle, where the outputs of PIO are these
-abbrev pub outer_step : Setting → SeenOutputs → ℕ → OuterState → OuterState
+abbrev pub outer_step : Setting → SeenOutputs → ℕ → State → State
 outer_step w seen cycle s = next w s (seen_in seen cycle)
 
 -- the state after so many cycles, from the one on in which this is seen
-abbrev pub outer_after : Setting → SeenOutputs → ℕ → OuterState → OuterState
+abbrev pub outer_after : Setting → SeenOutputs → ℕ → State → State
 outer_after w seen n s = times (outer_step w seen) seen.cycle n s
 
 -- which blocks are held in reset beside the pads, and the bits of RESET that hold them
-abbrev pub held_blocks : OuterState → List Bool
+abbrev pub held_blocks : State → List Bool
 held_blocks s = s.timer.held ∷ s.uart0.held ∷ s.uart1.held ∷ []
 
 abbrev pub held_by : ℕ → List Bool
 held_by reset = has_bit reset TIMER ∷ has_bit reset UART0 ∷ has_bit reset UART1 ∷ []
 
 -- the mark of a cycle in which no frame ends and no level changes
-abbrev pub quiet_mark : OuterState → Mark
+abbrev pub quiet_mark : State → Mark
 quiet_mark s = record { uart = None ∷ None ∷ []; pads = s.pads.current }
 
 -- in each of so many cycles, as long as the outputs of PIO are these, no frame ends and no level changes; after each the pads, the
 -- interrupt lines, the counts that pace DMA channels, what is kept of SIO and of RESETS, and the number of the device's words are
 -- what they were
-pub record IsQuiet (w : Setting) (seen : SeenOutputs) (s : OuterState) (n : ℕ) : Type 0 where
+pub record IsQuiet (w : Setting) (seen : SeenOutputs) (s : State) (n : ℕ) : Type 0 where
   pub mark : (k : ℕ) → k < n → marked w (outer_after w seen k s) (seen_in seen (seen.cycle + k)) ≡ quiet_mark s
   pub pads : (k : ℕ) → k ≤ n → (outer_after w seen k s).pads ≡ s.pads
   pub lines : (k : ℕ) → k ≤ n → (core : ℕ) → outer_lines core (outer_after w seen k s) ≡ outer_lines core s
@@ -60,7 +60,7 @@ pub record IsQuiet (w : Setting) (seen : SeenOutputs) (s : OuterState) (n : ℕ)
   pub words : (k : ℕ) → k ≤ n → length (outer_after w seen k s).device ≡ length s.device
 
 -- a cycle in which this is seen leaves the pads as they are, and the lines of the device
-pub record IsSettled (w : Setting) (seen : SeenOutputs) (s : OuterState) : Type 0 where
+pub record IsSettled (w : Setting) (seen : SeenOutputs) (s : State) : Type 0 where
   pub pads : after_step (outs_of (wires_of w.device seen.cycle s) seen s) (outside_of w.script (wires_of w.device seen.cycle s) seen.cycle) s.pads ≡ s.pads
   pub irq : (wires_of w.device seen.cycle s).irq ≡ s.irq
 

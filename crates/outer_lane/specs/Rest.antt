@@ -4,7 +4,7 @@ use Rattle.lane_look.specs.declared.marks.Mark.{Mark}
 use Rattle.lane_look.specs.declared.device.Wires.{Wires}
 use Rattle.pin_script.specs.declared.script.Drives.{Drives}
 use Rattle.io_bank.specs.declared.outputs.Outs.{Outs}
-use Rattle.io_bank.specs.State.{Bank}
+use Rattle.io_bank.specs.State.{State as Bank}
 use Rattle.io_bank.specs.Levels.{by_sets, receive_level}
 use Rattle.io_bank.specs.Step as pads
 use Rattle.outer_lane.specs.declared.blocks.Blocks.{Blocks}
@@ -12,7 +12,7 @@ use Rattle.outer_lane.specs.declared.drivers.Drivers.{Drivers}
 use Rattle.outer_lane.specs.declared.world.SeenOutputs.{SeenOutputs}
 use Rattle.outer_lane.specs.BroughtUp.{blocks_outs}
 use Rattle.outer_lane.specs.Lines.{bank_line}
-use Rattle.outer_lane.specs.State.{OuterState}
+use Rattle.outer_lane.specs.State.{State}
 use Rattle.outer_lane.specs.Step.{outs_of, uart_after, byte_of, timer_after}
 
 abbrev pub outs_by : List ℕ → Drivers → Outs
@@ -30,10 +30,10 @@ pads_after sio d b = pads.after_step (outs_by sio d) (by_sets d.driven d.high) b
 
 -- ---- a cycle by what drives the pads from outside, as pins of sets
 
-unfoldable pub pads_driven : Wires → SeenOutputs → Drives → OuterState → Bank
+unfoldable pub pads_driven : Wires → SeenOutputs → Drives → State → Bank
 pads_driven wires seen drives s = pads.after_step (outs_of wires seen s) (by_sets drives.driven drives.high) s.pads
 
-abbrev pub next_driven : Wires → SeenOutputs → Drives → OuterState → OuterState
+abbrev pub next_driven : Wires → SeenOutputs → Drives → State → State
 next_driven wires seen drives s = record s {
   timer = timer_after seen.cycle s.timer;
   uart0 = uart_after (receive_level 0 s.pads) s.uart0;
@@ -42,7 +42,7 @@ next_driven wires seen drives s = record s {
   irq = wires.irq;
 }
 
-abbrev pub marked_driven : Wires → SeenOutputs → Drives → OuterState → Mark
+abbrev pub marked_driven : Wires → SeenOutputs → Drives → State → Mark
 marked_driven wires seen drives s = record {
   uart = byte_of s.uart0 ∷ byte_of s.uart1 ∷ [];
   pads = (pads_driven wires seen drives s).current;

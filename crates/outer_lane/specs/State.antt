@@ -6,14 +6,14 @@ use Rattle.rp_base.specs.ResetBits.{IO_BANK0, PADS_BANK0, TIMER, UART0, UART1}
 use Rattle.rp_base.specs.declared.resettable.Resettable.{Resettable}
 use Rattle.rp_base.specs.Resettable.{let_go, with_held}
 use Rattle.lane_look.specs.Device.{DeviceMeaning}
-use Rattle.io_bank.specs.State.{Bank}
+use Rattle.io_bank.specs.State.{State as Bank}
 use Rattle.io_bank.specs.State as bank
-use Rattle.rp_uart.specs.State.{SerialPort}
+use Rattle.rp_uart.specs.State.{State as SerialPort}
 use Rattle.rp_uart.specs.State as uart
-use Rattle.rp_timer.specs.State.{TimerState}
+use Rattle.rp_timer.specs.State.{State as TimerState}
 use Rattle.rp_timer.specs.State as timer
 
-pub record OuterState : Type 0 where
+pub record State : Type 0 where
   -- the timer and the UARTs, with the copies of their bits of RESETS
   pub timer : Resettable TimerState
   pub uart0 : Resettable SerialPort
@@ -27,7 +27,7 @@ pub record OuterState : Type 0 where
   pub sio : List ℕ
 
 -- every block is out of reset; the device has these words
-abbrev pub outer_at_start : List ℕ → OuterState
+abbrev pub outer_at_start : List ℕ → State
 outer_at_start words = record {
   timer = let_go timer.at_reset;
   uart0 = let_go uart.at_reset;
@@ -45,7 +45,7 @@ first_words d = d.first (replicate d.count 0)
 -- ---- the bits of RESETS (RP2040 Datasheet, 2.14, Subsystem Resets)
 
 -- a block whose bit is set is in its reset state and is held there
-unfoldable pub outer_reset : ℕ → OuterState → OuterState
+unfoldable pub outer_reset : ℕ → State → State
 outer_reset w s = record s {
   timer = with_held (has_bit w TIMER) timer.at_reset s.timer;
   uart0 = with_held (has_bit w UART0) uart.at_reset s.uart0;

@@ -15,16 +15,16 @@ use Rattle.lane_look.specs.Device.{DeviceMeaning, no_wires}
 use Rattle.pin_script.specs.declared.entry.Entry.{Entry}
 use Rattle.pin_script.specs.Levels.{drive_at}
 use Rattle.io_bank.specs.declared.outputs.Outs.{Outs}
-use Rattle.io_bank.specs.State.{Bank}
+use Rattle.io_bank.specs.State.{State as Bank}
 use Rattle.io_bank.specs.Levels.{levels_of, by_sets, is_used, receive_level, uart_outputs}
 use Rattle.io_bank.specs.Step as pads
-use Rattle.rp_uart.specs.State.{SerialPort}
+use Rattle.rp_uart.specs.State.{State as SerialPort}
 use Rattle.rp_uart.specs.Step as uart
-use Rattle.rp_timer.specs.State.{TimerState}
+use Rattle.rp_timer.specs.State.{State as TimerState}
 use Rattle.rp_timer.specs.Step as timer
 use Rattle.outer_lane.specs.declared.world.SeenOutputs.{SeenOutputs}
 use Rattle.outer_lane.specs.Setting.{Setting}
-use Rattle.outer_lane.specs.State.{OuterState}
+use Rattle.outer_lane.specs.State.{State}
 
 -- ---- what the lane asks: the outputs of a PIO block where some pin has its function, the levels in the low 32 bits of the
 -- answer and the enables in the next 32
@@ -39,13 +39,13 @@ abbrev pub seen_of : ℕ → List ℕ → List ℕ → SeenOutputs
 seen_of cycle first second = record { cycle = cycle; pio0 = first; pio1 = second }
 
 -- PIO block 1 is function 7
-unfoldable pub asks_second : OuterState → ℕ → List ℕ → Asking SeenOutputs
+unfoldable pub asks_second : State → ℕ → List ℕ → Asking SeenOutputs
 asks_second s cycle first =
     if is_used 7 s.pads then Question (ask.Outs 1) (λ answer. Ready (seen_of cycle first (pins_in answer)))
     else Ready (seen_of cycle first no_pins)
 
 -- PIO block 0 is function 6
-unfoldable pub asks : OuterState → ℕ → Asking SeenOutputs
+unfoldable pub asks : State → ℕ → Asking SeenOutputs
 asks s cycle =
     if is_used 6 s.pads then Question (ask.Outs 0) (λ answer. asks_second s cycle (pins_in answer))
     else asks_second s cycle no_pins
@@ -65,16 +65,16 @@ wires_by d words cycle levels = if is_fitting d words then d.wires words cycle l
 unfoldable pub words_by : DeviceMeaning → List ℕ → ℕ → ℕ → List ℕ
 words_by d words cycle levels = if is_fitting d words then d.after_step words cycle levels else words
 
-abbrev pub wires_of : DeviceMeaning → ℕ → OuterState → Wires
+abbrev pub wires_of : DeviceMeaning → ℕ → State → Wires
 wires_of d cycle s = wires_by d s.device cycle s.pads.current
 
-abbrev pub device_after : DeviceMeaning → ℕ → OuterState → List ℕ
+abbrev pub device_after : DeviceMeaning → ℕ → State → List ℕ
 device_after d cycle s = words_by d s.device cycle s.pads.current
 
 -- ---- the pads
 
 -- the outputs of all parts at the start; those of function 4 are the device's, with the enable on at every pin
-abbrev pub outs_of : Wires → SeenOutputs → OuterState → Outs
+abbrev pub outs_of : Wires → SeenOutputs → State → Outs
 outs_of wires seen s = record {
   sio = s.sio;
   pio0 = seen.pio0;
@@ -92,10 +92,10 @@ unfoldable pub outside_of : List Entry → Wires → ℕ → ℕ → Option Bool
 outside_of script wires cycle pin = either (drive_at script cycle pin) (by_sets wires.mask wires.level pin)
 
 -- the levels of the pads in the cycle, and the pads after it, by what the device drives
-unfoldable pub levels_by : List Entry → Wires → SeenOutputs → OuterState → ℕ
+unfoldable pub levels_by : List Entry → Wires → SeenOutputs → State → ℕ
 levels_by script wires seen s = levels_of (outs_of wires seen s) (outside_of script wires seen.cycle) s.pads
 
-unfoldable pub pads_by : List Entry → Wires → SeenOutputs → OuterState → Bank
+unfoldable pub pads_by : List Entry → Wires → SeenOutputs → State → Bank
 pads_by script wires seen s = pads.after_step (outs_of wires seen s) (outside_of script wires seen.cycle) s.pads
 
 -- ---- the UARTs and the timer; one that is held does not step
@@ -112,7 +112,7 @@ timer_after cycle t = unless_held_becomes t (timer.after_step cycle t.block)
 -- ---- the cycle
 
 -- all but the device's words, by what the device drives. A UART hears the second level of its lowest RX pin
-unfoldable pub next_by : List Entry → Wires → SeenOutputs → OuterState → OuterState
+unfoldable pub next_by : List Entry → Wires → SeenOutputs → State → State
 next_by script wires seen s = record s {
   timer = timer_after seen.cycle s.timer;
   uart0 = uart_after (receive_level 0 s.pads) s.uart0;
@@ -121,16 +121,16 @@ next_by script wires seen s = record s {
   irq = wires.irq;
 }
 
-unfoldable pub next : Setting → OuterState → SeenOutputs → OuterState
+unfoldable pub next : Setting → State → SeenOutputs → State
 next w s seen =
     record (next_by w.script (wires_of w.device seen.cycle s) seen s) { device = device_after w.device seen.cycle s }
 
 -- the bytes whose frames ended, and the levels of the pads
-unfoldable pub marked_by : List Entry → Wires → SeenOutputs → OuterState → Mark
+unfoldable pub marked_by : List Entry → Wires → SeenOutputs → State → Mark
 marked_by script wires seen s = record {
   uart = byte_of s.uart0 ∷ byte_of s.uart1 ∷ [];
   pads = levels_by script wires seen s;
 }
 
-unfoldable pub marked : Setting → OuterState → SeenOutputs → Mark
+unfoldable pub marked : Setting → State → SeenOutputs → Mark
 marked w s seen = marked_by w.script (wires_of w.device seen.cycle s) seen s

@@ -34,10 +34,10 @@ pub struct Outer {
 impl Model for Outer {
     ghost use Rattle.std.specs.Prelude.{◌≡◌, true};
     ghost use Rattle.io_bank.specs.Levels.{receive_level};
-    ghost use Rattle.outer_lane.specs.State.{OuterState};
+    ghost use Rattle.outer_lane.specs.State.{State};
     ghost use Rattle.outer_lane.specs.Rest.{Stays};
 
-    ghost Value = { OuterState };
+    ghost Value = { State };
 
     ghost view = { λ o. record {
       timer = o.blocks.blocks.timer;

@@ -1,7 +1,7 @@
 use Rattle.std.proofs.Common.{ap, ◌∙◌}
 use Rattle.rp_base.specs.declared.resettable.Resettable.{Resettable}
 use Rattle.rp_base.specs.Held.{unless_held}
-use Rattle.rp_timer.specs.State.{TimerState}
+use Rattle.rp_timer.specs.State.{State as TimerState}
 use Rattle.rp_timer.specs.Words.{word_of}
 use Rattle.outer_lane.proofs.behind.Behind.read_timer.Goals as goal
 

@@ -1,6 +1,6 @@
 use Rattle.std.proofs.Common.{ℕ, sym, subst, arith}
 use Rattle.outer_lane.specs.Setting.{setting}
-use Rattle.outer_lane.specs.State.{OuterState}
+use Rattle.outer_lane.specs.State.{State}
 use Rattle.outer_lane.specs.Quiet.{IsQuiet, IsSettled, AreWordsQuiet}
 use Rattle.outer_lane.specs.contracts.outer.Outer.{the_view}
 use Rattle.outer_lane.proofs.Cycles.{quiet_zero, least_quiet}
@@ -21,7 +21,7 @@ returns g c =
     subst (λ (x : ℕ). AreWordsQuiet w.device s.device c.args.seen.now.cycle x c.words_quiet-words.result) c.pads-levels.ensures c.words_quiet-words.ensures in
     let b = c.min-within.ensures in
     let e = c.min.ensures in
-    subst (λ (o : OuterState). IsQuiet w c.args.seen.now o c.min.result) c.self.view_is
+    subst (λ (o : State). IsQuiet w c.args.seen.now o c.min.result) c.self.view_is
     (least_quiet w c.args.seen.now s i.blocks.line0 i.blocks.line1 c.quiet-inside.result c.script_quiet-script.result c.words_quiet-words.result
     c.min.result c.self.invariant.0 c.self.invariant.1.0 c.quiet-inside.ensures c.script_quiet-script.ensures words
     (omega (arith, b, e)) (omega (arith, b, e)) (omega (arith, b, e))
