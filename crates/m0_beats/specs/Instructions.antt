@@ -1,5 +1,5 @@
 -- The table of instructions: how each is written and what it does, in the order of the manual (ARMv6-M Architecture Reference
--- Manual, A5.2, A5.3 and A6.7; ARM Cortex-M0+ Technical Reference Manual, 3.3, Instruction set summary). In a row, `r k` is the
+-- Manual, A5.2, A5.3 and A6.7; ARM Cortex-M0+ Technical Reference Manual, 3.3, Instruction set summary). In a meaning, `r k` is the
 -- register of that number, with 13 for SP and 15 for PC, and `c` is the carry flag.
 use Rattle.std.specs.Prelude.{ℕ, ◌+◌, ◌-◌, ◌*◌, ◌/◌, ◌%◌, ◌^◌, Bool, true, false, ◌==◌, nat_lt, if◌then◌else◌, List, [], ◌∷◌, Option, Some, None, bit_and, bit_or, bit_xor, slice_index}
 use Prim.Native.String.{String}
@@ -193,7 +193,7 @@ instruction (op.LdrSp t i) = short "10011tttiiiiiiii" (t ∷ i ∷ []) (load t W
 -- addresses from PC and from SP (A5.2)
 instruction (op.Adr d i) = short "10100dddiiiiiiii" (d ∷ i ∷ []) (value_to d (λ r. (r 15 / 4 * 4 + 4 * i) % 2 ^ 32))
 instruction (op.AddSp d i) = short "10101dddiiiiiiii" (d ∷ i ∷ []) (value_to d (λ r. (r 13 + 4 * i) % 2 ^ 32))
--- miscellaneous (A5.2.5): a list has bit 14 for LR and bit 15 for PC, and CPSID sets PRIMASK; NOP is BF00
+-- miscellaneous (A5.2.5): the list of a meaning has bit 14 for LR and bit 15 for PC, and CPSID sets PRIMASK; NOP is BF00
 instruction (op.AddSpImm i) = short "101100000iiiiiii" (i ∷ []) (value 13 (λ r. (r 13 + 4 * i) % 2 ^ 32))
 instruction (op.SubSpImm i) = short "101100001iiiiiii" (i ∷ []) (value 13 (λ r. (r 13 + (2 ^ 32 - 4 * i)) % 2 ^ 32))
 instruction (op.Sxth m d) = short "1011001000mmmddd" (m ∷ d ∷ []) (value d (λ r. extended extends.Sxth (r m)))

@@ -1,5 +1,5 @@
 -- When a way over many cycles is tried (the project's own): behind a try that went over none, after one, three, seven and then always
--- fifteen cycles.
+-- fifteen cycles; behind one that went over some, at once, and then after one again.
 use Rattle.std.specs.Prelude.{ℕ, ◌+◌, ◌*◌, ◌-◌, ◌%◌, ◌^◌, ◌==◌, if◌then◌else◌, min}
 use Rattle.quiet_run.specs.declared.ways.Pace.{Pace}
 

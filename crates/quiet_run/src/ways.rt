@@ -34,7 +34,7 @@ impl Pace {
         self.next <= machine.number() && !machine.fabric.holds()
     }
 
-    /// A try at a cycle went over so many: where that is none the next one is due later, else at once.
+    /// A try at a cycle, when it was due, went over so many: where that is none the next one is due later, else at once.
     #[inline(always)]
     pub fn note(&mut self, at: u64, done: u64)
         ensures { self.new ≡ paced at done self.old }

@@ -47,8 +47,6 @@ pub device_agrees : {reset : ℕ} {core1 : Core} {dma pio0 pio1 : Bool} {outer a
 device_agrees {reset} {core1} {dma} {pio0} {pio1} {outer} {after} {sio} w address write e a =
     rw e (with_outer (device_leaves w address write outer).copies a)
 
--- ---- RESETS
-
 -- ---- a step of core 1
 
 pub step_agrees : {reset : ℕ} {core1 : Core} {dma pio0 pio1 : Bool} {outer : OuterState} {sio : SioState} (begun : CoreDoing) (turns : List Turn)

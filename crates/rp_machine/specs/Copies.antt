@@ -1,5 +1,5 @@
--- The copies that lanes keep of other parts: the bits of RESETS that hold a block in its reset state (RP2040 Datasheet, 2.14.3),
--- the levels and enables that SIO puts out (2.3.1.2), and whether the launcher has a word for core 1 (2.8.2).
+-- The copies in lanes and beside them of other parts: the bits of RESETS that hold a block in its reset state (RP2040 Datasheet,
+-- 2.14.3), the levels and enables that SIO puts out (2.3.1.2), and whether the launcher has a word for core 1 (2.8.2).
 use Rattle.std.specs.Prelude.{◌≡◌, ◌<◌, ◌^◌, ℕ, Bool, List, [], ◌∷◌, slice_index}
 use Rattle.rp_base.specs.Word.{has_bit}
 use Rattle.rp_base.specs.ResetBits.{DMA, IO_BANK0, PADS_BANK0, PIO0, PIO1}
@@ -16,7 +16,7 @@ held_by reset =
     has_bit reset DMA ∷ has_bit reset IO_BANK0 ∷ has_bit reset PADS_BANK0 ∷ has_bit reset PIO0 ∷ has_bit reset PIO1
     ∷ peripherals.held_by reset
 
--- the same bits as the lanes keep them: those of the DMA engine and of the PIO blocks, and those of the peripherals
+-- the copies of these bits: those beside the DMA engine and the PIO blocks, and those in the peripherals
 abbrev pub held_of : Bool → Bool → Bool → OuterState → List Bool
 held_of dma pio0 pio1 outer = dma ∷ outer.pads.bank_held ∷ outer.pads.pads_held ∷ pio0 ∷ pio1 ∷ peripherals.held_blocks outer
 

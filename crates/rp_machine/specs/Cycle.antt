@@ -114,6 +114,7 @@ turns w b xs s grants = turns_by w b.outer (first_want xs) s xs grants
 abbrev pub turn_for : List Turn → Master → Turn
 turn_for turns m = slice_index_or turns (number_of m) turn.Nothing
 
+-- the DMA engine and the PIO blocks step held or not: in their reset states they rest
 abbrev pub turned_inside : Begun → List Turn → State → State
 turned_inside b turns s = record s {
   core0 = core.next s.core0 b.core0 (turn_for turns master.Core0 ∷ turn.Nothing ∷ []);

@@ -87,7 +87,7 @@ impl Model for Machine {
       resets = m.resets;
     } };
 
-    // the copies that lanes keep of RESETS, of SIO and of its launcher agree with them
+    // the copies in lanes and beside them of RESETS, of SIO and of its launcher agree with them
     ghost invariant = { λ m. Agree (slice_index m.resets 0) m.core1 m.dma.held m.pio0.held m.pio1.held m.outer
         m.sio };
 }

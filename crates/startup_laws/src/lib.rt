@@ -1,8 +1,11 @@
-//! What a usual start-up waits for, in the machine and in the start-up registers beside it.
+//! What a usual start-up waits for, in the machine and in the start-up registers beside it, and what RESETS holds.
 #![tactic(auto)]
 
+ghost use Rattle.startup_laws.specs.Held.{AHeldBlockStays};
 ghost use Rattle.startup_laws.specs.Waits.{AStartUpWaitsForNothing};
 
+use dma_engine::laws::an_engine_rests_at_reset;
+use pio_block::laws::a_block_rests_at_reset;
 use startup_blocks::laws::{
     clocks_are_selected_at_once, oscillator_and_plls_are_ready, the_tick_runs_at_once,
 };
@@ -15,4 +18,12 @@ pub fn a_start_up_waits_for_nothing()
     oscillator_and_plls_are_ready();
     clocks_are_selected_at_once();
     the_tick_runs_at_once();
+}
+
+/// The DMA engine and the PIO blocks are in their reset states as long as RESETS holds them, whatever the others do.
+pub fn a_held_block_stays()
+    ensures { AHeldBlockStays }
+{
+    an_engine_rests_at_reset();
+    a_block_rests_at_reset();
 }

@@ -1,5 +1,5 @@
 -- The way from an operation to its halfwords (ARMv6-M Architecture Reference Manual, A5.2 "16-bit Thumb instruction encoding" and A5.3
--- "32-bit Thumb instruction encoding"): the patterns of the table of encodings, with the operands in the places of their letters.
+-- "32-bit Thumb instruction encoding"): the patterns of the table of instructions, with the operands in the places of their letters.
 use Rattle.std.specs.Prelude.{ℕ, ◌+◌, ◌*◌, ◌^◌, ◌≡◌, ◌&&◌, nat_lt, not, Bool, false, if◌then◌else◌, List, [], ◌∷◌, Option, Some, None, is_some}
 use Rattle.std.specs.Option.{option_map_or}
 use Rattle.rp_base.specs.declared.op.Op.{Op}
