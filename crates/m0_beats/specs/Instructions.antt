@@ -142,7 +142,7 @@ instruction (op.AddImm3 i n d) = short "0001110iiinnnddd" (i ∷ n ∷ d ∷ [])
 instruction (op.SubImm3 i n d) =
     short "0001111iiinnnddd" (i ∷ n ∷ d ∷ []) (sum (Some d) (λ r c. add_with_carry (r n) (bit_not w32 i) true))
 instruction (op.MovImm d i) = short "00100dddiiiiiiii" (d ∷ i ∷ []) (word (Some d) (λ r. i))
-instruction (op.CmpImm n i) = short "00101nnniiiiiiii" (n ∷ i ∷ []) (sum None (λ r c. add_with_carry (r n) (bit_not w32 i) true))
+instruction (op.CmpImm d i) = short "00101dddiiiiiiii" (d ∷ i ∷ []) (sum None (λ r c. add_with_carry (r d) (bit_not w32 i) true))
 instruction (op.AddImm8 d i) = short "00110dddiiiiiiii" (d ∷ i ∷ []) (sum (Some d) (λ r c. add_with_carry (r d) i false))
 instruction (op.SubImm8 d i) =
     short "00111dddiiiiiiii" (d ∷ i ∷ []) (sum (Some d) (λ r c. add_with_carry (r d) (bit_not w32 i) true))
@@ -156,18 +156,18 @@ instruction (op.Adc m d) = short "0100000101mmmddd" (m ∷ d ∷ []) (sum (Some 
 instruction (op.Sbc m d) =
     short "0100000110mmmddd" (m ∷ d ∷ []) (sum (Some d) (λ r c. add_with_carry (r d) (bit_not w32 (r m)) c))
 instruction (op.Ror m d) = short "0100000111mmmddd" (m ∷ d ∷ []) (shift d (λ r c. shifted Ror (r d) (r m % 2 ^ 8) c))
-instruction (op.Tst m n) = short "0100001000mmmnnn" (m ∷ n ∷ []) (word None (λ r. bit_and (r n) (r m)))
-instruction (op.Rsb n d) = short "0100001001nnnddd" (n ∷ d ∷ []) (sum (Some d) (λ r c. add_with_carry 0 (bit_not w32 (r n)) true))
-instruction (op.Cmp m n) = short "0100001010mmmnnn" (m ∷ n ∷ []) (sum None (λ r c. add_with_carry (r n) (bit_not w32 (r m)) true))
-instruction (op.Cmn m n) = short "0100001011mmmnnn" (m ∷ n ∷ []) (sum None (λ r c. add_with_carry (r n) (r m) false))
+instruction (op.Tst m d) = short "0100001000mmmddd" (m ∷ d ∷ []) (word None (λ r. bit_and (r d) (r m)))
+instruction (op.Rsb m d) = short "0100001001mmmddd" (m ∷ d ∷ []) (sum (Some d) (λ r c. add_with_carry 0 (bit_not w32 (r m)) true))
+instruction (op.Cmp m d) = short "0100001010mmmddd" (m ∷ d ∷ []) (sum None (λ r c. add_with_carry (r d) (bit_not w32 (r m)) true))
+instruction (op.Cmn m d) = short "0100001011mmmddd" (m ∷ d ∷ []) (sum None (λ r c. add_with_carry (r d) (r m) false))
 instruction (op.Orr m d) = short "0100001100mmmddd" (m ∷ d ∷ []) (word (Some d) (λ r. bit_or (r d) (r m)))
-instruction (op.Mul n d) = short "0100001101nnnddd" (n ∷ d ∷ []) (word (Some d) (λ r. product_of (r d) (r n)))
+instruction (op.Mul m d) = short "0100001101mmmddd" (m ∷ d ∷ []) (word (Some d) (λ r. product_of (r d) (r m)))
 instruction (op.Bic m d) = short "0100001110mmmddd" (m ∷ d ∷ []) (word (Some d) (λ r. bit_and (r d) (bit_not w32 (r m))))
 instruction (op.Mvn m d) = short "0100001111mmmddd" (m ∷ d ∷ []) (word (Some d) (λ r. bit_not w32 (r m)))
 -- special data instructions, and branch and exchange (A5.2.3): bit 3 of a register stands alone; xxx is 000
 instruction (op.AddHigh d m) = short "01000100Dmmmmddd" (d / 8 ∷ m ∷ d % 8 ∷ []) (value_to d (λ r. (r d + r m) % 2 ^ 32))
-instruction (op.CmpHigh n m) =
-    short "01000101Nmmmmnnn" (n / 8 ∷ m ∷ n % 8 ∷ []) (sum None (λ r c. add_with_carry (r n) (bit_not w32 (r m)) true))
+instruction (op.CmpHigh d m) =
+    short "01000101Dmmmmddd" (d / 8 ∷ m ∷ d % 8 ∷ []) (sum None (λ r c. add_with_carry (r d) (bit_not w32 (r m)) true))
 instruction (op.MovHigh d m) = short "01000110Dmmmmddd" (d / 8 ∷ m ∷ d % 8 ∷ []) (value_to d (λ r. r m))
 instruction (op.Bx m) = short "010001110mmmmxxx" (m ∷ 0 ∷ []) (exchange m)
 instruction (op.Blx m) = short "010001111mmmmxxx" (m ∷ 0 ∷ []) (inside 2 (λ s. exchanged_link s (register_of s m)))

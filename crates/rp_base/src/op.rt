@@ -2,8 +2,7 @@
 //! that the pattern names (ARMv6-M Architecture Reference Manual, A5.2 and A5.3).
 //!
 //! A field holds the bits of the operand letter of that name, from high to low, as they stand in the encoding: a
-//! register number, or a number that is not scaled yet. Of CMP, CMN and TST `d` is the manual's `n`, and of RSB and MUL `m`
-//! is. The high bit `D` of a register number is its bit 3.
+//! register number, or a number that is not scaled yet. The high bit `D` of a register number is its bit 3.
 
 /// One decoded instruction. Register fields are `d` (destination), `n` and `m` (operands) and `t` (transferred);
 /// `i` is the immediate number as encoded, `l` a register list, bit k for Rk.
