@@ -1,5 +1,7 @@
 -- What each part of a cycle leaves of the copies that lanes keep: they agree as before.
 use Rattle.std.proofs.Common.{◌≡◌, ◌<◌, ◌^◌, ℕ, Bool, List, Option, refl, ◌∙◌}
+use Rattle.rp_base.specs.Word.{has_bit}
+use Rattle.rp_base.specs.ResetBits.{DMA, IO_BANK0, PADS_BANK0, PIO0, PIO1}
 use Rattle.rp_base.specs.declared.map.Block.{Block}
 use Rattle.lane_look.specs.declared.lane.Turn.{Turn}
 use Rattle.m0_core.specs.State.{State as Core}
@@ -7,12 +9,14 @@ use Rattle.m0_core.specs.declared.doing.Doing.{Doing as CoreDoing}
 use Rattle.m0_core.specs.Cycle as core_steps
 use Rattle.outer_lane.specs.Setting.{Setting}
 use Rattle.outer_lane.specs.declared.world.SeenOutputs.{SeenOutputs}
-use Rattle.outer_lane.specs.State.{State as OuterState}
+use Rattle.outer_lane.specs.State.{State as OuterState, outer_reset}
 use Rattle.outer_lane.specs.Step as outer_steps
 use Rattle.outer_lane.specs.Words.{outer_accessed}
 use Rattle.outer_lane.specs.Device.{device_accessed}
 use Rattle.sio_block.specs.State.{State as SioState}
-use Rattle.outer_lane.proofs.Accesses.{SameCopies, access_leaves, device_leaves}
+use Rattle.sio_block.specs.Launcher.{offers_of}
+use Rattle.outer_lane.proofs.Accesses.{SameCopies, access_leaves, device_leaves, pads_reset}
+use Rattle.rp_machine.specs.Cycle.{pins_of}
 use Rattle.rp_machine.specs.Copies.{Agree}
 use Rattle.rp_machine.proofs.HeldLanes.{outer_next, core_next}
 
@@ -46,6 +50,18 @@ pub device_agrees : {reset : ℕ} {core1 : Core} {dma pio0 pio1 : Bool} {outer a
     → Agree reset core1 dma pio0 pio1 outer sio → Agree reset core1 dma pio0 pio1 after sio
 device_agrees {reset} {core1} {dma} {pio0} {pio1} {outer} {after} {sio} w address write e a =
     rw e (with_outer (device_leaves w address write outer).copies a)
+
+-- ---- RESETS
+
+pub reset_agrees : (w : ℕ) (core1 : Core) (outer : OuterState) (sio : SioState)
+    → w < 2 ^ 25
+    → outer.sio ≡ pins_of sio
+    → core1.offer ≡ offers_of sio
+    → Agree w core1 (has_bit w DMA) (has_bit w PIO0) (has_bit w PIO1) (outer_reset w outer) sio
+unfolding outer_reset
+reset_agrees w core1 outer sio bits pins offer =
+    let bank = pads_reset (has_bit w IO_BANK0) (has_bit w PADS_BANK0) outer.pads in
+    record { bits = bits; held = rw (bank.0, bank.1) refl; pins = pins; offer = offer }
 
 -- ---- a step of core 1
 
