@@ -2,7 +2,7 @@
 use Rattle.pico_top.proofs.Names.{◌≡◌, ◌⊎◌, ℕ, List, Option, None, Result, Ok, Err, refl, sym, inl, inr, ◌∙◌, subst, arith, ◌+◌, ◌-◌, ◌<◌, ◌≤◌, nat_le, Bool, true, false, not, ◌&&◌, if◌then◌else◌, [], ◌∷◌, ◌++◌, length, take, Some, IfSome, ap, length-append, SinkFault, Command, Refusal, line_of, status_of, BadWords, Way, Closed, Ended, Broken, Full, way_status, BearsOut, MayEnd, IsTaken, Board, Sunk, Outside, dialogue_from, Dialogue, Ending, Walks, failed_names, Verdict, verdict, status_over, Said, Heard, Refused, NoMemory, Puts, RunsOut, Ends, Takes, Writes, sent_status, memory_line, ConversesIn, append-nil, take_at, Files, Appends, closes, Refuses, Says, Hears}
 use Rattle.rp_ports.specs.Fault.{Rose}
 use Rattle.rp_ports.specs.Source.{IsAtEnd}
-use Rattle.pico_top.specs.Causes.{HasCause, IsStatus, Causes, Fulfils, Completes, HasRunOut, DoesNotFail, SaysAll, AnswersAll}
+use Rattle.pico_top.specs.Causes.{HasCause, HasHeard, IsStatus, Causes, Fulfils, Completes, HasRunOut, DoesNotFail, SaysAll, AnswersAll}
 use Rattle.pico_top.proofs.Walking.{words_refused, IsOf, walk_follows}
 use Rattle.std.proofs.Math.Seq.{take-append-add}
 use Rattle.std.proofs.lemmas.Option.{same_Some}
@@ -48,14 +48,15 @@ sink_cause a b status own other h seven = elim h [
   | inr w ↦ elim w [ inl rose ↦ rose.1 | inr e ↦ absurd (omega (arith, e, seven)) ]
 ]
 
--- a text's status, or that of want of memory, needs no cause
-no_cause : (b : Board) (asked : Option Command) (before after : Outside) (status own : ℕ) → (own ≡ 0) ⊎ (own ≡ 9) → ComesOf before.sink after.sink status own → HasCause b asked before after status
-no_cause b asked before after status own plain comes = record {
+-- of the statuses that no refusal has those of a failed source and of a full input have a cause
+no_refusal : (b : Board) (asked : Option Command) (before after : Outside) (status own : ℕ) → (own ≡ 0) ⊎ ((own ≡ 9) ⊎ ((own ≡ 8) ⊎ (own ≡ 10))) → ComesOf before.sink after.sink status own
+    → (own ≡ 8 → HasHeard (dialogue_from b asked) before after status Broken) → (own ≡ 10 → HasHeard (dialogue_from b asked) before after status Full) → HasCause b asked before after status
+no_refusal b asked before after status own plain comes broken full = record {
   words = λ e. absurd (grind (arith, comes, plain, e));
-  refused = λ is. absurd (grind (arith, comes, plain, is.text, is.sink, is.memory));
+  refused = λ is. absurd (grind (arith, comes, plain, is.text, is.sink, is.source, is.memory, is.full));
   sink = λ e. sink_cause before.sink after.sink status own (λ x. grind (arith, plain, x)) comes e;
-  source = λ e. absurd (grind (arith, comes, plain, e));
-  full = λ e. absurd (grind (arith, comes, plain, e));
+  source = λ e. broken (grind (arith, comes, plain, e));
+  full = λ e. full (grind (arith, comes, plain, e));
 }
 
 -- a walk of the dialogue ended so
@@ -71,23 +72,13 @@ apart refusal = (λ e. grind (arith, e), λ e. grind (arith, e), λ e. grind (ar
 
 caused : (b : Board) (asked : Option Command) (before after : Outside) (status : ℕ) (e : Ending) → EndedIn (dialogue_from b asked) before after status e
     → ComesOf before.sink after.sink status (ending_status e) → HasCause b asked before after status
-caused b asked before after status (Said reply) ended comes = no_cause b asked before after status 0 (inl refl) comes
-caused b asked before after status (Heard bytes Closed reply) ended comes = no_cause b asked before after status 0 (inl refl) comes
-caused b asked before after status (Heard bytes Ended reply) ended comes = no_cause b asked before after status 0 (inl refl) comes
-caused b asked before after status (Heard bytes Broken reply) ended comes = record {
-  words = λ e. absurd (grind (arith, comes, e));
-  refused = λ is. absurd (grind (arith, comes, is.source, is.sink, is.memory));
-  sink = λ e. sink_cause before.sink after.sink status 8 (λ x. omega (arith, x)) comes e;
-  source = λ e. record { bytes = bytes; reply = reply; walked = ended.0; taken = ended.2 };
-  full = λ e. absurd (grind (arith, comes, e));
-}
-caused b asked before after status (Heard bytes Full reply) ended comes = record {
-  words = λ e. absurd (grind (arith, comes, e));
-  refused = λ is. absurd (grind (arith, comes, is.full, is.sink, is.memory));
-  sink = λ e. sink_cause before.sink after.sink status 10 (λ x. omega (arith, x)) comes e;
-  source = λ e. absurd (grind (arith, comes, e));
-  full = λ e. record { bytes = bytes; reply = reply; walked = ended.0; taken = ended.2 };
-}
+caused b asked before after status (Said reply) ended comes = no_refusal b asked before after status 0 (inl refl) comes (λ e. absurd (cc e)) (λ e. absurd (cc e))
+caused b asked before after status (Heard bytes Closed reply) ended comes = no_refusal b asked before after status 0 (inl refl) comes (λ e. absurd (cc e)) (λ e. absurd (cc e))
+caused b asked before after status (Heard bytes Ended reply) ended comes = no_refusal b asked before after status 0 (inl refl) comes (λ e. absurd (cc e)) (λ e. absurd (cc e))
+caused b asked before after status (Heard bytes Broken reply) ended comes =
+    no_refusal b asked before after status 8 (inr (inr (inl refl))) comes (λ e. record { bytes = bytes; reply = reply; walked = ended.0; taken = ended.2 }) (λ e. absurd (cc e))
+caused b asked before after status (Heard bytes Full reply) ended comes =
+    no_refusal b asked before after status 10 (inr (inr (inr refl))) comes (λ e. absurd (cc e)) (λ e. record { bytes = bytes; reply = reply; walked = ended.0; taken = ended.2 })
 caused b asked before after status (Refused refusal) ended comes =
     let away = apart refusal in
     record {
@@ -97,7 +88,7 @@ caused b asked before after status (Refused refusal) ended comes =
       source = λ e. absurd (away.1 (grind (arith, comes, e)));
       full = λ e. absurd (away.2 (grind (arith, comes, e)));
     }
-caused b asked before after status NoMemory ended comes = no_cause b asked before after status 9 (inr refl) comes
+caused b asked before after status NoMemory ended comes = no_refusal b asked before after status 9 (inr (inl refl)) comes (λ e. absurd (cc e)) (λ e. absurd (cc e))
 
 pub causes : Causes
 causes b asked before after status h = caused b asked before after status h.ending (h.walked, h.failed, h.takes) (ends_comes before.sink after.sink status h.ending h.ends)

@@ -2,4 +2,3 @@ pub mod Causing
 pub mod Names
 pub mod Telling
 pub mod Walking
-pub mod Writing

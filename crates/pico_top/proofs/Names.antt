@@ -1,9 +1,8 @@
 -- What the proofs of this crate name of others and of the specifications.
-pub use Rattle.board_parts.specs.Aiming.{aims_of}
-pub use Rattle.board_parts.specs.Hearing.{Aim, aim_of, aim_text, seen}
+pub use Rattle.board_parts.specs.Hearing.{Aim, seen}
 pub use Rattle.board_parts.specs.Wiring.{Wired, counts_of, placed_by, wired_in}
 pub use Rattle.command_words.proofs.Fitting.{read_parts_fit}
-pub use Rattle.command_words.specs.Read.{command_in, entry_in, run_in}
+pub use Rattle.command_words.specs.Read.{entry_in, run_in}
 pub use Rattle.command_words.specs.Refusals.{Refusal, line_of, status_of}
 pub use Rattle.command_words.specs.Refusals.Refusal.{BadImage, BadScript, BadSource, BadStart, BadThumb, BadWords, Lost, TooLarge}
 pub use Rattle.command_words.specs.Words.{Command, Run, reading}
@@ -33,11 +32,11 @@ pub use Rattle.rp_machine.specs.declared.load.PioLoad.{PioLoad}
 pub use Rattle.rp_ports.specs.Shelf.{Answers, Files, failed_after}
 pub use Rattle.rp_ports.specs.Sink.{Appends}
 pub use Rattle.rp_ports.specs.declared.shelf.Loaded.TheVariants.{Done, Failed, Large}
-pub use Rattle.std.proofs.Common.{Bool, Err, Global, IfErr, IfOk, IfSome, IsSomeAnd, List, None, Ok, Option, Result, Some, Vec, [], ap, append_assoc, ap₂, arith, drop, false, get_or, if◌then◌else◌, inl, inr, length, length-append, map, nat_le, not, refl, rules, subst, suc, sym, take, true, zero, ℕ, ◌&&◌, ◌++◌, ◌+◌, ◌-◌, ◌<◌, ◌==◌, ◌∙◌, ◌∷◌, ◌≡◌, ◌≤◌, ◌⊎◌}
-pub use Rattle.std.proofs.lemmas.List.{append-nil, at_drop_all, at_drop_more, length-map, take_at}
+pub use Rattle.std.proofs.Common.{Bool, Err, Global, IfErr, IfOk, IfSome, IsSomeAnd, List, None, Ok, Option, Result, Some, Vec, [], ap, append_assoc, ap₂, arith, drop, false, get_or, if◌then◌else◌, inl, inr, length, length-append, map, nat_le, not, refl, subst, suc, sym, take, true, zero, ℕ, ◌&&◌, ◌++◌, ◌+◌, ◌-◌, ◌<◌, ◌==◌, ◌∙◌, ◌∷◌, ◌≡◌, ◌≤◌, ◌⊎◌}
+pub use Rattle.std.proofs.lemmas.List.{append-nil, at_drop_all, at_drop_more, take_at}
 pub use Rattle.std.proofs.lemmas.Result.{IfOk-weaker, err_from_is_err_and}
 pub use Rattle.thumb_asm.specs.Source.{image_of_source}
-pub use Rattle.trace_text.proofs.Sending.{SentTo, part_behind, part_of_longer, sent_on, sent_part}
+pub use Rattle.trace_text.proofs.Sending.{SentTo, part_behind, part_of_longer, sends_cut, sends_part, sends_then, sent_on, sent_part}
 pub use Rattle.trace_text.specs.declared.writer.SinkFault.{SinkFault}
 pub use Rattle.uf2_image.specs.Uf2.{image_of}
 pub use Rattle.uf2_image.specs.declared.parts.Image.{Image}

@@ -1,5 +1,5 @@
 -- What was opened and told, the whole call, and what a run puts.
-use Rattle.pico_top.proofs.Names.{◌<◌, ◌≡◌, ℕ, ◌+◌, ◌≤◌, List, [], ◌∷◌, ◌++◌, length, map, arith, Option, Some, Result, Ok, Err, refl, sym, ap, ap₂, inl, inr, ◌∙◌, subst, append_assoc, Bool, false, IfOk, IfSome, DeviceMeaning, paired, Aim, Wired, counts_of, placed_by, wired_in, Setting, SinkFault, part_of_longer, part_behind, State, Sink, Standing, first_of, OpensAt, Way, Closed, Ended, Broken, Full, lines_heard, way_line, way_status, BearsOut, IsTaken, quits, talk_of, Command, reading, Opened, Unopened, Refusing, Memory, Board, Drawn, Sunk, Outside, Dialogue, Reply, aims_in, beside, device_in, dialogue_of, hear, input_limit, plain, run_reply, say, session_reply, Ending, heard_as, Said, Heard, Refused, NoMemory, Puts, RunsOut, Takes, Ends, Counts, IsCounted, Writes, ConversesIn, ConversesFor, Converses, opened_dialogue, EndsAs, EndsUnopened, Opens, PutsRefusal, Concludes}
+use Rattle.pico_top.proofs.Names.{◌<◌, ◌≡◌, ℕ, ◌+◌, ◌≤◌, List, [], ◌∷◌, ◌++◌, length, map, arith, Option, Some, Result, Ok, Err, refl, sym, ap, ap₂, inl, inr, ◌∙◌, subst, append_assoc, Bool, false, IfOk, IfSome, DeviceMeaning, paired, Aim, Wired, counts_of, placed_by, wired_in, Setting, SinkFault, part_of_longer, part_behind, sends_part, sends_then, State, Sink, Standing, first_of, OpensAt, Way, Closed, Ended, Broken, Full, lines_heard, way_line, way_status, BearsOut, IsTaken, quits, talk_of, Command, reading, Opened, Unopened, Refusing, Memory, Board, Drawn, Sunk, Outside, Dialogue, Reply, aims_in, beside, device_in, dialogue_of, hear, input_limit, plain, run_reply, say, session_reply, Ending, heard_as, Said, Heard, Refused, NoMemory, Puts, RunsOut, Takes, Ends, Counts, IsCounted, Writes, ConversesIn, ConversesFor, Converses, opened_dialogue, EndsAs, EndsUnopened, Opens, PutsRefusal, Concludes}
 use Rattle.board_parts.specs.declared.wiring.Wiring.{Wiring}
 use Rattle.board_parts.specs.Part.{PartMeaning}
 use Rattle.board_parts.specs.Parts.{parts_device}
@@ -18,10 +18,10 @@ use Rattle.window_runner.specs.Told.{run_shown}
 use Rattle.window_runner.specs.Windows.{answered, OnMemory}
 use Rattle.reverse_debug.specs.Talk.{text_from, Hears}
 use Rattle.pico_top.specs.Dialogue.Cost.{Exactly}
-use Rattle.pico_top.specs.Teller.{IsRanFor, RunsTo, HasTold, lines_both, one_line}
+use Rattle.pico_top.specs.Teller.{IsRanFor, RunsTo, HasTold}
 use Rattle.pico_top.specs.RunText.{event_lines, after_events, counts_text, stats_text, run_text, run_cycles, end_text}
+use Rattle.std.proofs.lemmas.List.Concat.{flat_map-append}
 use Rattle.pico_top.proofs.Walking.{no_memory}
-use Rattle.pico_top.proofs.Writing.{writes_then, writes_part}
 
 -- ---- the call
 
@@ -140,7 +140,7 @@ tells_heard w f source source' a b c steps steps' at status way cycle zero h₀ 
     let last : Puts b c status (way_status h.way) (way_line h.way) = subst (λ (x : Way). Puts b c status (way_status x) (way_line x)) h.is puts in
     heard_so w f source source' a c _ _ _ _ steps steps' at status (Ok way) h
     (record { taken = h.taken.taken; forward = h.taken.forward; borne = bears source'.left source.faults source'.faults status h.way h.taken.borne })
-    (last.0, writes_then {U = Way} {F = SinkFault} a b c _ (way_line h.way) way last.0 (record { ok = h.sends.ok; err = tt; cause = tt; steady = h.sends.steady; count = h.sends.count }) last.1, last.2)
+    (last.0, sends_then last.0 h.sends last.1, last.2)
 
 -- the sink failed at an answer
 pub tells_cut : (w : Setting) (f : State) (source source' : Drawn) (a b : Sunk) (steps steps' at : ℕ) (fault : SinkFault) (cycle : ℕ) → cycle ≡ 0
@@ -149,18 +149,14 @@ pub tells_cut : (w : Setting) (f : State) (source source' : Drawn) (a b : Sunk) 
 tells_cut w f source source' a b steps steps' at fault cycle zero h₀ =
     let h : Hears (talk_of w f) 0 input_limit source.left source'.left source.faults source'.faults a.written b.written a.faults b.faults steps steps' at (Err fault) =
     subst (λ p. Hears (talk_of w f) p input_limit source.left source'.left source.faults source'.faults a.written b.written a.faults b.faults steps steps' at (Err fault)) zero h₀ in
-    let cut : Writes {T = Unit {0}} a b (text_from (talk_of w f) 0 (lines_heard quits h.way h.bytes)) (Err fault) = record { ok = tt; err = h.sends.err; cause = h.sends.cause; steady = tt; count = h.sends.count } in
-    heard_so w f source source' a b _ _ _ _ steps steps' at 7 (Err fault) h h.taken
-    (Err fault, writes_part a b _ (way_line h.way) fault cut, refl)
+    heard_so w f source source' a b _ _ _ _ steps steps' at 7 (Err fault) h h.taken (Err fault, sends_part (way_line h.way) h.sends, refl)
 
 -- ---- what a tape that is such a sink was told
 
 -- the lines up to an event at which the sink failed are a part of all lines
 lines_cut : (first others : List Event) (event : Event) → (event_lines first ++ event_text event) ++ event_lines others ≡ event_lines (first ++ event ∷ others)
 lines_cut first others event =
-    append_assoc (event_lines first) (event_text event) (event_lines others)
-    ∙ ap (λ r. event_lines first ++ r) (ap (λ l. l ++ event_lines others) (one_line event) ∙ sym (lines_both (event ∷ []) others))
-    ∙ sym (lines_both first (event ∷ others))
+    append_assoc (event_lines first) (event_text event) (event_lines others) ∙ sym (flat_map-append event_text first (event ∷ others))
 
 pub part_told : (a b : Sunk) (c : Option (List ℕ)) (x y : List Aim) (events first others : List Event) (event : Event) → events ≡ first ++ event ∷ others → HasTold a b x y first → AppendsPart b.written c (event_text event) → AppendsPart a.written c (event_lines events)
 part_told a b c x y events first others event e told part =
@@ -231,36 +227,32 @@ run_counted w s t steps steps' status on count last =
 -- ---- where a run ends
 
 -- the run went to its stop, and its last lines were put
-pub run_ended : (stats : Bool) (w : Setting) (s t : State) (before after : List Aim) (source : Drawn) (a b c : Sunk) (steps steps' status : ℕ) (ran : Ran) (came : Result Ran RunFault)
-    → came ≡ Ok ran → RunsTo stats w s t before after a b steps steps' came → Puts b c status 0 (end_text (Some ran.why) t after (counts_text stats ran.windows ran.cycles))
+pub run_ended : (stats : Bool) (w : Setting) (s t : State) (before after : List Aim) (source : Drawn) (a b c : Sunk) (steps steps' status : ℕ) (ran : Ran)
+    → RunsTo stats w s t before after a b steps steps' (Ok ran) → Puts b c status 0 (end_text (Some ran.why) t after (counts_text stats ran.windows ran.cycles))
     → Concludes (say (run_reply stats before w s)) source source a c steps steps' status
-run_ended stats w s t before after source a b c steps steps' status ran came is h₀ last =
-    let h = subst (λ (r : Result Ran RunFault). RunsTo stats w s t before after a b steps steps' r) is h₀ in
+run_ended stats w s t before after source a b c steps steps' status ran h last =
+    let events : Writes {T = Ran} {E = SinkFault} a b (event_lines (run_shown w s)) (Ok ran) =
+    record { ok = h.sends.ok; err = tt; cause = tt; steady = h.sends.steady; count = h.sends.count } in
     tells_said (run_reply stats before w s) source a c steps steps' status
-    (last.0, rw (sym (text_of_run stats w before after s t ran h.state h.ran h.heard)) (writes_then a b c _ _ ran last.0 h.sends last.1), last.2)
+    (last.0, rw (sym (text_of_run stats w before after s t ran h.state h.ran h.heard)) (sends_then last.0 events last.1), last.2)
     (run_counted w s t steps steps' status h.on_run h.counted (λ e. h.state))
 
 -- the sink failed at an event
-pub run_cut : (stats : Bool) (w : Setting) (s t : State) (before after : List Aim) (source : Drawn) (a b : Sunk) (steps steps' : ℕ) (came : Result Ran RunFault)
-    → came ≡ Err Sink → RunsTo stats w s t before after a b steps steps' came → Concludes (say (run_reply stats before w s)) source source a b steps steps' 7
-run_cut stats w s t before after source a b steps steps' came is h₀ =
-    let h = subst (λ (r : Result Ran RunFault). RunsTo stats w s t before after a b steps steps' r) is h₀ in
-    let fault : SinkFault = record {} in
-    let cut : Writes {T = Unit {0}} a b (event_lines (run_shown w s)) (Err fault) = record { ok = tt; err = h.sends.err; cause = h.sends.cause; steady = tt; count = h.sends.count } in
-    tells_said (run_reply stats before w s) source a b steps steps' 7
-    (Err fault, rw (sym (run_begins stats w before s)) (writes_part a b _ _ fault cut), refl)
+pub run_cut : (stats : Bool) (w : Setting) (s t : State) (before after : List Aim) (source : Drawn) (a b : Sunk) (steps steps' : ℕ)
+    → RunsTo stats w s t before after a b steps steps' (Err Sink) → Concludes (say (run_reply stats before w s)) source source a b steps steps' 7
+run_cut stats w s t before after source a b steps steps' h =
+    let cut : Writes {T = Ran} {E = SinkFault} a b (event_lines (run_shown w s)) (Err (record {})) = record { ok = tt; err = h.sends.err; cause = h.sends.cause; steady = tt; count = h.sends.count } in
+    tells_said (run_reply stats before w s) source a b steps steps' 7 (Err (record {}), rw (sym (run_begins stats w before s)) (sends_part _ cut), refl)
     (run_counted w s t steps steps' 7 h.on_run h.counted (λ e. absurd (omega (arith, e))))
 
 -- memory ran out before the run
-pub run_none : (stats : Bool) (w : Setting) (s t : State) (before after : List Aim) (source : Drawn) (a b c : Sunk) (steps steps' status : ℕ) (came : Result Ran RunFault)
-    → came ≡ Err Exhausted → RunsTo stats w s t before after a b steps steps' came → RunsOut b c status → Concludes (say (run_reply stats before w s)) source source a c steps steps' status
-run_none stats w s t before after source a b c steps steps' status came is h₀ out =
-    let h = subst (λ (r : Result Ran RunFault). RunsTo stats w s t before after a b steps steps' r) is h₀ in
-    record {
-      ending = NoMemory;
-      walked = λ files. inr refl;
-      loaded = λ failed. refl;
-      takes = refl;
-      ends = subst (λ (x : Sunk). RunsOut x c status) h.memory.1 out;
-      counted = let same : t.cycle ≡ s.cycle = ap (λ (x : State). x.cycle) h.memory.0 in omega (arith, same, h.counted);
-    }
+pub run_none : (stats : Bool) (w : Setting) (s t : State) (before after : List Aim) (source : Drawn) (a b c : Sunk) (steps steps' status : ℕ)
+    → RunsTo stats w s t before after a b steps steps' (Err Exhausted) → RunsOut b c status → Concludes (say (run_reply stats before w s)) source source a c steps steps' status
+run_none stats w s t before after source a b c steps steps' status h out = record {
+  ending = NoMemory;
+  walked = λ files. inr refl;
+  loaded = λ failed. refl;
+  takes = refl;
+  ends = subst (λ (x : Sunk). RunsOut x c status) h.memory.1 out;
+  counted = let same : t.cycle ≡ s.cycle = ap (λ (x : State). x.cycle) h.memory.0 in omega (arith, same, h.counted);
+}

@@ -1,5 +1,5 @@
 -- Where the walks of a dialogue over a shelf of files end, and what a call answered, took, wrote and counted: the project's own.
-use Rattle.std.specs.Prelude.{◌≡◌, ◌⊎◌, ℕ, ◌≤◌, nat_le, Bool, not, ◌&&◌, if◌then◌else◌, List, ◌++◌, length, take, Option, Some, None, ◌+◌, Result, Ok, Err, OnOk, OnErr, codes}
+use Rattle.std.specs.Prelude.{◌≡◌, ◌⊎◌, ℕ, ◌≤◌, nat_le, Bool, not, ◌&&◌, if◌then◌else◌, List, ◌++◌, length, take, Option, Some, None, ◌+◌, Result, Ok, Err, codes}
 use Rattle.rp_ports.specs.Shelf.{Files, Answers, failed_after}
 use Rattle.rp_ports.specs.declared.shelf.Loaded.{Loaded}
 use Rattle.rp_ports.specs.declared.shelf.Loaded.TheVariants.{Done, Large, Failed, Memory}
@@ -12,9 +12,7 @@ use Rattle.reverse_debug.specs.declared.way.Way.{Way}
 use Rattle.reverse_debug.specs.Hear.{MayEnd, lines_heard, way_line, way_status, IsTaken}
 use Rattle.pico_top.specs.Dialogue.{Reply, Dialogue, Cost, dialogue_from, Board, asked_by, Drawn, Sunk, Outside}
 use Rattle.pico_top.specs.Dialogue.Dialogue.{Load, Refuse, Say, Hear}
-use Rattle.rp_ports.specs.Fault.{Rose}
-use Rattle.rp_ports.specs.Sink.{Appends}
-use Rattle.trace_text.specs.Sent.{AppendsPart}
+use Rattle.trace_text.specs.Sent.{Sends}
 use Rattle.trace_text.specs.declared.writer.SinkFault.{SinkFault}
 use Rattle.command_words.specs.Words.{Command}
 use Rattle.pico_top.specs.Dialogue.Cost.{Exactly, AtMost}
@@ -91,13 +89,9 @@ abbrev pub sent_status : Result (Unit {0}) SinkFault → ℕ → ℕ
 sent_status (Ok done) status = status
 sent_status (Err fault) status = 7
 
--- At Ok a text was written, and no put failed. At Err a part of it was, and the sink's count of faults rose. The count never falls.
-pub record Writes {T E : Type 0} (a b : Sunk) (text : List ℕ) (sent : Result T E) : Type 0 where
-  pub ok : OnOk sent (Appends a.written b.written text)
-  pub err : OnErr sent (AppendsPart a.written b.written text)
-  pub cause : OnErr sent (Rose a.faults b.faults)
-  pub steady : OnOk sent (b.faults ≡ a.faults)
-  pub count : a.faults ≤ b.faults
+-- a text was sent to a sink
+abbrev pub Writes : {T E : Type 0} → Sunk → Sunk → List ℕ → Result T E → Type 0
+Writes a b text sent = Sends a.written b.written a.faults b.faults text sent
 
 -- a text was written with its status, or the sink failed, a part of it was written, and the status is 7
 abbrev pub Puts : Sunk → Sunk → ℕ → ℕ → List ℕ → Type 0

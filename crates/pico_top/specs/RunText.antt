@@ -15,7 +15,7 @@ use Rattle.board_parts.specs.Hearing.{Aim, after_hearing, aim_text}
 use Rattle.board_parts.specs.declared.change.PinChange.{PinChange}
 
 -- the lines of events, one after another
-unfoldable pub event_lines : List Event → List ℕ
+abbrev pub event_lines : List Event → List ℕ
 event_lines events = flat_map event_text events
 
 -- the line of the stop at a cycle
@@ -31,12 +31,13 @@ change_in (Uart cycle number byte) = []
 change_in (Pin cycle pin level) = record { cycle = cycle; pin = pin; level = level } ∷ []
 
 -- probes that heard the changes of pins among events, in their order
-unfoldable pub after_events : List Event → List Aim → List Aim
+abbrev pub after_events : List Event → List Aim → List Aim
 after_events events aims = map (after_hearing (flat_map change_in events)) aims
 
 -- the lines of probes, one after another
-unfoldable pub probe_lines : List Aim → List ℕ
-probe_lines aims = flat_map aim_text aims
+abbrev pub probe_lines : List Aim → List ℕ
+probe_lines [] = []
+probe_lines (aim ∷ aims) = aim_text aim ++ probe_lines aims
 
 -- ---- the counts
 

@@ -1,13 +1,12 @@
 -- What the events of a run leave in a sink, and with the probes that hear its pins; and what the run of a machine to its stop came to,
 -- whoever ran its lanes. The project's own.
-use Rattle.std.specs.Prelude.{◌≡◌, ℕ, Bool, List, [], ◌∷◌, ◌++◌, Option, None, Some, flat_map, map, ◌+◌, Result, IfOk, IfSome}
+use Rattle.std.specs.Prelude.{◌≡◌, ℕ, List, [], ◌∷◌, ◌++◌, Option, None, Some, flat_map, map, ◌+◌, Bool, Result, IfOk, IfSome}
 use Rattle.std.proofs.Common.{refl, sym, ap, ap₂, ◌∙◌}
 use Rattle.std.proofs.lemmas.List.{append-nil}
 use Rattle.std.proofs.lemmas.List.Concat.{flat_map-append}
 use Rattle.rp_ports.specs.Sink.{Appends}
 use Rattle.rp_ports.proofs.Pieces.{appends_both}
 use Rattle.trace_text.specs.declared.event.Event.{Event}
-use Rattle.trace_text.specs.declared.event.Event.TheVariants.{Uart, Pin}
 use Rattle.trace_text.specs.Line.{event_text}
 use Rattle.board_parts.specs.Hearing.{Aim, after_hearing}
 use Rattle.board_parts.specs.declared.change.PinChange.{PinChange}
@@ -33,69 +32,38 @@ pub record HasTold (a b : Sunk) (before after : List Aim) (events : List Event) 
 
 -- ---- no events, and some behind others
 
-pub no_lines : event_lines [] ≡ []
-unfolding event_lines
-no_lines = refl
+nothing_heard : (a : Aim) → after_hearing [] a ≡ a
+unfolding after_hearing
+nothing_heard a = refl
 
-pub lines_both : (xs ys : List Event) → event_lines (xs ++ ys) ≡ event_lines xs ++ event_lines ys
-unfolding event_lines
-lines_both xs ys = flat_map-append event_text xs ys
-
--- the line of one event
-pub one_line : (e : Event) → event_text e ≡ event_lines (e ∷ [])
-unfolding event_lines
-one_line e = sym (append-nil (event_text e))
+pub after_none : (aims : List Aim) → after_events [] aims ≡ aims
+after_none [] = refl
+after_none (a ∷ aims) = ap₂ (λ (x : Aim) (xs : List Aim). x ∷ xs) (nothing_heard a) (after_none aims)
 
 heard_both : (first second : List PinChange) (aims : List Aim) → map (after_hearing (first ++ second)) aims ≡ map (after_hearing second) (map (after_hearing first) aims)
 heard_both first second [] = refl
 heard_both first second (a ∷ aims) = ap₂ (λ (x : Aim) (xs : List Aim). x ∷ xs) (sym (hears_in_turn a first second)) (heard_both first second aims)
 
-pub after_both : (xs ys : List Event) (aims : List Aim) → after_events (xs ++ ys) aims ≡ after_events ys (after_events xs aims)
-unfolding after_events
+after_both : (xs ys : List Event) (aims : List Aim) → after_events (xs ++ ys) aims ≡ after_events ys (after_events xs aims)
 after_both xs ys aims = ap (λ c. map (after_hearing c) aims) (flat_map-append change_in xs ys) ∙ heard_both (flat_map change_in xs) (flat_map change_in ys) aims
-
-nothing_heard : (a : Aim) → after_hearing [] a ≡ a
-unfolding after_hearing
-nothing_heard a = refl
-
-none_heard : (aims : List Aim) → map (after_hearing []) aims ≡ aims
-none_heard [] = refl
-none_heard (a ∷ aims) = ap₂ (λ (x : Aim) (xs : List Aim). x ∷ xs) (nothing_heard a) (none_heard aims)
-
-pub after_none : (aims : List Aim) → after_events [] aims ≡ aims
-unfolding after_events
-after_none aims = none_heard aims
-
--- one byte, and one change
-pub after_byte : (cycle number byte : ℕ) (aims : List Aim) → after_events (Uart cycle number byte ∷ []) aims ≡ aims
-unfolding after_events
-after_byte cycle number byte aims = none_heard aims
-
-pub after_change : (cycle pin : ℕ) (level : Bool) (aims : List Aim) → after_events (Pin cycle pin level ∷ []) aims ≡ map (after_hearing (record { cycle = cycle; pin = pin; level = level } ∷ [])) aims
-unfolding after_events
-after_change cycle pin level aims = refl
 
 pub appends_none : (a : Option (List ℕ)) → Appends a a []
 appends_none None = refl
 appends_none (Some w) = ap Some (sym (append-nil w))
 
 pub told_none : (a : Sunk) (x : List Aim) → HasTold a a x x []
-told_none a x = record { written = rw no_lines (appends_none a.written); steady = refl; heard = sym (after_none x) }
+told_none a x = record { written = appends_none a.written; steady = refl; heard = sym (after_none x) }
 
 pub told_both : (a b c : Sunk) (x y z : List Aim) (first second : List Event) → HasTold a b x y first → HasTold b c y z second → HasTold a c x z (first ++ second)
 told_both a b c x y z first second h k = record {
-  written = rw (lines_both first second) (appends_both a.written b.written c.written (event_lines first) (event_lines second) h.written k.written);
+  written = rw (flat_map-append event_text first second) (appends_both a.written b.written c.written (event_lines first) (event_lines second) h.written k.written);
   steady = k.steady ∙ h.steady;
   heard = k.heard ∙ ap (after_events second) h.heard ∙ sym (after_both first second x);
 }
 
+-- one event
 pub told_one : (a b : Sunk) (x y : List Aim) (event : Event) → Appends a.written b.written (event_text event) → b.faults ≡ a.faults → y ≡ after_events (event ∷ []) x → HasTold a b x y (event ∷ [])
-told_one a b x y event h s k = record { written = rw (sym (one_line event)) h; steady = s; heard = k }
-
--- ---- an event that was heard
-
-pub byte_heard : (event : Event) (cycle number byte : ℕ) (aims : List Aim) → event ≡ Uart cycle number byte → aims ≡ after_events (event ∷ []) aims
-byte_heard event cycle number byte aims is = rw is (sym (after_byte cycle number byte aims))
+told_one a b x y event h s k = record { written = rw (append-nil (event_text event)) h; steady = s; heard = k }
 
 -- ---- the run
 

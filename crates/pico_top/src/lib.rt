@@ -36,7 +36,7 @@ use std::alloc::{AllocError, Global};
 use std::sync::Wait;
 use std::sync::ledger::Ledger;
 use std::thread::Threads;
-use tell::{refuse, run_into, run_into_by, talk_into, text_into};
+use tell::{refuse, run_into, run_into_by, send_text, sent_status, talk_into};
 
 /// The probes that a reading aims.
 fn targets(reading: &Reading) -> &[Target]
@@ -104,7 +104,7 @@ fn serve_with<F: Shelf, I: Source, O: Sink, X: Device, L: Ledger>(
         Ok(opened) => match opened {
             Opened::Machine(started) => run_into(alloc, started, &mut aimed, device, out, steps),
             Opened::Session(debugging) => talk_into(debugging, device, input, out, steps),
-            Opened::Text(text, pieces) => text_into(&text, pieces, out),
+            Opened::Text(text, pieces) => sent_status(send_text(&text, pieces, out), 0),
         },
         Err(unopened) => refuse(alloc, &unopened, out),
     }
@@ -138,7 +138,7 @@ where
                 run_into_by(alloc, workers, started, &mut aimed, device, out, steps)
             }
             Opened::Session(debugging) => talk_into(debugging, device, input, out, steps),
-            Opened::Text(text, pieces) => text_into(&text, pieces, out),
+            Opened::Text(text, pieces) => sent_status(send_text(&text, pieces, out), 0),
         },
         Err(unopened) => refuse(alloc, &unopened, out),
     }

@@ -1,18 +1,14 @@
 //! What was opened, or why nothing was, into the sink: the text of a run and of a refusal line by line.
 
-ghost use Rattle.std.specs.Prelude.{◌≡◌, ◌<◌, ◌≤◌, length, ◌++◌, true, Some, ℕ, List};
-ghost use Rattle.arrayvec.specs.ArrayVec.{array_vec_len};
+ghost use Rattle.std.specs.Prelude.{◌<◌, ◌≤◌, length, Some, ◌≡◌};
 ghost use Rattle.trace_text.specs.Line.{stop_text, register_text};
-ghost use Rattle.board_parts.specs.Hearing.{aim_of, aim_text, seen, Aim};
-ghost use Rattle.pico_top.specs.Dialogue.{sunk, Drawn, Sunk, drawn, hear, input_limit, run_reply, say, session_reply};
-ghost use Rattle.pico_top.specs.Answer.{Writes, Puts, RunsOut};
+ghost use Rattle.board_parts.specs.Hearing.{aim_of, aim_text, seen};
+ghost use Rattle.pico_top.specs.Dialogue.{sunk, Drawn, drawn, hear, input_limit, run_reply, say, session_reply};
+ghost use Rattle.pico_top.specs.Answer.{Writes, Puts, RunsOut, sent_status};
 ghost use Rattle.pico_top.specs.RunText.{counts_text, end_text, probe_lines};
-ghost use Rattle.outer_lane.specs.Setting.{Setting};
-ghost use Rattle.rp_machine.specs.State.{State};
 ghost use Rattle.reverse_debug.specs.Debugger.{quits};
 ghost use Rattle.reverse_debug.specs.Hear.{way_line, way_status};
 ghost use Rattle.reverse_debug.specs.Session.{first_of, OpensAt};
-ghost use Rattle.pico_top.specs.Teller.{RunsTo};
 ghost use Rattle.pico_top.specs.Opening.{setting_in, setting_by, PutsRefusal, Concludes};
 
 use crate::open::{Debugging, Pieces, Started, Unopened};
@@ -91,29 +87,21 @@ fn send_probes<O: Sink>(probes: &[Aimed], out: &mut O) -> Result<(), SinkFault>
     }
 }
 
-/// Leaves the line of the counts in `out`.
-#[tactic(auto, unfolding(crate::specs::RunText::counts_text))]
-fn counts_line(windows: u64, cycles: u64, out: &mut ArrayVec<u8, 192>)
-    requires { array_vec_len out.old ≡ 0 }
-    ensures { out.new.items ≡ out.old.items ++ counts_text true windows cycles }
-{
-    push_text(b"windows ", out);
-    push_number(windows, out);
-    push_text(b" cycles ", out);
-    push_number(cycles, out);
-    push_text(b"\n", out);
-}
-
 /// Puts the line of the counts, where it is asked for.
 #[tactic(auto, unfolding(crate::specs::RunText::counts_text))]
 fn send_counts<O: Sink>(stats: bool, ran: &Ran, out: &mut O) -> Result<(), SinkFault>
     ensures { Writes (sunk ⟦<O as Sink>⟧ out.old) (sunk ⟦<O as Sink>⟧ out.new)
         (counts_text stats ran.now.windows ran.now.cycles) result }
 {
-    let mut line = ArrayVec::<u8, 192>::new();
-    if stats {
-        counts_line(ran.windows, ran.cycles, &mut line);
+    if !stats {
+        return put_line(b"", out);
     }
+    let mut line = ArrayVec::<u8, 192>::new();
+    push_text(b"windows ", &mut line);
+    push_number(ran.windows, &mut line);
+    push_text(b" cycles ", &mut line);
+    push_number(ran.cycles, &mut line);
+    push_text(b"\n", &mut line);
     put_line(&line, out)
 }
 
@@ -180,38 +168,13 @@ pub fn send_text<O: Sink>(text: &[u8], pieces: Pieces, out: &mut O) -> Result<()
 /// An input has at most 1 MiB up to its last line.
 const INPUT_LIMIT: usize = 1_048_576;
 
-/// Puts the last lines of a run into a sink, and answers 0, or 7 where the sink fails.
-fn end_into<O: Sink>(stats: bool, ran: &Ran, machine: &Machine, probes: &[Aimed], out: &mut O) -> u8
-    ensures { Puts (sunk ⟦<O as Sink>⟧ out.old) (sunk ⟦<O as Sink>⟧ out.new) result 0
-        (end_text (Some ran.now.why) machine.now
-        (seen probes.now (λ a. aim_of a.index a.pin (⟦<dyn Probe as Probe>⟧ a.probe.vtable) a.probe.value))
-        (counts_text stats ran.now.windows ran.now.cycles)) }
+/// The status after a text was sent: its own, or 7 where the sink failed.
+pub fn sent_status(sent: Result<(), SinkFault>, status: u8) -> u8
+    ensures { result ≡ sent_status sent status }
 {
-    match send_last(stats, ran, machine, probes, out) {
-        Ok(()) => 0,
+    match sent {
+        Ok(()) => status,
         Err(_) => 7,
-    }
-}
-
-/// Ends the text of a run that came to this, and answers 0, or 7 where the sink failed or fails; or puts the line that says that
-/// memory ran out before.
-fn finish<O: Sink>(
-    stats: bool,
-    came: Result<Ran, RunFault>,
-    machine: &Machine,
-    probes: &[Aimed],
-    out: &mut O,
-) -> u8
-    ensures { (w : Setting) (s : State) (before : List Aim) (a : Sunk) (steps steps' : ℕ)
-        → RunsTo stats w s machine.now before
-        (seen probes.now (λ a. aim_of a.index a.pin (⟦<dyn Probe as Probe>⟧ a.probe.vtable) a.probe.value))
-        a (sunk ⟦<O as Sink>⟧ out.old) steps steps' came
-        → (source : Drawn) → Concludes (say (run_reply stats before w s)) source source a (sunk ⟦<O as Sink>⟧ out.new) steps steps' result }
-{
-    match came {
-        Ok(ran) => end_into(stats, &ran, machine, probes, out),
-        Err(RunFault::Sink) => 7,
-        Err(RunFault::Memory) => run_out(out),
     }
 }
 
@@ -242,8 +205,11 @@ pub fn run_into<X: Device, O: Sink, L: Ledger>(
         device,
         limit,
     };
-    let came = run_to_stop(stats, alloc, &mut machine, &world, probes, out, steps);
-    finish(stats, came, &machine, probes, out)
+    match run_to_stop(stats, alloc, &mut machine, &world, probes, out, steps) {
+        Ok(ran) => sent_status(send_last(stats, &ran, &machine, probes, out), 0),
+        Err(RunFault::Sink) => 7,
+        Err(RunFault::Memory) => run_out(out),
+    }
 }
 
 /// The same with workers.
@@ -273,7 +239,7 @@ pub fn run_into_by<X: Device, O: Sink, G: Gate, L: Ledger, R: Threads + Wait + S
         device,
         limit,
     };
-    let came = run_to_stop_by(
+    match run_to_stop_by(
         stats,
         alloc,
         workers,
@@ -282,17 +248,10 @@ pub fn run_into_by<X: Device, O: Sink, G: Gate, L: Ledger, R: Threads + Wait + S
         probes,
         out,
         steps,
-    );
-    finish(stats, came, &machine, probes, out)
-}
-
-/// Puts a text into a sink, piece by piece, and answers 0, or 7 where the sink fails.
-pub fn text_into<O: Sink>(text: &[u8], pieces: Pieces, out: &mut O) -> u8
-    ensures { Puts (sunk ⟦<O as Sink>⟧ out.old) (sunk ⟦<O as Sink>⟧ out.new) result 0 text.now }
-{
-    match send_text(text, pieces, out) {
-        Ok(()) => 0,
-        Err(_) => 7,
+    ) {
+        Ok(ran) => sent_status(send_last(stats, &ran, &machine, probes, out), 0),
+        Err(RunFault::Sink) => 7,
+        Err(RunFault::Memory) => run_out(out),
     }
 }
 
@@ -300,10 +259,7 @@ pub fn text_into<O: Sink>(text: &[u8], pieces: Pieces, out: &mut O) -> u8
 fn say<O: Sink>(status: u8, line: &[u8], out: &mut O) -> u8
     ensures { Puts (sunk ⟦<O as Sink>⟧ out.old) (sunk ⟦<O as Sink>⟧ out.new) result status line.now }
 {
-    match put_line(line, out) {
-        Ok(()) => status,
-        Err(_) => 7,
-    }
+    sent_status(put_line(line, out), status)
 }
 
 /// Puts the line of the way in which a hearing ended, and answers its status, or 7 where the sink fails.
@@ -311,8 +267,7 @@ fn close<O: Sink>(way: Way, out: &mut O) -> u8
     ensures { Puts (sunk ⟦<O as Sink>⟧ out.old) (sunk ⟦<O as Sink>⟧ out.new) result (way_status way) (way_line way) }
 {
     match way {
-        Way::Closed => say(0, b"", out),
-        Way::Ended => say(0, b"", out),
+        Way::Closed | Way::Ended => say(0, b"", out),
         Way::Broken => say(8, b"error source\n", out),
         Way::Full => say(10, b"error input\n", out),
     }

@@ -1,4 +1,5 @@
-use Rattle.pico_top.proofs.Names.{◌≡◌, [], map, refl, ap, ◌∙◌, aims_of, aim_of, seen, command_in, aims_in}
+use Rattle.pico_top.proofs.Names.{refl, []}
+use Rattle.pico_top.specs.Dialogue.{drawn}
 use Rattle.pico_top.proofs.Telling.{out_converses, opened_converses, unopened_converses, tells_text}
 use Rattle.pico_top.proofs.serve_with_by.Goals as goal
 
@@ -13,9 +14,8 @@ returns-in_default g c = out_converses _ _ _ _ refl refl refl c.refuse.ensures r
 
 pub returns-in-Machine : goal.returns-in-Machine
 returns-in-Machine g c =
-    let probes = map (λ p. (goal.Probe-dyn g (p.vtable, p.value)).meaning p.value) c.args.probes.items in
-    let aims : seen c.deref_mut.result.now (λ a. aim_of a.index a.pin (goal.Probe-dyn g (a.probe.vtable, a.probe.value)) a.probe.value) ≡ aims_in probes (command_in c.args.reading.now) = rw c.deref_mut.ensures.value (c.in-Ok.ensures ∙ ap (aims_of probes) c.targets.ensures) in
-    opened_converses _ _ _ _ _ _ _ (c.in-Ok-open_reading.ensures.answer _) c.in-Ok-open_reading.ensures.kept (rw (c.in-Machine.is, ← aims) (c.run_into_by.ensures _))
+    let told = rw (c.deref_mut.ensures.value, c.in-Ok.ensures, c.targets.ensures) at (c.run_into_by.ensures (drawn g.I.Source c.args.input.now)) in
+    opened_converses _ _ _ _ _ _ _ (c.in-Ok-open_reading.ensures.answer _) c.in-Ok-open_reading.ensures.kept (rw c.in-Machine.is told)
 
 pub returns-in-Session : goal.returns-in-Session
 returns-in-Session g c =
@@ -23,7 +23,7 @@ returns-in-Session g c =
 
 pub returns-in-Ok-open_reading : goal.returns-in-Ok-open_reading
 returns-in-Ok-open_reading g c =
-    opened_converses _ _ _ _ _ _ _ (c.in-Ok-open_reading.ensures.answer _) c.in-Ok-open_reading.ensures.kept (rw c.in-Text.is (tells_text _ _ _ _ _ _ (rw c.deref.ensures.value at c.text_into.ensures)))
+    opened_converses _ _ _ _ _ _ _ (c.in-Ok-open_reading.ensures.answer _) c.in-Ok-open_reading.ensures.kept (rw c.in-Text.is (tells_text _ _ _ _ _ _ (_, rw c.deref.ensures.value at c.send_text.ensures, c.sent_status.ensures)))
 
 pub returns : goal.returns
 returns g c = unopened_converses _ _ _ _ _ (c.in-Err.ensures.answer _) c.in-Err.ensures.kept refl c.refuse-in-Err.ensures refl

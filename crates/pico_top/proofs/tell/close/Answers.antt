@@ -1,10 +1,8 @@
+use Rattle.pico_top.proofs.Names.{inl, inr}
 use Rattle.pico_top.proofs.tell.close.Goals as goal
 
 pub returns-in-Closed : goal.returns-in-Closed
-returns-in-Closed g c = rw c.in-Closed.is c.say.ensures
-
-pub returns-in-Ended : goal.returns-in-Ended
-returns-in-Ended g c = rw c.in-Ended.is c.say-in-Ended.ensures
+returns-in-Closed g c = elim c.in-Closed.is [ inl e ↦ rw e c.say.ensures | inr e ↦ rw e c.say.ensures ]
 
 pub returns-in-Broken : goal.returns-in-Broken
 returns-in-Broken g c = rw c.in-Broken.is c.say-in-Broken.ensures
