@@ -3,7 +3,7 @@ use Rattle.std.proofs.Common.{◌≡◌, ◌∙◌, ℕ, Bool, true, false, if�
 use Rattle.rp_base.specs.declared.Master.{Master}
 use Rattle.rp_base.specs.declared.Master.TheVariants as master
 use Rattle.rp_base.specs.declared.resettable.Resettable.{Resettable}
-use Rattle.rp_base.specs.Resettable.{with_block, with_held, unless_held_becomes}
+use Rattle.rp_base.specs.Resettable.{with_held, unless_held_becomes}
 use Rattle.rp_base.specs.Word.{has_bit}
 use Rattle.rp_base.specs.ResetBits.{DMA, PIO0, PIO1}
 use Rattle.rp_base.proofs.Rows.{keeps}
@@ -12,8 +12,11 @@ use Rattle.lane_look.specs.declared.lane.Turn.{Turn}
 use Rattle.lane_look.specs.declared.lane.Want.{Want}
 use Rattle.lane_look.specs.Asking.{Asking, answered}
 use Rattle.lane_look.specs.Steps.{IsAtRest}
+use Rattle.dma_engine.specs.Asks as dma_asks
+use Rattle.dma_engine.specs.Cycle as dma_steps
 use Rattle.dma_engine.specs.State as dma
 use Rattle.dma_engine.specs.Rest.{AnEngineRestsAtReset}
+use Rattle.pio_block.specs.Cycle as pio_steps
 use Rattle.pio_block.specs.State as pio
 use Rattle.pio_block.specs.Laws.{ABlockRestsAtReset}
 use Rattle.bus_fabric.specs.Masters.{masters}
@@ -27,7 +30,7 @@ use Rattle.rp_machine.specs.State.{State, first_state}
 use Rattle.rp_machine.specs.Registers.{Part, part_of, with_reset, resets_rows, part_accessed}
 use Rattle.rp_machine.specs.Registers.Part.{Resets, Fabric, Dma, Pio0, Pio1, Outer}
 use Rattle.rp_machine.specs.Answers.{answer_of}
-use Rattle.rp_machine.specs.Cycle.{begun, wanted, with_sio, found_by, sio_accessed, after_deed, started_by, after_launcher, launched_where, after_master, after_masters, ended, after_deeds, with_turns, stepped, next_by, next}
+use Rattle.rp_machine.specs.Cycle.{begun, wanted, granted, turns, turn_for, with_sio, found_by, sio_accessed, after_deed, started_by, after_launcher, launched_where, after_master, after_masters, ended, after_deeds, with_turns, stepped, next_by, next}
 use Rattle.startup_laws.specs.Held.{HeldAreReset, AHeldBlockStays}
 
 -- ---- a block
@@ -47,7 +50,7 @@ rests : {S B : Type 0} (asks : S → ℕ → Asking B) (wants : B → List Want)
     → IsAtRest asks wants steps first → s ≡ first → steps s (answered answer (asks s 0)) turns ≡ first
 rests {S} asks wants steps first s answer turns law e =
     let rest = law 0 in
-    ap (λ (x : S). steps x (answered answer (asks x 0)) turns) e ∙ ap (λ tree. steps first (answered answer tree) turns) rest.1.0 ∙ rest.1.1.1 turns
+    ap (λ (x : S). steps x (answered answer (asks x 0)) turns) e ∙ ap (λ tree. steps first (answered answer tree) turns) rest.1 ∙ rest.3 turns
 
 -- ---- the deeds
 
@@ -122,11 +125,14 @@ all_deeds w ds s h =
 
 steps : (w : Setting) (s : State) → AnEngineRestsAtReset → ABlockRestsAtReset → HeldAreReset s → HeldAreReset (stepped w (begun s) (wanted (begun s)) s)
 unfolding stepped with_turns begun
-steps w s engine block h = record {
-  engine = λ e. rests _ _ _ _ s.dma.block (answer_of 2 s) _ engine (h.engine e);
-  block0 = λ e. rests _ _ _ _ s.pio0.block (answer_of 3 s) [] block (h.block0 e);
-  block1 = λ e. rests _ _ _ _ s.pio1.block (answer_of 4 s) [] block (h.block1 e);
-}
+steps w s engine block h =
+    let ts = turns w (begun s) (wanted (begun s)) s (granted (wanted (begun s)) s) in
+    let given = turn_for ts master.DmaRead ∷ turn_for ts master.DmaWrite ∷ [] in
+    record {
+      engine = λ e. rests (λ x cycle. dma_asks.asks x) _ dma_steps.next _ s.dma.block (answer_of 2 s) given engine (h.engine e);
+      block0 = λ e. rests (λ x cycle. pio_steps.asks x) _ (λ x b ts. pio_steps.next b x) _ s.pio0.block (answer_of 3 s) [] block (h.block0 e);
+      block1 = λ e. rests (λ x cycle. pio_steps.asks x) _ (λ x b ts. pio_steps.next b x) _ s.pio1.block (answer_of 4 s) [] block (h.block1 e);
+    }
 
 pub held_stays : AnEngineRestsAtReset → ABlockRestsAtReset → AHeldBlockStays
 unfolding first_state next next_by
