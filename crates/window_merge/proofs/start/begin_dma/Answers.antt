@@ -14,11 +14,11 @@ pub returns-clause-begun : goal.returns-clause-begun
 returns-clause-begun c =
     let here = answer_of 2 c.args.machine.now in
     let family : State → Type 0 = λ s. c.begin_into.new.begun ≡ answered here (asks s.dma.block) in
-    subst family c.machine.view_is (runs_match _ (asks c.machine.inside.dma) _ _ c.begin_into.ensures).begun
+    subst family c.machine.view_is (runs_match _ _ _ _ c.begin_into.ensures).begun
 
 pub returns-clause-same : goal.returns-clause-same
 returns-clause-same c =
     let here = answer_of 2 c.args.machine.now in
     let there = guess 2 c.args.start.now (seen_of 2 c.args.notes.now c.args.machine.now.sram) in
     let family : State → Type 0 = λ s. c.begin_into.new.look.same ≡ (c.args.same.now && not (differs here (asked there (asks s.dma.block)))) in
-    subst family c.machine.view_is (runs_match _ (asks c.machine.inside.dma) _ _ c.begin_into.ensures).is_same
+    subst family c.machine.view_is (runs_match _ _ _ _ c.begin_into.ensures).is_same
