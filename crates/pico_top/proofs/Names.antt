@@ -11,7 +11,7 @@ pub use Rattle.command_words.specs.declared.reading.PioEntry.{PioEntry}
 pub use Rattle.lane_look.specs.Device.{DeviceMeaning, paired}
 pub use Rattle.outer_lane.specs.Setting.{Setting, setting_of}
 pub use Rattle.pico_top.specs.Answer.{Converses, ConversesFor, ConversesIn, Counts, Ends, IsCounted, Puts, RunsOut, Takes, Writes, memory_line, sent_status, AfterLoad, Ending, IsHeard, Verdict, Walks, failed_names, heard_as, on_held, status_over, verdict}
-pub use Rattle.pico_top.specs.Dialogue.{Board, Drawn, Outside, Sunk, board, sunk, Dialogue, Reply, Use, aims_in, behind_image, behind_script, beside, device_in, dialogue_from, dialogue_of, hear, hear_run, image_limit, input_limit, judge, plain, run_reply, say, say_run, script_limit, session_reply, source_limit, with_first, with_image, with_linked, with_program, with_programs, with_run, with_script}
+pub use Rattle.pico_top.specs.Dialogue.{Board, asked_by, Drawn, Outside, Sunk, board, sunk, Dialogue, Reply, Use, aims_in, behind_image, behind_script, beside, device_in, dialogue_from, dialogue_of, hear, hear_run, image_limit, input_limit, judge, plain, run_reply, say, say_run, script_limit, session_reply, source_limit, with_first, with_image, with_linked, with_program, with_programs, with_run, with_script}
 pub use Rattle.pico_top.specs.Dialogue.Dialogue.{Hear, Load, Refuse, Say}
 pub use Rattle.pico_top.specs.Opening.{Adds, AddsBehind, ArePlaced, Boots, Concludes, EndsAs, EndsUnopened, IsPlaced, Judges, LoadsAll, LoadsAs, Opens, OpensFor, Passes, PutsRefusal, offset_part, opened_dialogue, setting_by, setting_in, source_part, taken_by, use_for}
 pub use Rattle.pico_top.specs.Answer.Ending.{Heard, NoMemory, Refused, Said}
@@ -33,7 +33,7 @@ pub use Rattle.rp_ports.specs.Shelf.{Answers, Files, failed_after}
 pub use Rattle.rp_ports.specs.Sink.{Appends}
 pub use Rattle.rp_ports.specs.declared.shelf.Loaded.TheVariants.{Done, Failed, Large}
 pub use Rattle.std.proofs.Common.{Bool, Err, Global, IfErr, IfOk, IfSome, IsSomeAnd, List, None, Ok, Option, Result, Some, Vec, [], ap, append_assoc, ap₂, arith, drop, false, get_or, if◌then◌else◌, inl, inr, length, length-append, map, nat_le, not, refl, subst, suc, sym, take, true, zero, ℕ, ◌&&◌, ◌++◌, ◌+◌, ◌-◌, ◌<◌, ◌==◌, ◌∙◌, ◌∷◌, ◌≡◌, ◌≤◌, ◌⊎◌}
-pub use Rattle.std.proofs.lemmas.List.{append-nil, at_drop_all, at_drop_more, take_at}
+pub use Rattle.std.proofs.lemmas.List.{append-nil, at_drop_all, at_drop_more, length-map, take_at}
 pub use Rattle.std.proofs.lemmas.Result.{IfOk-weaker, err_from_is_err_and}
 pub use Rattle.thumb_asm.specs.Source.{image_of_source}
 pub use Rattle.trace_text.proofs.Sending.{SentTo, part_behind, part_of_longer, sends_cut, sends_part, sends_then, sent_on, sent_part}

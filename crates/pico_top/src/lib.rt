@@ -10,8 +10,8 @@ mod tell;
 ghost use Rattle.std.specs.Prelude.{◌≡◌, ◌+◌, ◌≤◌, Some, length, map, true, IfOk};
 ghost use Rattle.std.specs.String.{string_bytes};
 ghost use Rattle.board_parts.specs.Wiring.{all_fit, all_words, counts_of, wired_in};
-ghost use Rattle.command_words.specs.Words.{parts_in, workers_of, IsRead};
-ghost use Rattle.command_words.specs.Read.{command_in};
+ghost use Rattle.command_words.specs.Words.{parts_in, reading, workers_of, IsRead};
+ghost use Rattle.command_words.specs.Read.{Reads, command_in};
 ghost use Rattle.pico_top.specs.Answer.{Converses, ConversesFor, ConversesIn};
 ghost use Rattle.pico_top.specs.Dialogue.{asked_by, board, outside, aims_in, dialogue_of, targets_in};
 ghost use Rattle.pico_top.specs.Causes.{HasCause, IsComplete};
@@ -79,6 +79,20 @@ fn pins_of<P: Part>(alloc: Global, parts: &[P]) -> Result<Vec<usize>, AllocError
         pins.push(part.pins())?;
     }
     Ok(pins)
+}
+
+/// Reads the words, where these probes and parts are handed in.
+fn read<P: Part>(
+    alloc: Global,
+    words: &[String],
+    probes: &[Box<dyn Probe>],
+    parts: &[P],
+) -> Result<Reading, WordsFault>
+    ensures { Reads command_in (reading (length (map (λ p. (Probe-box p).meaning p.value) probes.now))
+        (counts_of (map P.meaning parts.now)) (map string_bytes words.now)) result }
+{
+    let pins = pins_of(alloc, parts)?;
+    read_words(alloc, words, probes.len(), &pins)
 }
 
 /// Aims the probes that a reading names, loads its files, and writes the text, where a run has this device.
@@ -261,49 +275,6 @@ pub fn pico_alone<F: Shelf, I: Source, O: Sink, X: Device, L: Ledger>(
     )
 }
 
-/// Reads the words, and does what they say.
-fn converse<F: Shelf, I: Source, O: Sink, G: Gate, P: Part + Sync, X: Device, L: Ledger, R>(
-    rt: &R,
-    alloc: Global,
-    words: &[String],
-    files: &mut F,
-    input: &mut I,
-    out: &mut O,
-    gate: &G,
-    probes: Vec<Box<dyn Probe>>,
-    parts: Vec<P>,
-    device: X,
-    steps: &mut Steps<L>,
-) -> u8
-where
-    R: Threads + Wait + Sync,
-    requires room { all_words (map P.meaning parts.items) + (X.meaning device).count ≤ 128 }
-    ensures { Converses (board (X.meaning device) (map (λ p. (Probe-box p).meaning p.value) probes.items)
-        (map P.meaning parts.items)) (map string_bytes words.now)
-        (outside ⟦<F as Shelf>⟧ ⟦<I as Source>⟧ ⟦<O as Sink>⟧ files.old input.old out.old steps.old)
-        (outside ⟦<F as Shelf>⟧ ⟦<I as Source>⟧ ⟦<O as Sink>⟧ files.new input.new out.new steps.new) result }
-{
-    let Ok(pins) = pins_of(alloc, &parts) else {
-        return refuse(alloc, &Unopened::Memory, out);
-    };
-    match read_words(alloc, words, probes.len(), &pins) {
-        Ok(reading) => {
-            let count = count_of(&reading);
-            if count == 0 {
-                return serve(
-                    alloc, &reading, files, input, out, probes, parts, device, steps,
-                );
-            }
-            let workers = Workers { rt, gate, count };
-            serve_by(
-                alloc, &workers, &reading, files, input, out, probes, parts, device, steps,
-            )
-        }
-        Err(WordsFault::Words) => refuse(alloc, &Unopened::Refusing(Refusal::Words), out),
-        Err(WordsFault::Memory) => refuse(alloc, &Unopened::Memory, out),
-    }
-}
-
 /// Does what the words say: loads their files from the shelf, takes the lines that it answers from the source, and writes
 /// the text to the sink.
 ///
@@ -362,7 +333,20 @@ where
         (outside ⟦<F as Shelf>⟧ ⟦<I as Source>⟧ ⟦<O as Sink>⟧ files.old input.old out.old steps.old)
         (outside ⟦<F as Shelf>⟧ ⟦<I as Source>⟧ ⟦<O as Sink>⟧ files.new input.new out.new steps.new) result }
 {
-    converse(
-        rt, alloc, words, files, input, out, gate, probes, parts, device, steps,
-    )
+    match read(alloc, words, &probes, &parts) {
+        Ok(reading) => {
+            let count = count_of(&reading);
+            if count == 0 {
+                return serve(
+                    alloc, &reading, files, input, out, probes, parts, device, steps,
+                );
+            }
+            let workers = Workers { rt, gate, count };
+            serve_by(
+                alloc, &workers, &reading, files, input, out, probes, parts, device, steps,
+            )
+        }
+        Err(WordsFault::Words) => refuse(alloc, &Unopened::Refusing(Refusal::Words), out),
+        Err(WordsFault::Memory) => refuse(alloc, &Unopened::Memory, out),
+    }
 }

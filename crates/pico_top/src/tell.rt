@@ -275,37 +275,6 @@ fn close<O: Sink>(way: Way, out: &mut O) -> u8
 
 /// Hears the lines of a source and puts what the debugger answers, and then the line of the way in which the hearing ended; answers
 /// the status of that way, or 7 where the sink fails.
-fn talk<I: Source, X: Device, O: Sink, L: Ledger>(
-    debugging: Debugging,
-    device: &X,
-    input: &mut I,
-    writer: &mut Writer<'_, O>,
-    steps: &mut Steps<L>,
-) -> u8
-    requires { OpensAt (first_of debugging.session) debugging.limit debugging.session }
-    ensures tells { Concludes (hear input_limit quits
-        (session_reply (setting_by (X.meaning device.now) debugging) (first_of debugging.session)))
-        (drawn ⟦<I as Source>⟧ input.old) (drawn ⟦<I as Source>⟧ input.new)
-        (sunk ⟦<O as Sink>⟧ writer.old.out.now) (sunk ⟦<O as Sink>⟧ writer.new.out.now) steps.old steps.new result }
-    ensures same_sink { writer.new.out.ghost_name ≡ writer.old.out.ghost_name }
-{
-    let Debugging {
-        mut session,
-        script,
-        limit,
-    } = debugging;
-    let world = World {
-        script: &script,
-        device,
-        limit,
-    };
-    match hear(&mut session, &world, input, INPUT_LIMIT, writer, steps) {
-        Ok(way) => close(way, writer.out),
-        Err(_) => 7,
-    }
-}
-
-/// Hears the lines of a source into a sink.
 pub fn talk_into<I: Source, X: Device, O: Sink, L: Ledger>(
     debugging: Debugging,
     device: &X,
@@ -319,8 +288,21 @@ pub fn talk_into<I: Source, X: Device, O: Sink, L: Ledger>(
         (drawn ⟦<I as Source>⟧ input.old) (drawn ⟦<I as Source>⟧ input.new)
         (sunk ⟦<O as Sink>⟧ out.old) (sunk ⟦<O as Sink>⟧ out.new) steps.old steps.new result }
 {
+    let Debugging {
+        mut session,
+        script,
+        limit,
+    } = debugging;
+    let world = World {
+        script: &script,
+        device,
+        limit,
+    };
     let mut writer = Writer { out };
-    talk(debugging, device, input, &mut writer, steps)
+    match hear(&mut session, &world, input, INPUT_LIMIT, &mut writer, steps) {
+        Ok(way) => close(way, writer.out),
+        Err(_) => 7,
+    }
 }
 
 /// Puts the line that says that memory ran out.
