@@ -14,6 +14,7 @@ use Rattle.uf2_image.specs.declared.parts.Part.{Part}
 use Rattle.uf2_image.specs.Writing.{IsSized}
 use Rattle.uf2_image.proofs.Writable.{what_is_read_can_be_written}
 use Rattle.rp_machine.specs.State.{first_state}
+use Rattle.rp_base.specs.Resettable.{with_block}
 use Rattle.rp_machine.specs.Boot.{start, with_loads, with_load, block_loaded, IsLoad, AreLoads}
 use Rattle.command_words.specs.declared.refusal.Refusal.{Refusal as Written}
 use Rattle.pico_top.specs.declared.open.Opened.TheVariants.{Machine, Session, Text}
