@@ -1,4 +1,4 @@
--- A cycle leaves a block that is held in its reset state.
+-- A cycle leaves a block that is held in its reset state, and an access leaves it as it is.
 use Rattle.std.proofs.Common.{◌≡◌, ◌∙◌, ℕ, Bool, true, false, if◌then◌else◌, List, [], ◌∷◌, Option, Some, None, refl, ap, sym, true≢false, ◌%◌, ◌^◌}
 use Rattle.rp_base.specs.declared.Master.{Master}
 use Rattle.rp_base.specs.declared.Master.TheVariants as master
@@ -6,7 +6,8 @@ use Rattle.rp_base.specs.declared.resettable.Resettable.{Resettable}
 use Rattle.rp_base.specs.Resettable.{with_held, unless_held_becomes}
 use Rattle.rp_base.specs.Word.{has_bit}
 use Rattle.rp_base.specs.ResetBits.{DMA, PIO0, PIO1}
-use Rattle.rp_base.proofs.Rows.{keeps}
+use Rattle.rp_base.specs.Held.{unless_held}
+use Rattle.rp_base.proofs.Rows.{keeps, held}
 use Rattle.lane_look.specs.declared.lane.Ask.{Ask}
 use Rattle.lane_look.specs.declared.lane.Turn.{Turn}
 use Rattle.lane_look.specs.declared.lane.Want.{Want}
@@ -15,9 +16,11 @@ use Rattle.lane_look.specs.Steps.{IsAtRest}
 use Rattle.dma_engine.specs.Asks as dma_asks
 use Rattle.dma_engine.specs.Cycle as dma_steps
 use Rattle.dma_engine.specs.State as dma
+use Rattle.dma_engine.specs.Words as dma_words
 use Rattle.dma_engine.specs.Rest.{AnEngineRestsAtReset}
 use Rattle.pio_block.specs.Cycle as pio_steps
 use Rattle.pio_block.specs.State as pio
+use Rattle.pio_block.specs.Words as pio_words
 use Rattle.pio_block.specs.Laws.{ABlockRestsAtReset}
 use Rattle.bus_fabric.specs.Masters.{masters}
 use Rattle.sio_block.specs.declared.Launch.{Launch}
@@ -27,11 +30,11 @@ use Rattle.outer_lane.specs.Setting.{Setting}
 use Rattle.rp_machine.specs.declared.deed.Deed.{Deed}
 use Rattle.rp_machine.specs.declared.deed.Deed.TheVariants as deed
 use Rattle.rp_machine.specs.State.{State, first_state}
-use Rattle.rp_machine.specs.Registers.{Part, part_of, with_reset, resets_rows, part_accessed}
+use Rattle.rp_machine.specs.Registers.{Part, part_of, with_reset, resets_rows, part_word, part_accessed}
 use Rattle.rp_machine.specs.Registers.Part.{Resets, Fabric, Dma, Pio0, Pio1, Outer}
 use Rattle.rp_machine.specs.Answers.{answer_of}
 use Rattle.rp_machine.specs.Cycle.{begun, wanted, granted, turns, turn_for, with_sio, found_by, sio_accessed, after_deed, started_by, after_launcher, launched_where, after_master, after_masters, ended, after_deeds, with_turns, stepped, next_by, next}
-use Rattle.startup_laws.specs.Held.{HeldAreReset, AHeldBlockStays}
+use Rattle.startup_laws.specs.Held.{HeldAreReset, IsStill, AHeldBlockStays}
 
 -- ---- a block
 
@@ -134,6 +137,32 @@ steps w s engine block h =
       block1 = λ e. rests (λ x cycle. pio_steps.asks x) _ (λ x b ts. pio_steps.next b x) _ s.pio1.block (answer_of 4 s) [] block (h.block1 e);
     }
 
+-- ---- an access to a part that is held
+
+unchanged : {S : Type 0} (after : S) (r : Resettable S) → r.held ≡ true → unless_held_becomes r after ≡ r
+unchanged after r e = rw e refl
+
+engine_still : (s : State) → s.dma.held ≡ true → IsStill Dma dma_words.is_word s
+unfolding part_word part_accessed dma_words.word_of dma_words.is_word
+engine_still s e = record {
+  reads = λ offset w seen. ap (λ h. unless_held h (dma_words.word_of offset s.dma.block)) e ∙ (held dma_words.dma_rows).reads offset tt s.dma.block;
+  accesses = λ offset write. ap (λ d. record s { dma = d }) (unchanged _ s.dma e);
+}
+
+block0_still : (s : State) → s.pio0.held ≡ true → IsStill Pio0 pio_words.is_word s
+unfolding part_word part_accessed pio_words.word_of pio_words.is_word
+block0_still s e = record {
+  reads = λ offset w seen. ap (λ h. unless_held h (pio_words.word_of offset s.pio0.block)) e ∙ (held pio_words.pio_rows).reads offset tt s.pio0.block;
+  accesses = λ offset write. ap (λ p. record s { pio0 = p }) (unchanged _ s.pio0 e);
+}
+
+block1_still : (s : State) → s.pio1.held ≡ true → IsStill Pio1 pio_words.is_word s
+unfolding part_word part_accessed pio_words.word_of pio_words.is_word
+block1_still s e = record {
+  reads = λ offset w seen. ap (λ h. unless_held h (pio_words.word_of offset s.pio1.block)) e ∙ (held pio_words.pio_rows).reads offset tt s.pio1.block;
+  accesses = λ offset write. ap (λ p. record s { pio1 = p }) (unchanged _ s.pio1 e);
+}
+
 pub held_stays : AnEngineRestsAtReset → ABlockRestsAtReset → AHeldBlockStays
 unfolding first_state next next_by
 held_stays engine block = record {
@@ -144,4 +173,7 @@ held_stays engine block = record {
   };
   next = λ w s h. same (after_deeds w _ (stepped w (begun s) (wanted (begun s)) s)) _ refl refl refl
       (all_deeds w _ (stepped w (begun s) (wanted (begun s)) s) (steps w s engine block h));
+  engine = engine_still;
+  block0 = block0_still;
+  block1 = block1_still;
 }

@@ -20,7 +20,8 @@ pub fn a_start_up_waits_for_nothing()
     the_tick_runs_at_once();
 }
 
-/// The DMA engine and the PIO blocks are in their reset states as long as RESETS holds them, whatever the others do.
+/// The DMA engine and the PIO blocks are in their reset states as long as RESETS holds them, whatever the others do; they read as 0 then,
+/// and no access changes them.
 pub fn a_held_block_stays()
     ensures { AHeldBlockStays }
 {
