@@ -12,7 +12,6 @@ use Rattle.pio_block.specs.Words as pio
 use Rattle.outer_lane.specs.Lines.{outer_lines, outer_inputs, outer_pacing}
 use Rattle.sio_block.specs.State.{State as SioState}
 use Rattle.sio_block.specs.Side.{line_of}
-use Rattle.rp_machine.specs.declared.answers.Counts.{Counts}
 use Rattle.rp_machine.specs.Sram.{half_of, ram_word}
 use Rattle.rp_machine.specs.State.{State}
 
@@ -47,20 +46,10 @@ word_in sram address = unwrap_or (ram_word sram (place_of address)) 0
 
 -- ---- the counts that pace DMA channels (RP2040 Datasheet, 2.5.3.1, System DREQ Table)
 
--- of each PIO block the room left in the TX FIFOs and the words of the RX FIFOs; of each UART the same
-abbrev pub counts_of : State → Counts
-counts_of s = record {
-  pio0 = pio.pacing_of s.pio0.block.machines;
-  pio1 = pio.pacing_of s.pio1.block.machines;
-  uarts = outer_pacing s.outer;
-}
-
--- in one number, in the order of the DREQs
-abbrev pub packed : Counts → ℕ
-packed c = packed_counts (c.pio0 ++ (c.pio1 ++ c.uarts))
-
+-- of each PIO block the room left in the TX FIFOs and the words of the RX FIFOs, and of each UART the same: in one number, in the order of
+-- the DREQs
 unfoldable pub pacing_of : State → ℕ
-pacing_of s = packed (counts_of s)
+pacing_of s = packed_counts (pio.pacing_of s.pio0.block.machines ++ (pio.pacing_of s.pio1.block.machines ++ outer_pacing s.outer))
 
 -- ---- pins: two words in one number, the first one lowest
 

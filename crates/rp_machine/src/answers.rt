@@ -94,35 +94,9 @@ fn packed_four(counts: [u8; 4]) -> u64
     u64::from(c0) + u64::from(c1) * 0x40 + u64::from(c2) * 0x1000 + u64::from(c3) * 0x4_0000
 }
 
-/// The counts that pace DMA channels (RP2040 Datasheet, 2.5.3.1).
-#[derive(Clone, Copy)]
-pub struct Counts {
-    /// Of PIO block 0, the room left in the four TX FIFOs, then the words of the four RX FIFOs.
-    pub pio0: [u8; 8],
-    /// The same of PIO block 1.
-    pub pio1: [u8; 8],
-    /// The free entries of the transmit FIFO and the words of the receive FIFO of UART0, and the same of UART1.
-    pub uarts: [u8; 4],
-}
-
-impl Counts {
-    ghost use Rattle.std.specs.Prelude.{◌≡◌};
-    ghost use Rattle.rp_machine.specs.Answers.{packed};
-
-    /// The counts in one number, six bits each, in the order of the DREQs.
-    #[tactic(auto, using(crate::proofs::Packed::packed_in_turn))]
-    pub fn packed(&self) -> u128
-        ensures { result ≡ packed self.now }
-    {
-        u128::from(packed_eight(self.pio0))
-            + u128::from(packed_eight(self.pio1)) * 0x1_0000_0000_0000
-            + u128::from(packed_four(self.uarts)) * 0x1_0000_0000_0000_0000_0000_0000
-    }
-}
-
 impl Machine {
     ghost use Rattle.std.specs.Prelude.{◌≡◌, ◌<◌, ◌^◌, ◌∷◌, []};
-    ghost use Rattle.rp_machine.specs.Answers.{shared_lines, lines_of, counts_of, pacing_of, inputs_of, outs_of};
+    ghost use Rattle.rp_machine.specs.Answers.{shared_lines, lines_of, pacing_of, inputs_of, outs_of};
 
     /// The interrupt lines that come from PIO and the DMA engine, the same to both cores.
     #[inline(always)]
@@ -154,24 +128,14 @@ impl Machine {
         self.outer.lines(core) | (shared + sio_lines(&self.sio, core))
     }
 
-    /// The counts that pace DMA channels.
-    #[inline(always)]
-    pub fn counts(&self) -> Counts
-        ensures { result ≡ counts_of self.now }
-    {
-        Counts {
-            pio0: self.pio0.block.pacing(),
-            pio1: self.pio1.block.pacing(),
-            uarts: self.outer.pacing(),
-        }
-    }
-
-    /// The counts that pace DMA channels, six bits each.
-    #[tactic(auto, unfolding(crate::specs::Answers::pacing_of))]
+    /// The counts that pace DMA channels, six bits each, in the order of the DREQs (RP2040 Datasheet, 2.5.3.1).
+    #[tactic(auto, unfolding(crate::specs::Answers::pacing_of), using(crate::proofs::Packed::packed_in_turn))]
     pub(crate) fn pacing(&self) -> u128
         ensures { result ≡ pacing_of self.now }
     {
-        self.counts().packed()
+        u128::from(packed_eight(self.pio0.block.pacing()))
+            + u128::from(packed_eight(self.pio1.block.pacing())) * 0x1_0000_0000_0000
+            + u128::from(packed_four(self.outer.pacing())) * 0x1_0000_0000_0000_0000_0000_0000
     }
 
     /// The input words of the pins, that of the levels now lowest.

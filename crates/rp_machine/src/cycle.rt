@@ -490,29 +490,6 @@ impl Machine {
         None
     }
 
-    /// Does one cycle of which this is what the lanes begin, where nothing stops before it, counts it and leaves its mark alone in the
-    /// marks.
-    #[tactic(auto, unfolding(crate::specs::Cycle::stop, crate::specs::Cycle::next, crate::specs::Cycle::mark))]
-    pub fn cycle_on<X: Device, L: Ledger>(
-        &mut self,
-        world: &World<'_, X>,
-        lanes: &Begun,
-        marks: &mut Marks,
-        steps: &mut Steps<L>,
-    )
-        requires number { self.old.cycle ≤ world.now.limit }
-        requires begun { lanes.now ≡ begun self.old }
-        requires unstopped { stop (setting X.meaning world.now) self.old ≡ None }
-        ensures state { self.new ≡ next (setting X.meaning world.now) self.old }
-        ensures marks { marks.new ≡ mark (setting X.meaning world.now) self.old ∷ [] }
-        ensures steps { steps.new ≡ steps.old + 1 }
-    {
-        is_bounded(world);
-        marks.clear();
-        steps.tick();
-        self.step(world, lanes, marks);
-    }
-
     /// Does one cycle, counts it and leaves its mark alone in the marks; or changes nothing and names the stop. A run keeps room for what
     /// the lanes begin, and goes on by `begin_into` and `cycle_of`.
     pub fn cycle<X: Device, L: Ledger>(

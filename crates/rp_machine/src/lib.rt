@@ -26,7 +26,6 @@ pub mod steps;
 pub mod wanted;
 
 pub use access::asked_of;
-pub use answers::Counts;
 pub use cycle::is_bounded;
 pub use load::PioLoad;
 pub use machine::Machine;

@@ -4,15 +4,12 @@ pub mod Banks
 pub mod Calm
 pub mod Comparing
 pub mod Copying
-pub mod Countless
 pub mod Going
 pub mod InSram
 pub mod Keeping
 pub mod Lanes
 pub mod Later
-pub mod Lines
 pub mod Logs
-pub mod Marked
 pub mod Meeting
 pub mod Noting
 pub mod Passing

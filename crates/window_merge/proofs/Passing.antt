@@ -2,12 +2,12 @@
 use Rattle.std.proofs.Common.{◌≡◌, ◌≢◌, ℕ, zero, suc, ◌+◌, ◌*◌, ◌<◌, ◌≤◌, ◌==◌, ◌||◌, ◌&&◌, ◌⊎◌, Bool, true, false, not, if◌then◌else◌, inl, inr, List, [], ◌∷◌, ◌++◌, length, None, nat_eq, refl, ap, sym, ◌∙◌, subst, add-one, arith}
 use Rattle.std.specs.Prelude.{slice_index}
 use Rattle.std.proofs.lemmas.Bool.Decides.{eqb_tells}
-use Rattle.lane_look.specs.Asking.{answered}
+use Rattle.lane_look.specs.Asking.{Asking, answered}
 use Rattle.lane_look.specs.declared.lane.Ask.{Ask}
 use Rattle.lane_look.specs.declared.lane.Want.{Want}
 use Rattle.lane_look.specs.declared.lane.Want.TheVariants as want
 use Rattle.lane_look.specs.declared.marks.Mark.{Mark}
-use Rattle.lane_look.specs.Replay.{Meaning, Entry}
+use Rattle.lane_look.specs.Replay.{Meaning, Entry, asked}
 use Rattle.lane_look.specs.Alone.{all_stored, alone, alone_length, ends_want, ends_wants, ends_at, wanted_in, differs, least}
 use Rattle.m0_core.specs.State.{State as Core}
 use Rattle.m0_core.specs.declared.doing.Doing.{Doing}
@@ -16,7 +16,6 @@ use Rattle.m0_core.specs.Cycle as core
 use Rattle.dma_engine.specs.State.{State as Engine}
 use Rattle.dma_engine.specs.declared.begun.BegunTransfer.{BegunTransfer}
 use Rattle.dma_engine.specs.Asks as dma_asks
-use Rattle.dma_engine.specs.Asks.{is_pacing, may_ask_counts}
 use Rattle.dma_engine.specs.Cycle as dma
 use Rattle.pio_block.specs.Cycle as pio
 use Rattle.outer_lane.specs.Setting.{Setting}
@@ -37,16 +36,15 @@ use Rattle.window_merge.specs.Patch.{patched, sram_after}
 use Rattle.window_merge.specs.declared.notes.Notes.{Notes}
 use Rattle.window_merge.specs.declared.start.Start.{Start}
 use Rattle.window_merge.specs.Notes.{is_none, seen_of, seen_word, is_clean, write_of, original_word, own_word, with_word, no_notes, noted, noted_by, HasRoom}
-use Rattle.window_merge.specs.Start.{start_of, IsStart, guess, begun_from, differs_from, ends_wanted, goes_by, goes_first, goes_on}
+use Rattle.window_merge.specs.Start.{start_of, guess, begun_from, differs_from, ends_wanted, goes_by, goes_first, goes_on}
 use Rattle.window_merge.proofs.Agree.{both_false, differ_of, same_number}
 use Rattle.window_merge.proofs.Calm.{IsCalm, calm_sram}
 use Rattle.window_merge.proofs.Copying.{answered_same, asked_same}
-use Rattle.window_merge.proofs.Countless.{Alike, alike_but, core_countless, dma_countless, outer_countless, pio_countless}
 use Rattle.window_merge.proofs.Meeting.{least_meets}
 use Rattle.window_merge.proofs.Lanes.{LaneStands, lane_first, below_least, ends_is, no_cycles}
 use Rattle.window_merge.proofs.Noting.{Restores, undoes_on, own_on, still, sight, no_word, with_word-length, in_sram, after_want}
 use Rattle.window_merge.proofs.Reading.{read_only}
-use Rattle.window_merge.proofs.Starting.{HasLines, lines0, lines1, lines2, lines3, lines4, lines5, counts_told, guess_but, guess_is, around_over, stored_sram, differs_never}
+use Rattle.window_merge.proofs.Starting.{HasLines, lines0, lines1, lines2, lines3, lines4, lines5, guess_is, around_over, stored_sram, differs_never}
 use Rattle.window_merge.proofs.Windows.{Lengths, AreLengths, AreOn, Stands, AreTold, Tries, all_told, stands_first, fitted, stands_next, ends_tried, ends_run, ends_full, they_end, runs_on, short, first_ends}
 
 -- ---- the whole runs alone
@@ -315,7 +313,7 @@ pub record HasFew (k : ℕ) (notes : Notes) : Type 0 where
 
 -- after k cycles
 pub record Follows (s : State) (k : ℕ) (now : State) (start : Start) (notes : Notes) : Type 0 where
-  pub is_start : IsStart start s
+  pub is_start : start ≡ start_of s
   pub long : length s.sram ≡ 67584
   pub restores : Restores notes.originals now.sram s.sram
   pub core0 : patched notes.core0 s.sram ≡ sram_alone core_lane 0 s.core0 s k
@@ -327,7 +325,7 @@ pub record Follows (s : State) (k : ℕ) (now : State) (start : Start) (notes : 
   pub clean : notes.core0 ≡ [] → notes.core1 ≡ [] → notes.dma ≡ [] → s.sram ≡ now.sram
   pub few : HasFew k notes
 
-pub follows_first : (s : State) (start : Start) → IsStart start s → length s.sram ≡ 67584 → Follows s 0 s start no_notes
+pub follows_first : (s : State) (start : Start) → start ≡ start_of s → length s.sram ≡ 67584 → Follows s 0 s start no_notes
 unfolding patched alone
 follows_first s start e long = record {
   is_start = e;
@@ -390,22 +388,21 @@ sees_start m lane before s k now start notes f stores_none i lt =
     f.clean (no_word notes.core0 p.0) (no_word notes.core1 q.0) (no_word notes.dma q.1)) f.restores refl f.long lt
     ∙ ap (λ (t : State). slice_index t.sram i) (sym (still_around m lane before s k stores_none))
 
--- what the start answers is what the run alone is answered, but for the counts
-answers_alone : {S B : Type 0} (m : Meaning (Unit {0}) S B) (lane : ℕ) (before : S) (s : State) (k : ℕ) (start : Start) (seen : ℕ → ℕ) → IsStart start s → HasLines lane s
-    → Sees seen (sram_alone m lane before s k) → (question : Ask) → is_pacing question ≡ false
-    → guess lane start seen question ≡ answer_of lane (alone m (around lane) tt before s.cycle s k).around question
-answers_alone m lane before s k start seen e lines sees question other =
-    guess_but lane start s seen question e other
-    ∙ guess_is lane s seen (sram_alone m lane before s k) question lines sees
-    ∙ ap (λ (t : State). answer_of lane t question) (sym (around_over m lane before s k))
-
--- and those too where they were found
-answers_found : {S B : Type 0} (m : Meaning (Unit {0}) S B) (lane : ℕ) (before : S) (s : State) (k : ℕ) (start : Start) (seen : ℕ → ℕ) → start ≡ start_of s → HasLines lane s
+-- what the start answers is what the run alone is answered
+answers_alone : {S B : Type 0} (m : Meaning (Unit {0}) S B) (lane : ℕ) (before : S) (s : State) (k : ℕ) (start : Start) (seen : ℕ → ℕ) → start ≡ start_of s → HasLines lane s
     → Sees seen (sram_alone m lane before s k) → (question : Ask) → guess lane start seen question ≡ answer_of lane (alone m (around lane) tt before s.cycle s k).around question
-answers_found m lane before s k start seen e lines sees question =
+answers_alone m lane before s k start seen e lines sees question =
     ap (λ (x : Start). guess lane x seen question) e
     ∙ guess_is lane s seen (sram_alone m lane before s k) question lines sees
     ∙ ap (λ (t : State). answer_of lane t question) (sym (around_over m lane before s k))
+
+-- both functions let a tree begin the same, and ask the same
+record Alike {B : Type 0} (f g : Ask → ℕ) (tree : Asking B) : Type 0 where
+  begun : answered f tree ≡ answered g tree
+  talk : asked f tree ≡ asked g tree
+
+alike : {B : Type 0} (f g : Ask → ℕ) (tree : Asking B) → ((question : Ask) → f question ≡ g question) → Alike f g tree
+alike f g tree h = record { begun = answered_same f g tree h; talk = asked_same f g tree h }
 
 -- each lane begins and asks the same
 record AnswerAlone (w : Setting) (s : State) (k : ℕ) (now : State) (start : Start) (notes : Notes) : Type 0 where
@@ -416,27 +413,15 @@ record AnswerAlone (w : Setting) (s : State) (k : ℕ) (now : State) (start : St
   pio1 : Alike (guess 4 start (seen_of 4 notes now.sram)) (answer_of 4 (alone pio_lane (around 4) tt s.pio1.block s.cycle s k).around) (pio.asks now.pio1.block)
   outer : Alike (guess 5 start (seen_of 5 notes now.sram)) (answer_of 5 (alone (peripheral_lane w) (around 5) tt s.outer s.cycle s k).around) (outer.asks now.outer now.cycle)
 
--- the counts were found, or the DMA engine does not ask for them
-dma_alone : (s : State) (k : ℕ) (now : State) (start : Start) (notes : Notes) → Follows s k now start notes → now.dma.block ≡ (alone dma_lane (around 2) tt s.dma.block s.cycle s k).state
-    → Alike (guess 2 start (seen_of 2 notes now.sram)) (answer_of 2 (alone dma_lane (around 2) tt s.dma.block s.cycle s k).around) (dma_asks.asks now.dma.block)
-dma_alone s k now start notes f e = elim (true_or_false (may_ask_counts s.dma.block)) [
-  | inl may ↦
-      let same = answers_found dma_lane 2 s.dma.block s k start (seen_of 2 notes now.sram) (counts_told start s f.is_start may) (lines2 s) (sees2 s k now start notes f) in
-      record { begun = answered_same _ _ (dma_asks.asks now.dma.block) same; talk = asked_same _ _ (dma_asks.asks now.dma.block) same }
-  | inr none ↦
-      alike_but _ _ (dma_asks.asks now.dma.block) (answers_alone dma_lane 2 s.dma.block s k start (seen_of 2 notes now.sram) f.is_start (lines2 s) (sees2 s k now start notes f))
-      (dma_countless s k now.dma.block e none)
-]
-
 all_alone : (w : Setting) (s : State) (k : ℕ) (now : State) (rests : Rests) (marks : List Mark) (start : Start) (notes : Notes) → Stands w s (whole w s) k now rests marks → Follows s k now start notes
     → AnswerAlone w s k now start notes
 all_alone w s k now rests marks start notes t f = record {
-  core0 = alike_but _ _ (core_asks.asks now.core0 now.cycle) (answers_alone core_lane 0 s.core0 s k start (seen_of 0 notes now.sram) f.is_start (lines0 s) (sees0 s k now start notes f)) (core_countless now.core0 now.cycle);
-  core1 = alike_but _ _ (core_asks.asks now.core1 now.cycle) (answers_alone core_lane 1 s.core1 s k start (seen_of 1 notes now.sram) f.is_start (lines1 s) (sees1 s k now start notes f)) (core_countless now.core1 now.cycle);
-  dma = dma_alone s k now start notes f t.dma.is_alone;
-  pio0 = alike_but _ _ (pio.asks now.pio0.block) (answers_alone pio_lane 3 s.pio0.block s k start (seen_of 3 notes now.sram) f.is_start (lines3 s) (sees_start pio_lane 3 s.pio0.block s k now start notes f (λ t did. refl))) (pio_countless now.pio0.block);
-  pio1 = alike_but _ _ (pio.asks now.pio1.block) (answers_alone pio_lane 4 s.pio1.block s k start (seen_of 4 notes now.sram) f.is_start (lines4 s) (sees_start pio_lane 4 s.pio1.block s k now start notes f (λ t did. refl))) (pio_countless now.pio1.block);
-  outer = alike_but _ _ (outer.asks now.outer now.cycle) (answers_alone (peripheral_lane w) 5 s.outer s k start (seen_of 5 notes now.sram) f.is_start (lines5 s) (sees_start (peripheral_lane w) 5 s.outer s k now start notes f (λ t did. refl))) (outer_countless now.outer now.cycle);
+  core0 = alike _ _ (core_asks.asks now.core0 now.cycle) (answers_alone core_lane 0 s.core0 s k start (seen_of 0 notes now.sram) f.is_start (lines0 s) (sees0 s k now start notes f));
+  core1 = alike _ _ (core_asks.asks now.core1 now.cycle) (answers_alone core_lane 1 s.core1 s k start (seen_of 1 notes now.sram) f.is_start (lines1 s) (sees1 s k now start notes f));
+  dma = alike _ _ (dma_asks.asks now.dma.block) (answers_alone dma_lane 2 s.dma.block s k start (seen_of 2 notes now.sram) f.is_start (lines2 s) (sees2 s k now start notes f));
+  pio0 = alike _ _ (pio.asks now.pio0.block) (answers_alone pio_lane 3 s.pio0.block s k start (seen_of 3 notes now.sram) f.is_start (lines3 s) (sees_start pio_lane 3 s.pio0.block s k now start notes f (λ t did. refl)));
+  pio1 = alike _ _ (pio.asks now.pio1.block) (answers_alone pio_lane 4 s.pio1.block s k start (seen_of 4 notes now.sram) f.is_start (lines4 s) (sees_start pio_lane 4 s.pio1.block s k now start notes f (λ t did. refl)));
+  outer = alike _ _ (outer.asks now.outer now.cycle) (answers_alone (peripheral_lane w) 5 s.outer s k start (seen_of 5 notes now.sram) f.is_start (lines5 s) (sees_start (peripheral_lane w) 5 s.outer s k now start notes f (λ t did. refl)));
 }
 
 begins_later : (w : Setting) (s : State) (k : ℕ) (now : State) (start : Start) (notes : Notes) → AnswerAlone w s k now start notes → Begins w s k now (begun_from start notes now)
@@ -604,7 +589,7 @@ stands_here : (w : Setting) (s : State) (marks : List Mark) → First s marks �
 stands_here w s marks h = stands_at_start w s marks h.free h.knows h.none
 
 pub passes_first : (w : Setting) (s : State) (start : Start) (marks : List Mark) (goes : Bool) (now' : State) (notes' : Notes) (marks' : List Mark) → First s marks → is_launching s.core1 ≡ false → 0 < longest w s
-    → goes ≡ goes_first s → goes ≡ true → IsStart start s
+    → goes ≡ goes_first s → goes ≡ true → start ≡ start_of s
     → now' ≡ (if goes then next_by w (begun s) (wanted (begun s)) s else s)
     → marks' ≡ marks ++ (if goes then outer.marked w s.outer (begun s).outer ∷ [] else [])
     → notes' ≡ noted_by (wanted (begun s)) s.sram no_notes
@@ -688,65 +673,3 @@ no_states w s = refl
 pub no_marks : (w : Setting) (s : State) (marks : List Mark) → marks ≡ [] → marks ≡ marks_in w s 0
 unfolding marks_in
 no_marks w s marks e = e
-
--- ---- a window that has a cycle begins where nothing stops
-
-lane_calm : {S B : Type 0} (m : Meaning (Unit {0}) S B) (lane : ℕ) (before : S) (s : State) (n bound : ℕ) (did : B) → n ≡ alone_length m (around lane) tt before s.cycle s bound → 0 < n
-    → LaneBegins m lane before s 0 before s.cycle did → ends_wants (m.wanted did) ≡ false
-unfolding alone_length
-lane_calm m lane before s n bound did e lt h =
-    let t = lane_first m lane before s n (alone m (around lane) tt before s.cycle s n).talk refl in
-    sym (lane_test m lane before s n 0 before s.cycle (alone m (around lane) tt before s.cycle s n).talk did t (omega arith) h)
-    ∙ below_least (ends_at m (around lane) tt before s.cycle s) bound 0 (omega (arith, e, lt))
-
-none_at_first : (w : Setting) (s : State) → closes w s 0 ≡ false → ends_in (runs_of w s (longest w s)) 0 ≡ false
-unfolding closes
-none_at_first w s e =
-    let runs = runs_of w s (longest w s) in
-    (both_false (ends_in runs 0) (differs_in runs (states w s 0) 0) (both_false (ends_in runs 0 || differs_in runs (states w s 0) 0) (clash_in runs 0) e).0).0
-
-record HaveCycles (w : Setting) (s : State) : Type 0 where
-  core0 : 0 < (whole w s).core0
-  core1 : 0 < (whole w s).core1
-  dma : 0 < (whole w s).dma
-
-have_cycles : (w : Setting) (s : State) → ends_in (runs_of w s (longest w s)) 0 ≡ false → HaveCycles w s
-have_cycles w s e =
-    let a = both_false (nat_eq 0 (whole w s).core0) _ e in
-    let b = both_false (nat_eq 0 (whole w s).core1) _ a.1 in
-    let c = both_false (nat_eq 0 (whole w s).dma) _ b.1 in
-    let ne0 = differ_of 0 (whole w s).core0 a.0 in
-    let ne1 = differ_of 0 (whole w s).core1 b.0 in
-    let ne2 = differ_of 0 (whole w s).dma c.0 in
-    record { core0 = omega (arith, ne0); core1 = omega (arith, ne1); dma = omega (arith, ne2) }
-
-pub unstopped_whole : (w : Setting) (s : State) (n : ℕ) → n ≡ window_length w s → 0 < n → stop w s ≡ None
-unfolding window_length
-unstopped_whole w s n e lt =
-    let same : n ≡ least (closes w s) (longest w s) = e in
-    let few = (least_meets (closes w s) (longest w s)).within in
-    let low = short w s in
-    let ne : s.cycle ≢ w.limit = λ here. omega (arith, here, same, few, low, lt) in
-    let none : closes w s 0 ≡ false = below_least (closes w s) (longest w s) 0 (omega (arith, same, lt)) in
-    let have = have_cycles w s (none_at_first w s none) in
-    let b = begins_first w s in
-    let c0 = lane_calm core_lane 0 s.core0 s (whole w s).core0 (longest w s) (begun s).core0 refl have.core0 b.core0 in
-    let c1 = lane_calm core_lane 1 s.core1 s (whole w s).core1 (core1_bound s (longest w s)) (begun s).core1 refl have.core1 b.core1 in
-    let d = lane_calm dma_lane 2 s.dma.block s (whole w s).dma (longest w s) (begun s).dma refl have.dma b.dma in
-    runs_on w s ne (record {
-      calm0 = (first_ends (core.want_of (begun s).core0) want.Nothing c0).0;
-      calm1 = (first_ends (core.want_of (begun s).core1) want.Nothing c1).0;
-      calm_read = (first_ends (dma.want_of (begun s).dma.read) (dma.want_of (begun s).dma.write) d).0;
-      calm_write = (first_ends (dma.want_of (begun s).dma.read) (dma.want_of (begun s).dma.write) d).1;
-    })
-
--- none at all
-pub no_cycle : (w : Setting) (s t : State) (n : ℕ) → t ≡ states w s n → n ≤ 0 → t ≡ s
-unfolding states
-no_cycle w s t zero e le = e
-no_cycle w s t (suc n) e le = absurd (omega (arith, le))
-
-pub unstopped_behind : (w : Setting) (s t : State) (n : ℕ) → t ≡ states w s n → stop w s ≡ None → (n == 0) ≡ true → stop w t ≡ None
-unstopped_behind w s t n e none is_zero =
-    let zero : n ≡ 0 = same_number n 0 is_zero in
-    ap (stop w) (no_cycle w s t n e (omega (arith, zero))) ∙ none

@@ -14,17 +14,14 @@ use Rattle.lane_look.specs.declared.lane.Want.{Want}
 use Rattle.lane_look.specs.declared.lane.Want.TheVariants as want
 use Rattle.lane_look.specs.Replay.{Meaning, asked}
 use Rattle.lane_look.specs.Alone.{all_stored, begun_alone, alone, differs}
-use Rattle.dma_engine.specs.Asks.{is_pacing, may_ask_counts}
 use Rattle.outer_lane.specs.Lines.{outer_lines}
-use Rattle.rp_machine.specs.declared.answers.Counts.{Counts}
 use Rattle.rp_machine.specs.State.{State}
 use Rattle.rp_machine.specs.Sram.{half_of, ram_word}
-use Rattle.rp_machine.specs.Answers.{block_lines, lines_of, counts_of, packed, pacing_of, answer_of}
+use Rattle.rp_machine.specs.Answers.{block_lines, lines_of, answer_of}
 use Rattle.window_merge.specs.Lanes.{around, stored_by}
 use Rattle.window_merge.specs.Patch.{sram_after}
 use Rattle.window_merge.specs.declared.start.Matcher.{Matcher}
-use Rattle.window_merge.specs.declared.start.Start.{Start}
-use Rattle.window_merge.specs.Start.{start_of, with_counts, IsStart, word_by, guess, guessed, matched}
+use Rattle.window_merge.specs.Start.{start_of, word_by, guess, guessed, matched}
 use Rattle.window_merge.proofs.Agree.{all_same, itself, not_equal}
 use Rattle.window_merge.proofs.Banks.{HasBank, has_bank}
 use Rattle.window_merge.proofs.Copying.{outs_same}
@@ -65,31 +62,14 @@ pub lines5 : (s : State) → HasLines 5 s
 unfolding lines_of block_lines outer_lines
 lines5 s = refl
 
-counts_packed : (s : State) → packed (counts_of s) ≡ pacing_of s
-unfolding pacing_of
-counts_packed s = refl
-
 pub guess_is : (lane : ℕ) (s : State) (seen : ℕ → ℕ) (sees : List ℕ) (question : Ask) → HasLines lane s → ((i : ℕ) → i < 67584 → seen i ≡ slice_index sees i)
     → guess lane (start_of s) seen question ≡ answer_of lane (record s { sram = sees }) question
 guess_is lane s seen sees ask.Lines lines sight = lines ∙ lines_over lane s sees
 guess_is lane s seen sees (ask.Half address) lines sight = ap (λ word. half_of word address) (word_at seen sees (place_of address) (has_bank address) sight)
 guess_is lane s seen sees (ask.Word address) lines sight = word_at seen sees (place_of address) (has_bank address) sight
-guess_is lane s seen sees ask.Pacing lines sight = counts_packed s ∙ pacing_over s sees
+guess_is lane s seen sees ask.Pacing lines sight = pacing_over s sees
 guess_is lane s seen sees ask.Inputs lines sight = inputs_over s sees
 guess_is lane s seen sees (ask.Outs block) lines sight = outs_same block s ∙ outs_over block s sees
-
--- the start answers so but for the counts, and those too where the DMA engine may come to ask for them
-pub counts_told : (start : Start) (s : State) → IsStart start s → may_ask_counts s.dma.block ≡ true → start ≡ start_of s
-counts_told start s e h = e.same ∙ ap (λ (c : Counts). with_counts c (start_of s)) (e.counts h)
-
-pub guess_but : (lane : ℕ) (start : Start) (s : State) (seen : ℕ → ℕ) (question : Ask) → IsStart start s → is_pacing question ≡ false
-    → guess lane start seen question ≡ guess lane (start_of s) seen question
-guess_but lane start s seen ask.Lines e other = ap (λ (x : Start). guess lane x seen ask.Lines) e.same
-guess_but lane start s seen (ask.Half address) e other = refl
-guess_but lane start s seen (ask.Word address) e other = refl
-guess_but lane start s seen ask.Pacing e other = absurd (cc other)
-guess_but lane start s seen ask.Inputs e other = ap (λ (x : Start). guess lane x seen ask.Inputs) e.same
-guess_but lane start s seen (ask.Outs block) e other = ap (λ (x : Start). guess lane x seen (ask.Outs block)) e.same
 
 -- ---- what is around a lane that runs alone
 

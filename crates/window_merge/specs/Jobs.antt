@@ -144,7 +144,6 @@ abbrev pub HasLanesFrom : ℕ → List (Option LaneJob) → Type 0
 HasLanesFrom lane [] = Unit {0}
 HasLanesFrom lane (job ∷ jobs) = HasNumber lane job × HasLanesFrom (suc lane) jobs
 
--- each lane has both its jobs
-pub record IsWhole (crew : Crew) : Type 0 where
-  pub jobs : HasLanesFrom 0 crew.jobs
-  pub spare : HasLanesFrom 0 crew.spare
+-- each lane has its job
+abbrev pub IsWhole : Crew → Type 0
+IsWhole crew = HasLanesFrom 0 crew.jobs

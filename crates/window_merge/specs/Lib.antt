@@ -6,7 +6,6 @@ pub mod Judged
 pub mod Kinds
 pub mod Lanes
 pub mod Laws
-pub mod Marks
 pub mod Merging
 pub mod Notes
 pub mod Patch

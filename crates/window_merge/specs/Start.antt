@@ -12,15 +12,13 @@ use Rattle.lane_look.specs.Alone.{differs, ends_want}
 use Rattle.io_bank.specs.Levels.{is_used}
 use Rattle.m0_core.specs.Fetch as core_asks
 use Rattle.dma_engine.specs.Asks as dma_asks
-use Rattle.dma_engine.specs.Asks.{may_ask_counts}
 use Rattle.pio_block.specs.Cycle as pio
 use Rattle.outer_lane.specs.Step as outer
-use Rattle.rp_machine.specs.declared.answers.Counts.{Counts}
 use Rattle.rp_machine.specs.declared.begun.Begun.{Begun}
 use Rattle.rp_machine.specs.declared.wanted.Wanted.{Wanted}
 use Rattle.rp_machine.specs.State.{State}
 use Rattle.rp_machine.specs.Sram.{half_of}
-use Rattle.rp_machine.specs.Answers.{lines_of, counts_of, packed, inputs_of, outs_of, answer_of}
+use Rattle.rp_machine.specs.Answers.{lines_of, pacing_of, inputs_of, outs_of, answer_of}
 use Rattle.rp_machine.specs.Cycle.{begun, wanted}
 use Rattle.window_merge.specs.declared.notes.Notes.{Notes}
 use Rattle.window_merge.specs.declared.start.Start.{Start}
@@ -34,19 +32,11 @@ abbrev pub start_of : State → Start
 start_of s = record {
   lines0 = lines_of 0 s;
   lines1 = lines_of 1 s;
-  counts = counts_of s;
+  pacing = pacing_of s;
   inputs = inputs_of s;
   pio0 = outs_of 0 s;
   pio1 = outs_of 1 s;
 }
-
-abbrev pub with_counts : Counts → Start → Start
-with_counts counts start = record start { counts = counts }
-
--- that is kept, but for the counts that pace DMA channels where the DMA engine cannot come to ask for them: no other lane does
-pub record IsStart (start : Start) (s : State) : Type 0 where
-  pub same : start ≡ with_counts start.counts (start_of s)
-  pub counts : may_ask_counts s.dma.block ≡ true → start.counts ≡ counts_of s
 
 -- the word of a spot; 0 where it is not in SRAM
 abbrev pub word_by : (ℕ → ℕ) → Spot → ℕ
@@ -58,7 +48,7 @@ abbrev pub guess : ℕ → Start → (ℕ → ℕ) → Ask → ℕ
 guess lane start seen ask.Lines = if lane == 0 then start.lines0 else start.lines1
 guess lane start seen (ask.Half address) = half_of (word_by seen (place_of address)) address
 guess lane start seen (ask.Word address) = word_by seen (place_of address)
-guess lane start seen ask.Pacing = packed start.counts
+guess lane start seen ask.Pacing = start.pacing
 guess lane start seen ask.Inputs = start.inputs
 guess lane start seen (ask.Outs block) = if block == 0 then start.pio0 else start.pio1
 

@@ -96,7 +96,7 @@ impl Crew {
     ghost use Rattle.std.specs.Prelude.{IfOk};
     ghost use Rattle.window_merge.specs.Jobs.{IsWhole};
 
-    /// Both jobs of each lane, which hold nothing yet. Nothing that uses them takes memory.
+    /// A job for each lane, which holds nothing yet. Nothing that uses them takes memory.
     ///
     /// # Errors
     ///
@@ -105,11 +105,9 @@ impl Crew {
         ensures { IfOk result IsWhole }
     {
         let jobs = six_jobs(alloc)?;
-        let spare = six_jobs(alloc)?;
         let notes = Notes::new(alloc)?;
         Ok(Crew {
             jobs,
-            spare,
             notes,
             begun: Begun::nothing(),
         })

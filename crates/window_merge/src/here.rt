@@ -48,7 +48,7 @@ fn go<X: Device, L: Ledger>(
     ensures begun { lanes.new ≡ begun machine.new }
 {
     is_known(machine);
-    let start = Start::of(machine, lanes);
+    let start = Start::of(machine);
     notes.clear();
     step_noted(machine, world, notes, lanes, marks);
     steps.tick();

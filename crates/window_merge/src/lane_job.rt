@@ -35,14 +35,11 @@ pub struct LaneReport {
     pub ghost fits: { is_run_of lane run ≡ true },
 }
 
-/// Two jobs for each lane, in the order of the lanes, and room for what a window notes. None stands for a job that is somewhere
-/// else.
+/// A job for each lane, in the order of the lanes, and room for what a window notes. None stands for a job that is somewhere else.
 #[derive(Drop)]
 pub struct Crew {
-    /// The first ones.
+    /// The jobs.
     pub jobs: [Option<LaneJob>; 6],
-    /// The second ones.
-    pub spare: [Option<LaneJob>; 6],
     /// Room for the notes of a window on one thread.
     pub notes: Notes,
     /// What the lanes begin in the next cycle, once a run has begun.

@@ -19,7 +19,6 @@ pub mod position;
 mod questions;
 pub mod reports;
 pub mod runs;
-mod sieve;
 mod start;
 mod walk;
 

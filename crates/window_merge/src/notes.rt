@@ -5,7 +5,6 @@ ghost use Rattle.rp_machine.specs.Stores.{StoresInSram};
 ghost use Rattle.window_merge.specs.Notes.{first_of, write_of, original_word};
 
 use crate::patch::{last_of, with_lanes};
-use crate::sieve::{lacks, with_mark};
 use lane_look::Want;
 use ram_banks::Ram;
 use rp_base::access::{lanes_at, replicated};
@@ -22,21 +21,17 @@ const ROOM: usize = 1024;
 #[derive(Drop)]
 pub(crate) struct Noted {
     list: Vec<(u32, u32)>,
-    // a mark for each word
-    marks: u128,
 }
 
 impl Model for Noted {
     ghost use Rattle.std.specs.Prelude.{ℕ, List, ◌≤◌, length};
     ghost use Rattle.std.specs.Vec.{vec_capacity};
-    ghost use Rattle.window_merge.specs.Marks.{AreMarked};
 
     ghost Value = { List (ℕ × ℕ) };
 
     ghost view = { λ n. n.list.items };
 
-    ghost invariant = { λ n. (1024 ≤ vec_capacity n.list)
-        × ((length n.list.items ≤ 1024) × AreMarked n.marks n.list.items) };
+    ghost invariant = { λ n. (1024 ≤ vec_capacity n.list) × (length n.list.items ≤ 1024) };
 }
 
 impl Noted {
@@ -48,7 +43,7 @@ impl Noted {
         ensures { IfOk result (λ noted. noted ≡ []) }
     {
         let list = Vec::with_capacity(alloc, ROOM)?;
-        Ok(Noted { list, marks: 0 })
+        Ok(Noted { list })
     }
 
     /// The first word of an index; else this word.
@@ -56,11 +51,7 @@ impl Noted {
     fn first(&self, index: u32, word: u32) -> u32
         ensures { result ≡ first_of self.now index word }
     {
-        if lacks(self.marks, index) {
-            word
-        } else {
-            first_of(&self.list, index, word)
-        }
+        first_of(&self.list, index, word)
     }
 
     /// The last word of an index; else this word.
@@ -68,11 +59,7 @@ impl Noted {
     fn last(&self, index: u32, word: u32) -> u32
         ensures { result ≡ last_of self.now index word }
     {
-        if lacks(self.marks, index) {
-            word
-        } else {
-            last_of(&self.list, index, word)
-        }
+        last_of(&self.list, index, word)
     }
 
     /// There is none.
@@ -88,7 +75,6 @@ impl Noted {
         ensures { self.new ≡ [] }
     {
         self.list.clear();
-        self.marks = 0;
     }
 
     /// Adds a word at the end, if there is one.
@@ -98,7 +84,6 @@ impl Noted {
         ensures { self.new ≡ with_word word self.old }
     {
         if let Some(word) = word {
-            self.marks = with_mark(self.marks, word.0);
             self.list.push_reserved(word);
         }
     }

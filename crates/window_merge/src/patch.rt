@@ -4,7 +4,6 @@ ghost use Rattle.std.specs.Prelude.{◌≡◌, ◌<◌, ◌^◌};
 ghost use Rattle.ram_banks.specs.Lanes.{lane_byte, with_lanes};
 ghost use Rattle.window_merge.specs.Notes.{last_of};
 
-use crate::sieve::{lacks, with_mark};
 use arrayvec::ArrayVec;
 use lane_look::Want;
 use ram_banks::Ram;
@@ -19,19 +18,14 @@ const ROOM: usize = 512;
 #[derive(Drop)]
 pub(crate) struct WordLog {
     list: ArrayVec<(u32, u32), 512>,
-    // a mark for each word
-    marks: u128,
 }
 
 impl Model for WordLog {
     ghost use Rattle.std.specs.Prelude.{ℕ, List};
-    ghost use Rattle.window_merge.specs.Marks.{AreMarked};
 
     ghost Value = { List (ℕ × ℕ) };
 
     ghost view = { λ w. w.list.items };
-
-    ghost invariant = { λ w. AreMarked w.marks w.list.items };
 }
 
 /// The byte that a write leaves in a lane.
@@ -86,7 +80,6 @@ impl WordLog {
     {
         WordLog {
             list: ArrayVec::new(),
-            marks: 0,
         }
     }
 
@@ -95,19 +88,7 @@ impl WordLog {
         requires { length self.old < ROOM }
         ensures { self.new ≡ self.old ++ (index, word) ∷ [] }
     {
-        self.marks = with_mark(self.marks, index);
         self.list.push((index, word));
-    }
-
-    /// The last word of an index; else this word.
-    fn last(&self, index: u32, word: u32) -> u32
-        ensures { result ≡ last_of self.now index word }
-    {
-        if lacks(self.marks, index) {
-            word
-        } else {
-            last_of(self.list.as_slice(), index, word)
-        }
     }
 
     /// The word of an index: the one that was written last, or else that of SRAM.
@@ -115,7 +96,7 @@ impl WordLog {
         requires { index < 67584 }
         ensures { result ≡ slice_index (patched self.now ram.now) index }
     {
-        self.last(index, ram.read(index))
+        last_of(self.list.as_slice(), index, ram.read(index))
     }
 
     /// Writes some byte lanes of a word.

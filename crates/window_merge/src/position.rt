@@ -1,8 +1,8 @@
 //! The positions at which a run stands between windows and single cycles.
 
-ghost use Rattle.std.specs.Prelude.{◌≡◌, ◌≤◌, None, true};
+ghost use Rattle.std.specs.Prelude.{◌≡◌, ◌≤◌};
 ghost use Rattle.outer_lane.specs.Setting.{setting};
-ghost use Rattle.rp_machine.specs.Cycle.{begun, stop};
+ghost use Rattle.rp_machine.specs.Cycle.{begun};
 ghost use Rattle.window_merge.specs.Merging.{IsStep};
 ghost use Rattle.window_merge.specs.Jobs.{IsWhole};
 
@@ -26,8 +26,8 @@ pub enum Moved {
 }
 
 /// Moves the machine to the next position of a run: by a window where no access lasts and the last step was not a window without a
-/// cycle, behind which nothing stops, and else by one cycle. The marks of its cycles are left in `marks`, and each counts as one of the
-/// steps. The crew has what the lanes begin in the next cycle, before and after, so that they begin once in each.
+/// cycle, and else by one cycle. The marks of its cycles are left in `marks`, and each counts as one of the steps. The crew has what the
+/// lanes begin in the next cycle, before and after, so that they begin once in each.
 pub fn advance<X: Device, L: Ledger>(
     machine: &mut Machine,
     world: &World<'_, X>,
@@ -39,37 +39,21 @@ pub fn advance<X: Device, L: Ledger>(
     requires number { machine.old.cycle ≤ world.now.limit }
     requires crew { IsWhole crew.old }
     requires begun { crew.old.begun ≡ begun machine.old }
-    requires unstopped { after_empty ≡ true → stop (setting X.meaning world.now) machine.old ≡ None }
     ensures moved { IsStep (setting X.meaning world.now) after_empty result machine.old machine.new
         marks.old marks.new steps.old steps.new }
     ensures crew { IsWhole crew.new }
     ensures begun { crew.new.begun ≡ begun machine.new }
 {
-    if after_empty {
-        machine.cycle_on(world, &crew.begun, marks, steps);
-        machine.begin_into(world, &mut crew.begun);
-        return Moved::Cycle;
-    }
-    if machine.fabric.holds() {
+    if after_empty || machine.fabric.holds() {
         if let Some(why) = machine.cycle_of(world, &crew.begun, marks, steps) {
             return Moved::Stopped(why);
         }
         machine.begin_into(world, &mut crew.begun);
         return Moved::Cycle;
     }
-    let length = window(
-        machine,
-        world,
-        &mut crew.notes,
-        &mut crew.begun,
-        marks,
-        steps,
-    );
-    if length > 0 {
-        return Moved::Window(length);
+    if let Some(why) = machine.stop_of(world, &crew.begun) {
+        return Moved::Stopped(why);
     }
-    match machine.stop_of(world, &crew.begun) {
-        Some(why) => Moved::Stopped(why),
-        None => Moved::Window(length),
-    }
+    let Crew { notes, begun, .. } = crew;
+    Moved::Window(window(machine, world, notes, begun, marks, steps))
 }

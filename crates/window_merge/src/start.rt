@@ -5,9 +5,8 @@ ghost use Rattle.lane_look.specs.Asking.{Runs, answered};
 ghost use Rattle.lane_look.specs.Replay.{asked};
 ghost use Rattle.lane_look.specs.Alone.{differs};
 ghost use Rattle.dma_engine.specs.Asks as dma;
-ghost use Rattle.dma_engine.specs.Asks.{may_ask_counts};
 ghost use Rattle.m0_core.specs.Fetch.{asks};
-ghost use Rattle.rp_machine.specs.Answers.{answer_of, counts_of, lines_of};
+ghost use Rattle.rp_machine.specs.Answers.{answer_of, lines_of};
 ghost use Rattle.window_merge.specs.Notes.{seen_of};
 ghost use Rattle.rp_machine.specs.Cycle.{begun};
 ghost use Rattle.window_merge.specs.Start.{guess, matched, differs_core0, differs_outer, differs_from};
@@ -16,11 +15,11 @@ use crate::copies::half_of;
 use crate::notes::Notes;
 use dma_engine::BegunTransfer;
 use lane_look::{Ask, Device, Lane, Look};
-use m0_core::{Act, Core, Doing};
+use m0_core::{Core, Doing};
 use outer_lane::{SeenOutputs, World};
 use rp_base::map::{Spot, place};
+use rp_machine::Machine;
 use rp_machine::begun::Begun;
-use rp_machine::{Counts, Machine};
 
 /// What the state at the start of a window answers, but for words of SRAM.
 #[derive(Clone, Copy)]
@@ -29,8 +28,8 @@ pub(crate) struct Start {
     lines0: u128,
     /// The interrupt lines of core 1.
     lines1: u128,
-    /// The counts that pace DMA channels, where the DMA engine may come to ask for them.
-    counts: Counts,
+    /// The counts that pace DMA channels, six bits each.
+    pacing: u128,
     /// The input words.
     inputs: u128,
     /// What PIO block 0 puts out.
@@ -39,57 +38,19 @@ pub(crate) struct Start {
     pio1: u128,
 }
 
-/// The interrupt lines of a core fill a word: their type keeps it.
-fn fill_a_word(machine: &Machine, number: u8)
-    ensures { lines_of number machine.now < 2 ^ 32 }
-{
-    let _lines = machine.lines(number);
-}
-
-/// The interrupt lines of a core of that number, which begins this: it was told them, but where it is asleep.
-#[inline(always)]
-fn lines_told(machine: &Machine, number: u8, core: &Core, doing: &Doing) -> u128
-    requires { doing.now ≡ answered (answer_of number machine.now)
-        (asks core.now machine.now.cycle) }
-    ensures { result ≡ lines_of number machine.now }
-{
-    fill_a_word(machine, number);
-    match doing.act {
-        Act::Asleep => u128::from(machine.lines(number)),
-        _ => u128::from(doing.lines),
-    }
-}
-
-/// The counts that pace DMA channels, where the DMA engine may come to ask for them; elsewhere none are found.
-#[inline(always)]
-fn counts_told(machine: &Machine) -> Counts
-    ensures { may_ask_counts machine.now.dma.block ≡ true → result ≡ counts_of machine.now }
-{
-    if machine.dma.block.may_ask_counts() {
-        return machine.counts();
-    }
-    Counts {
-        pio0: [0; 8],
-        pio1: [0; 8],
-        uarts: [0; 4],
-    }
-}
-
 impl Start {
     ghost use Rattle.std.specs.Prelude.{◌≡◌};
-    ghost use Rattle.window_merge.specs.Start.{IsStart};
+    ghost use Rattle.window_merge.specs.Start.{start_of};
 
-    /// What a machine answers now, whose lanes begin this. The counts are found only where the DMA engine may come to ask for
-    /// them.
+    /// What a machine answers now.
     #[inline(never)]
-    pub(crate) fn of(machine: &Machine, lanes: &Begun) -> Start
-        requires { lanes.now ≡ begun machine.now }
-        ensures { IsStart result machine.now }
+    pub(crate) fn of(machine: &Machine) -> Start
+        ensures { result ≡ start_of machine.now }
     {
         Start {
-            lines0: lines_told(machine, 0, &machine.core0, &lanes.core0),
-            lines1: lines_told(machine, 1, &machine.core1, &lanes.core1),
-            counts: counts_told(machine),
+            lines0: machine.answer(0, Ask::Lines),
+            lines1: machine.answer(1, Ask::Lines),
+            pacing: machine.answer(2, Ask::Pacing),
             inputs: machine.answer(3, Ask::Inputs),
             pio0: machine.answer(5, Ask::Outs(0)),
             pio1: machine.answer(5, Ask::Outs(1)),
@@ -141,7 +102,7 @@ impl Matcher<'_> {
             }
             Ask::Half(address) => u128::from(half_of(self.word(address), address)),
             Ask::Word(address) => u128::from(self.word(address)),
-            Ask::Pacing => self.start.counts.packed(),
+            Ask::Pacing => self.start.pacing,
             Ask::Inputs => self.start.inputs,
             Ask::Outs(block) => {
                 if block == 0 {

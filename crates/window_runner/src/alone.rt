@@ -87,8 +87,6 @@ fn step<X: Device, T: Tape, L: Ledger>(
     requires number { machine.old.cycle ≤ world.now.limit }
     requires crew { IsWhole crew.old }
     requires begun { crew.old.begun ≡ begun machine.old }
-    requires unstopped { counts.old.after_empty ≡ true → stop (setting X.meaning world.now)
-        machine.old ≡ None }
     requires windows { counts.old.windows
         ≤ machine.old.cycle + (if counts.old.after_empty then 1 else 0) }
     requires cycles { counts.old.cycles ≤ machine.old.cycle }
@@ -104,8 +102,6 @@ fn step<X: Device, T: Tape, L: Ledger>(
     ensures steps { steps.new + machine.old.cycle ≡ steps.old + machine.new.cycle }
     ensures crew { IsWhole crew.new }
     ensures begun { crew.new.begun ≡ begun machine.new }
-    ensures unstopped { counts.new.after_empty ≡ true → stop_in result ≡ None → stop (setting
-        X.meaning world.now) machine.new ≡ None }
 {
     is_bounded(world);
     let cycle = machine.number();
@@ -124,7 +120,7 @@ fn step<X: Device, T: Tape, L: Ledger>(
 }
 
 /// Runs a machine by windows and single cycles up to its first stop, and tells the events of all its cycles to a tape, on one
-/// thread. Each cycle counts as a step. The crew has both jobs of each lane, before and after. It takes no memory.
+/// thread. Each cycle counts as a step. The crew has the job of each lane, before and after. It takes no memory.
 ///
 /// # Errors
 ///

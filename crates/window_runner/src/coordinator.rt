@@ -1,6 +1,6 @@
 //! What the coordinator does: it opens the windows' numbers, helps with their pieces, and merges what was found.
 
-ghost use Rattle.std.specs.Prelude.{◌≡◌, ◌+◌, ◌≤◌, ◌^◌, false, length, IfSome, None, [], if◌then◌else◌, IfOk, OnErr};
+ghost use Rattle.std.specs.Prelude.{◌≡◌, ◌+◌, ◌≤◌, ◌^◌, false, true, length, IfSome, [], if◌then◌else◌, IfOk, OnErr};
 ghost use Rattle.outer_lane.specs.Setting.{setting};
 ghost use Rattle.bus_fabric.specs.State.{has_hold};
 ghost use Rattle.trace_text.specs.Tape.{Tells};
@@ -9,14 +9,14 @@ ghost use Rattle.rp_machine.specs.Run.{last_state, states, unless_stopped};
 ghost use Rattle.turn_board.specs.Answers.{EachLane};
 ghost use Rattle.window_merge.specs.Window.{next_position, window_length};
 ghost use Rattle.window_merge.specs.Merging.{marks_in, IsStep};
-ghost use Rattle.window_merge.specs.Jobs.{HasNumber, IsJobFor, IsTrueIn};
+ghost use Rattle.window_merge.specs.Jobs.{AreAlone, IsJobFor, IsTrueIn};
 ghost use Rattle.window_runner.specs.Told.{all_shown, step_events, run_shown};
 ghost use Rattle.window_runner.specs.Alone.{IsRan, IsOnRun, FailsWithin, position_at, stop_in};
 ghost use Rattle.window_runner.specs.Seated.{IsSeatAt, IsReady};
 
 use crate::alone::{Counts, Ran, count_window, tell_step};
 use crate::piece::{Found, Piece};
-use crate::sets::{Sets, give_back_all, has_report, pieces_of, settle_all};
+use crate::sets::{Sets, all_accepted, give_all_back, pieces_of};
 use crate::worker::pass;
 use lane_look::{Device, Marks};
 use outer_lane::World;
@@ -28,15 +28,19 @@ use std::sync::ledger::Ledger;
 use trace_text::tape::Tape;
 use trace_text::writer::SinkFault;
 use turn_board::{Board, Gather, Master, Seat, See, Six, Ticket};
-use window_merge::Moved;
 use window_merge::here::window as window_here;
 use window_merge::reports::merge;
+use window_merge::{LaneJob, LaneReport, Moved};
 
 /// How many numbers may be open before a window, so that six more can be.
 const MOST: u64 = (1 << 62) - 6;
 
-/// A window of fewer cycles is short: a job of the next one would cost more than it saves.
-const SHORT: u16 = 16;
+/// A window of so many cycles is long.
+const LONG: u16 = 128;
+
+/// Behind a window that went over the board so many long ones are made by the coordinator alone. A lane runs for 256 cycles at most, some ten
+/// microseconds; the copies that its job is made of, and two threads that wait for each other, take longer than that.
+const SHARE: u8 = 63;
 
 /// Draws tickets and passes those that are open, and keeps the first one that is not.
 fn help<'w, X: Device, G: Gate>(
@@ -66,20 +70,6 @@ fn help<'w, X: Device, G: Gate>(
     kept
 }
 
-/// No report for any lane.
-fn nothing() -> Six<Found>
-    ensures { EachLane (λ lane found. found.report ≡ None) result }
-{
-    Six {
-        l0: Found { report: None },
-        l1: Found { report: None },
-        l2: Found { report: None },
-        l3: Found { report: None },
-        l4: Found { report: None },
-        l5: Found { report: None },
-    }
-}
-
 /// What the coordinator only reads.
 #[derive(Drop)]
 pub(crate) struct Desk<'b, 'w, X: Device, G: Gate, H: Wait> {
@@ -99,8 +89,8 @@ pub(crate) struct Lead<'w, X: Device> {
     /// The ticket that its seat drew and that was not open yet.
     pub(crate) kept: Option<Ticket>,
     pub(crate) sets: Box<Sets>,
-    /// Whether the last window was short.
-    pub(crate) after_short: bool,
+    /// How many long windows are made here before one goes over the board.
+    pub(crate) left: u8,
 }
 
 /// Opens six numbers with these pieces, helps, and gathers what was found once all is done.
@@ -110,12 +100,12 @@ fn gather<'w, X: Device, G: Gate, H: Wait>(
     pieces: Six<Piece>,
 ) -> Six<Found>
     requires ready { IsReady desk.now.board.now (λ w. w.now ≡ desk.now.world.now) lead.old.opened
-        lead.old.kept lead.old.master lead.old.seat lead.old.sets.value.spare }
+        lead.old.kept lead.old.master lead.old.seat }
     requires pieces { EachLane (λ lane piece. IfSome piece.job (IsJobFor (setting X.meaning
         desk.now.world.now))) pieces }
     requires few { lead.old.opened + 6 ≤ 2 ^ 62 }
     ensures ready { IsReady desk.now.board.now (λ w. w.now ≡ desk.now.world.now) lead.new.opened
-        lead.new.kept lead.new.master lead.new.seat lead.new.sets.value.spare }
+        lead.new.kept lead.new.master lead.new.seat }
     ensures begun { lead.new.sets.value.begun ≡ lead.old.sets.value.begun }
     ensures found { EachLane (λ lane found. IfSome found.report (IsTrueIn (setting X.meaning
         desk.now.world.now))) result }
@@ -130,58 +120,85 @@ fn gather<'w, X: Device, G: Gate, H: Wait>(
     }
 }
 
-/// The reports of the window from the machine's state that come over the board. Nothing goes over it behind a short window, where the
-/// peripherals have another number of words than the device, or where no more numbers can be opened.
-fn found_in<'w, X: Device, G: Gate, H: Wait>(
+/// The next window goes over the board: it is its turn, six more numbers can be opened, and the peripherals have as many words as the
+/// device, for whose world the jobs are made.
+fn goes_over<'w, X: Device, G: Gate, H: Wait>(
     desk: &Desk<'_, 'w, X, G, H>,
-    lead: &mut Lead<'w, X>,
+    lead: &Lead<'w, X>,
     machine: &Machine,
-) -> Six<Found>
-    requires ready { IsReady desk.now.board.now (λ w. w.now ≡ desk.now.world.now) lead.old.opened
-        lead.old.kept lead.old.master lead.old.seat lead.old.sets.value.spare }
-    ensures ready { IsReady desk.now.board.now (λ w. w.now ≡ desk.now.world.now) lead.new.opened
-        lead.new.kept lead.new.master lead.new.seat lead.new.sets.value.spare }
-    ensures begun { lead.new.sets.value.begun ≡ lead.old.sets.value.begun }
-    ensures found { EachLane (λ lane found. IfSome found.report (IsTrueIn (setting X.meaning
-        desk.now.world.now))) result }
+) -> bool
+    ensures few { result ≡ true → lead.now.opened + 6 ≤ 2 ^ 62 }
+    ensures words { result ≡ true → length machine.now.outer.device ≡ (X.meaning
+        desk.now.world.now.device.now).count }
 {
-    if lead.after_short || lead.opened > MOST || !machine.outer.has_device(desk.world.device) {
-        return nothing();
-    }
-    let pieces = pieces_of(machine, desk.world, &mut lead.sets.first);
-    gather(desk, lead, pieces)
+    lead.left == 0 && lead.opened <= MOST && machine.outer.has_device(desk.world.device)
 }
 
-/// Moves the machine by a window of these reports, and gives its length. Of a lane without a report that is accepted the run is made
-/// here.
-fn merge_found<X: Device, L: Ledger>(
+/// Moves the machine by a window of six reports, and gives its length.
+fn merge_six<X: Device, L: Ledger>(
     machine: &mut Machine,
     world: &World<'_, X>,
-    found: Six<Found>,
-    sets: &mut Sets,
+    reports: [LaneReport; 6],
+    jobs: &mut Six<Option<LaneJob>>,
     marks: &mut Marks,
     steps: &mut Steps<L>,
 ) -> u16
     requires number { machine.old.cycle ≤ world.now.limit }
     requires free { has_hold machine.old.fabric ≡ false }
-    requires found { EachLane (λ lane found. IfSome found.report (IsTrueIn (setting X.meaning
-        world.now))) found }
-    requires spare { EachLane HasNumber sets.old.spare }
+    requires reports { AreAlone (setting X.meaning world.now) machine.old reports }
     ensures length { result ≡ window_length (setting X.meaning world.now) machine.old }
     ensures state { machine.new ≡ states (setting X.meaning world.now) machine.old result }
     ensures number { machine.new.cycle ≡ machine.old.cycle + result }
     ensures marks { marks.new ≡ marks_in (setting X.meaning world.now) machine.old result }
     ensures steps { steps.new ≡ steps.old + result }
-    ensures spare { EachLane HasNumber sets.new.spare }
 {
-    let mut reports = settle_all(machine, world, found, &mut *sets);
+    let mut reports = reports;
     let length = merge(machine, world, &mut reports, marks, steps);
-    give_back_all(reports, &mut *sets);
+    give_all_back(reports, jobs);
     length
 }
 
-/// Moves the machine by a window whose lanes are run by all who draw tickets, and gives its length. Where no lane has a report the
-/// window is made here, as on one thread: what the lanes begin is known.
+/// Moves the machine by a window that goes over the board, and gives its length: by the runs of its lanes, where all six come back and are
+/// accepted, and else in one pass. It stands out of line, since its many large values would be cleared for each window.
+#[inline(never)]
+fn window_over<'w, X: Device, G: Gate, H: Wait, L: Ledger>(
+    desk: &Desk<'_, 'w, X, G, H>,
+    lead: &mut Lead<'w, X>,
+    machine: &mut Machine,
+    marks: &mut Marks,
+    steps: &mut Steps<L>,
+) -> u16
+    requires number { machine.old.cycle ≤ desk.now.world.now.limit }
+    requires free { has_hold machine.old.fabric ≡ false }
+    requires ready { IsReady desk.now.board.now (λ w. w.now ≡ desk.now.world.now) lead.old.opened
+        lead.old.kept lead.old.master lead.old.seat }
+    requires begun { lead.old.sets.value.begun ≡ begun machine.old }
+    requires few { lead.old.opened + 6 ≤ 2 ^ 62 }
+    requires words { length machine.old.outer.device ≡ (X.meaning
+        desk.now.world.now.device.now).count }
+    ensures length { result ≡ window_length (setting X.meaning desk.now.world.now) machine.old }
+    ensures state { machine.new ≡ states (setting X.meaning desk.now.world.now) machine.old result }
+    ensures number { machine.new.cycle ≡ machine.old.cycle + result }
+    ensures marks { marks.new ≡ marks_in (setting X.meaning desk.now.world.now) machine.old result }
+    ensures steps { steps.new ≡ steps.old + result }
+    ensures ready { IsReady desk.now.board.now (λ w. w.now ≡ desk.now.world.now) lead.new.opened
+        lead.new.kept lead.new.master lead.new.seat }
+    ensures begun { lead.new.sets.value.begun ≡ begun machine.new }
+{
+    lead.left = SHARE;
+    let pieces = pieces_of(machine, desk.world, &mut lead.sets.jobs);
+    let found = gather(desk, lead, pieces);
+    let Sets { jobs, notes, begun } = &mut *lead.sets;
+    if let Some(reports) = all_accepted(machine, desk.world, found, jobs) {
+        let length = merge_six(machine, desk.world, reports, jobs, marks, steps);
+        machine.begin_into(desk.world, begun);
+        return length;
+    }
+    window_here(machine, desk.world, notes, begun, marks, steps)
+}
+
+/// Moves the machine by a window, and gives its length: over the board where it goes over it, and else in one pass, as on one thread. What
+/// the lanes begin is known, before and after.
 fn window<'w, X: Device, G: Gate, H: Wait, L: Ledger>(
     desk: &Desk<'_, 'w, X, G, H>,
     lead: &mut Lead<'w, X>,
@@ -192,7 +209,7 @@ fn window<'w, X: Device, G: Gate, H: Wait, L: Ledger>(
     requires number { machine.old.cycle ≤ desk.now.world.now.limit }
     requires free { has_hold machine.old.fabric ≡ false }
     requires ready { IsReady desk.now.board.now (λ w. w.now ≡ desk.now.world.now) lead.old.opened
-        lead.old.kept lead.old.master lead.old.seat lead.old.sets.value.spare }
+        lead.old.kept lead.old.master lead.old.seat }
     requires begun { lead.old.sets.value.begun ≡ begun machine.old }
     ensures length { result ≡ window_length (setting X.meaning desk.now.world.now) machine.old }
     ensures state { machine.new ≡ states (setting X.meaning desk.now.world.now) machine.old result }
@@ -200,19 +217,17 @@ fn window<'w, X: Device, G: Gate, H: Wait, L: Ledger>(
     ensures marks { marks.new ≡ marks_in (setting X.meaning desk.now.world.now) machine.old result }
     ensures steps { steps.new ≡ steps.old + result }
     ensures ready { IsReady desk.now.board.now (λ w. w.now ≡ desk.now.world.now) lead.new.opened
-        lead.new.kept lead.new.master lead.new.seat lead.new.sets.value.spare }
+        lead.new.kept lead.new.master lead.new.seat }
+    ensures begun { lead.new.sets.value.begun ≡ begun machine.new }
 {
-    let found = found_in(desk, lead, machine);
-    if has_report(&found) {
-        let length = merge_found(machine, desk.world, found, &mut *lead.sets, marks, steps);
-        lead.after_short = length < SHORT;
-        return length;
+    if goes_over(desk, lead, machine) {
+        return window_over(desk, lead, machine, marks, steps);
     }
-    // a value that only one way uses up is ten times as dear to check
-    drop(found);
     let Sets { notes, begun, .. } = &mut *lead.sets;
     let length = window_here(machine, desk.world, notes, begun, marks, steps);
-    lead.after_short = length < SHORT;
+    if length >= LONG {
+        lead.left = lead.left.saturating_sub(1);
+    }
     length
 }
 
@@ -228,20 +243,22 @@ fn go<'w, X: Device, G: Gate, H: Wait, L: Ledger>(
 ) -> Moved
     requires number { machine.old.cycle ≤ desk.now.world.now.limit }
     requires ready { IsReady desk.now.board.now (λ w. w.now ≡ desk.now.world.now) lead.old.opened
-        lead.old.kept lead.old.master lead.old.seat lead.old.sets.value.spare }
+        lead.old.kept lead.old.master lead.old.seat }
+    requires begun { lead.old.sets.value.begun ≡ begun machine.old }
     ensures moved { IsStep (setting X.meaning desk.now.world.now) after_empty result machine.old
         machine.new marks.old marks.new steps.old steps.new }
     ensures ready { IsReady desk.now.board.now (λ w. w.now ≡ desk.now.world.now) lead.new.opened
-        lead.new.kept lead.new.master lead.new.seat lead.new.sets.value.spare }
+        lead.new.kept lead.new.master lead.new.seat }
+    ensures begun { lead.new.sets.value.begun ≡ begun machine.new }
 {
-    if after_empty || machine.fabric.holds() {
-        return match machine.cycle(desk.world, marks, steps) {
-            Some(why) => Moved::Stopped(why),
-            None => Moved::Cycle,
-        };
-    }
     let begun = &mut lead.sets.begun;
-    machine.begin_into(desk.world, begun);
+    if after_empty || machine.fabric.holds() {
+        if let Some(why) = machine.cycle_of(desk.world, begun, marks, steps) {
+            return Moved::Stopped(why);
+        }
+        machine.begin_into(desk.world, begun);
+        return Moved::Cycle;
+    }
     if let Some(why) = machine.stop_of(desk.world, begun) {
         return Moved::Stopped(why);
     }
@@ -260,7 +277,8 @@ fn step<'w, X: Device, G: Gate, H: Wait, T: Tape, L: Ledger>(
 ) -> Result<Option<Why>, SinkFault>
     requires number { machine.old.cycle ≤ desk.now.world.now.limit }
     requires ready { IsReady desk.now.board.now (λ w. w.now ≡ desk.now.world.now) lead.old.opened
-        lead.old.kept lead.old.master lead.old.seat lead.old.sets.value.spare }
+        lead.old.kept lead.old.master lead.old.seat }
+    requires begun { lead.old.sets.value.begun ≡ begun machine.old }
     requires windows { counts.old.windows
         ≤ machine.old.cycle + (if counts.old.after_empty then 1 else 0) }
     requires cycles { counts.old.cycles ≤ machine.old.cycle }
@@ -275,7 +293,8 @@ fn step<'w, X: Device, G: Gate, H: Wait, T: Tape, L: Ledger>(
         ≤ counts.old.cycles + machine.new.cycle }
     ensures steps { steps.new + machine.old.cycle ≡ steps.old + machine.new.cycle }
     ensures ready { IsReady desk.now.board.now (λ w. w.now ≡ desk.now.world.now) lead.new.opened
-        lead.new.kept lead.new.master lead.new.seat lead.new.sets.value.spare }
+        lead.new.kept lead.new.master lead.new.seat }
+    ensures begun { lead.new.sets.value.begun ≡ begun machine.new }
 {
     is_bounded(desk.world);
     let cycle = machine.number();
@@ -304,7 +323,7 @@ pub(crate) fn run<'w, X: Device, G: Gate, H: Wait, T: Tape, L: Ledger>(
 ) -> Result<Ran, SinkFault>
     requires number { machine.old.cycle ≤ desk.now.world.now.limit }
     requires ready { IsReady desk.now.board.now (λ w. w.now ≡ desk.now.world.now) lead.old.opened
-        lead.old.kept lead.old.master lead.old.seat lead.old.sets.value.spare }
+        lead.old.kept lead.old.master lead.old.seat }
     ensures told { Tells T.took T.missed tape.old tape.new (T.faults tape.old) (T.faults tape.new)
         (run_shown (setting X.meaning desk.now.world.now) machine.old) result }
     ensures ran { IfOk result (IsRan (setting X.meaning desk.now.world.now) machine.old) }
@@ -315,7 +334,7 @@ pub(crate) fn run<'w, X: Device, G: Gate, H: Wait, T: Tape, L: Ledger>(
     ensures on_run { IsOnRun (setting X.meaning desk.now.world.now) machine.old machine.new }
     ensures steps { steps.new + machine.old.cycle ≡ steps.old + machine.new.cycle }
     ensures ready { IsReady desk.now.board.now (λ w. w.now ≡ desk.now.world.now) lead.new.opened
-        lead.new.kept lead.new.master lead.new.seat lead.new.sets.value.spare }
+        lead.new.kept lead.new.master lead.new.seat }
 {
     let mut counts = Counts {
         windows: 0,
@@ -323,6 +342,7 @@ pub(crate) fn run<'w, X: Device, G: Gate, H: Wait, T: Tape, L: Ledger>(
         after_empty: false,
     };
     let mut marks = Marks::new();
+    machine.begin_into(desk.world, &mut lead.sets.begun);
     'steps: loop {
         match step(desk, lead, machine, &mut counts, &mut marks, tape, steps) {
             Ok(None) => continue 'steps,

@@ -58,7 +58,7 @@ impl<'b, 'w, X: Device, G: Gate> Bench<'b, 'w, X, G> {
     ) -> Result<Ran, SinkFault>
         requires number { machine.old.cycle ≤ self.world.now.limit }
         requires ready { IsReady self.board.now (λ w. w.now ≡ self.world.now) self.lead.opened
-            self.lead.kept self.lead.master self.lead.seat self.lead.sets.value.spare }
+            self.lead.kept self.lead.master self.lead.seat }
         ensures told { Tells T.took T.missed tape.old tape.new (T.faults tape.old) (T.faults
             tape.new) (run_shown (setting X.meaning self.entry.world.now) machine.old) result }
         ensures left { Leaves T.took T.missed tape.old tape.new (setting X.meaning
@@ -96,7 +96,7 @@ fn both<'b, 'w, X: Device, G: Gate, T: Tape, L: Ledger, R: Threads + Wait + Sync
     requires hall { All (λ seat. (seat.board ≡ hall.board.now)
         × (seat.made_for.now ≡ hall.world.now) × IsFree seat.state) hall.seats.items }
     requires ready { IsReady bench.board.now (λ w. w.now ≡ bench.world.now) bench.lead.opened
-        bench.lead.kept bench.lead.master bench.lead.seat bench.lead.sets.value.spare }
+        bench.lead.kept bench.lead.master bench.lead.seat }
     ensures told { Tells T.took T.missed tape.old tape.new (T.faults tape.old) (T.faults tape.new)
         (run_shown (setting X.meaning bench.entry.world.now) machine.old) result }
     ensures left { Leaves T.took T.missed tape.old tape.new (setting X.meaning
@@ -119,7 +119,7 @@ fn both<'b, 'w, X: Device, G: Gate, T: Tape, L: Ledger, R: Threads + Wait + Sync
             requires number { IfSome bench (λ b. machine.now.cycle ≤ b.world.now.limit) }
             requires ready { IfSome bench (λ b. IsReady b.board.now
                 (λ w. w.now ≡ b.world.now) b.lead.opened
-                b.lead.kept b.lead.master b.lead.seat b.lead.sets.value.spare) }
+                b.lead.kept b.lead.master b.lead.seat) }
             ensures told { IfSome bench.entry (λ b. Tells T.took T.missed tape.entry.now
                 tape.exit.now (T.faults tape.entry.now) (T.faults tape.exit.now) (run_shown (setting
                 X.meaning b.world.now) machine.entry.now) result) }
@@ -186,7 +186,7 @@ fn run_at<'w, X: Device, G: Gate, T: Tape, L: Ledger, R: Threads + Wait + Sync>(
         seat,
         kept: None,
         sets,
-        after_short: false,
+        left: 0,
     };
     let bench = Bench {
         board,

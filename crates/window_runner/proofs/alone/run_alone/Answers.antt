@@ -9,7 +9,7 @@ use Rattle.window_runner.proofs.alone.run_alone.Goals as goal
 pub steps-init : goal.steps-init
 steps-init g c =
     let w = setting_of c.args.world.now.script.now (g.X.Device.meaning c.args.world.now.device.now) c.args.world.now.limit in
-    (running_first w c.args.machine.now _ c.requires.number, taken_nothing _ _ _ _ g.met.T.Tape.takes_none, record { jobs = c.requires.crew.jobs; spare = c.requires.crew.spare }, c.begin_into.ensures, λ e. absurd (cc e))
+    (running_first w c.args.machine.now _ c.requires.number, taken_nothing _ _ _ _ g.met.T.Tape.takes_none, c.requires.crew, c.begin_into.ensures)
 
 pub steps-smaller : goal.steps-smaller
 steps-smaller g c =
@@ -31,7 +31,6 @@ steps-preserved g c =
           g.met.T.Tape.takes_in_turn c.steps.invariant.0.reached c.steps.invariant.1 (h.cause ∙ c.in-Ok-None.field-0-is) position told,
       h.crew,
       h.begun,
-      λ e. h.unstopped e c.in-Ok-None.field-0-is,
     )
 
 pub returns-in-Ok-Some-clause-told : goal.returns-in-Ok-Some-clause-told

@@ -1,6 +1,5 @@
-use Rattle.std.proofs.Common.{refl, ap, sym, ◌∙◌}
+use Rattle.std.proofs.Common.{refl, ap}
 use Rattle.outer_lane.specs.Setting.{setting_of}
-use Rattle.window_merge.proofs.Passing.{unstopped_behind}
 use Rattle.window_runner.proofs.CycleEvents.{shown_none}
 use Rattle.window_runner.proofs.Stepping.{goes_by_window, goes_by_cycle, tells_window, tells_cycle, one_window_more, cycles_more, marks_behind, mark_behind, cycle_counts, cycle_later}
 use Rattle.window_runner.proofs.Telling.{tells_none, tells_same}
@@ -75,9 +74,3 @@ returns-in-Cycle-clause-counted g c =
     let h = c.in-Cycle.ensures.moved in
     cycle_later (setting_of c.args.world.now.script.now (g.X.Device.meaning c.args.world.now.device.now) c.args.world.now.limit)
     c.args.machine.now c.advance.new.machine c.args.counts.now.cycles h.2
-
-pub returns-in-Window-clause-unstopped : goal.returns-in-Window-clause-unstopped
-returns-in-Window-clause-unstopped g c =
-    let h = c.in-Window.ensures.moved in
-    λ e none. unstopped_behind (setting_of c.args.world.now.script.now (g.X.Device.meaning c.args.world.now.device.now) c.args.world.now.limit)
-    c.args.machine.now c.advance.new.machine c.in-Window.length h.3 h.0 (sym c.count_window.ensures.after_empty ∙ e)

@@ -9,7 +9,7 @@ use Rattle.window_runner.proofs.coordinator.run.Goals as goal
 pub steps-init : goal.steps-init
 steps-init g c =
     let w = setting_of c.args.desk.now.world.now.script.now (g.X.Device.meaning c.args.desk.now.world.now.device.now) c.args.desk.now.world.now.limit in
-    (running_first w c.args.machine.now _ c.requires.number, taken_nothing _ _ _ _ g.met.T.Tape.takes_none, c.requires.ready)
+    (running_first w c.args.machine.now _ c.requires.number, taken_nothing _ _ _ _ g.met.T.Tape.takes_none, c.requires.ready, c.begin_into.ensures)
 
 pub steps-smaller : goal.steps-smaller
 steps-smaller g c =
@@ -30,6 +30,7 @@ steps-preserved g c =
       taken_step _ _ _ _ _ _ _ _ w c.args.machine.now (position_at c.steps.machine c.steps.counts) (position_at c.step.new.machine c.step.new.counts) _
           g.met.T.Tape.takes_in_turn c.steps.invariant.0.reached c.steps.invariant.1 (h.cause ∙ c.in-Ok-None.field-0-is) position told,
       h.ready,
+      h.begun,
     )
 
 pub returns-in-Ok-Some-clause-told : goal.returns-in-Ok-Some-clause-told

@@ -1,5 +1,6 @@
 use Rattle.std.proofs.Common.{◌≡◌}
 use Rattle.outer_lane.specs.Setting.{setting_of}
+use Rattle.rp_machine.specs.Cycle.{begun}
 use Rattle.window_runner.specs.Seated.{IsReady}
 use Rattle.window_merge.proofs.Positions.{left_of}
 use Rattle.window_runner.specs.Told.{run_shown}
@@ -14,7 +15,8 @@ invariant-steps g l =
     Running w l.initial.machine (position_at l.machine l.counts) l.initial.steps l.steps
     × TakenBefore g.T.Tape.took l.initial.tape l.tape (g.T.Tape.faults l.initial.tape) (g.T.Tape.faults l.tape)
     (run_shown w l.initial.machine) (run_shown w l.machine)
-    × IsReady l.desk.board.now (λ w. w.now ≡ l.desk.world.now) l.lead.opened l.lead.kept l.lead.master l.lead.seat l.lead.sets.value.spare
+    × IsReady l.desk.board.now (λ w. w.now ≡ l.desk.world.now) l.lead.opened l.lead.kept l.lead.master l.lead.seat
+    × (l.lead.sets.value.begun ≡ begun l.machine)
 
 abbrev pub decreases-steps : goal.decreases-steps
 decreases-steps g l =
