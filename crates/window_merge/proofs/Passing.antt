@@ -1,11 +1,10 @@
 -- A window in one pass: in each cycle the lanes begin what their runs alone begin, and the pass ends where the window closes.
-use Rattle.std.proofs.Common.{◌≡◌, ◌≢◌, ℕ, zero, suc, ◌+◌, ◌*◌, ◌<◌, ◌≤◌, ◌==◌, ◌||◌, ◌&&◌, ◌⊎◌, Bool, true, false, not, if◌then◌else◌, inl, inr, List, [], ◌∷◌, ◌++◌, length, None, nat_eq, refl, ap, sym, ◌∙◌, subst, add-one, arith}
+use Rattle.std.proofs.Common.{◌≡◌, ◌≢◌, ℕ, zero, suc, ◌+◌, ◌*◌, ◌<◌, ◌≤◌, ◌==◌, ◌||◌, ◌&&◌, ◌⊎◌, Bool, true, false, not, if◌then◌else◌, inl, inr, List, [], ◌∷◌, ◌++◌, length, refl, ap, sym, ◌∙◌, subst, add-one, arith}
 use Rattle.std.specs.Prelude.{slice_index}
 use Rattle.std.proofs.lemmas.Bool.Decides.{eqb_tells}
 use Rattle.lane_look.specs.Asking.{Asking, answered}
 use Rattle.lane_look.specs.declared.lane.Ask.{Ask}
 use Rattle.lane_look.specs.declared.lane.Want.{Want}
-use Rattle.lane_look.specs.declared.lane.Want.TheVariants as want
 use Rattle.lane_look.specs.declared.marks.Mark.{Mark}
 use Rattle.lane_look.specs.Replay.{Meaning, Entry, asked}
 use Rattle.lane_look.specs.Alone.{all_stored, alone, alone_length, ends_want, ends_wants, ends_at, wanted_in, differs, least}
@@ -26,10 +25,10 @@ use Rattle.rp_machine.specs.declared.deed.Deed.{Deed}
 use Rattle.rp_machine.specs.declared.deed.Deed.TheVariants as deed
 use Rattle.rp_machine.specs.State.{State}
 use Rattle.rp_machine.specs.Answers.{answer_of}
-use Rattle.rp_machine.specs.Cycle.{begun, wanted, stored, stop, next_by}
+use Rattle.rp_machine.specs.Cycle.{begun, wanted, stored, next_by}
 use Rattle.rp_machine.specs.Run.{states}
 use Rattle.window_merge.specs.Lanes.{core_lane, dma_lane, pio_lane, peripheral_lane, around, is_launching, core1_bound, runs_of}
-use Rattle.window_merge.specs.Window.{longest, ends_in, differs_in, clash, clash_in, closes, window_length}
+use Rattle.window_merge.specs.Window.{longest, ends_in, clash, window_length}
 use Rattle.rp_machine.specs.Laws.{KnowsSio}
 use Rattle.window_merge.specs.Merging.{Rests, begun_by, left_by, differs_by, wants_of, fits, marks_in}
 use Rattle.window_merge.specs.Patch.{patched, sram_after}
@@ -37,7 +36,7 @@ use Rattle.window_merge.specs.declared.notes.Notes.{Notes}
 use Rattle.window_merge.specs.declared.start.Start.{Start}
 use Rattle.window_merge.specs.Notes.{is_none, seen_of, seen_word, is_clean, write_of, original_word, own_word, with_word, no_notes, noted, noted_by, HasRoom}
 use Rattle.window_merge.specs.Start.{start_of, guess, begun_from, differs_from, ends_wanted, goes_by, goes_first, goes_on}
-use Rattle.window_merge.proofs.Agree.{both_false, differ_of, same_number}
+use Rattle.window_merge.proofs.Agree.{both_false}
 use Rattle.window_merge.proofs.Calm.{IsCalm, calm_sram}
 use Rattle.window_merge.proofs.Copying.{answered_same, asked_same}
 use Rattle.window_merge.proofs.Meeting.{least_meets}
@@ -45,7 +44,7 @@ use Rattle.window_merge.proofs.Lanes.{LaneStands, lane_first, below_least, ends_
 use Rattle.window_merge.proofs.Noting.{Restores, undoes_on, own_on, still, sight, no_word, with_word-length, in_sram, after_want}
 use Rattle.window_merge.proofs.Reading.{read_only}
 use Rattle.window_merge.proofs.Starting.{HasLines, lines0, lines1, lines2, lines3, lines4, lines5, guess_is, around_over, stored_sram, differs_never}
-use Rattle.window_merge.proofs.Windows.{Lengths, AreLengths, AreOn, Stands, AreTold, Tries, all_told, stands_first, fitted, stands_next, ends_tried, ends_run, ends_full, they_end, runs_on, short, first_ends}
+use Rattle.window_merge.proofs.Windows.{Lengths, AreLengths, AreOn, Stands, AreTold, Tries, all_told, stands_first, fitted, stands_next, ends_tried, ends_run, ends_full, they_end}
 
 -- ---- the whole runs alone
 

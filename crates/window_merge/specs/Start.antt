@@ -1,6 +1,6 @@
 -- What the state at the start of a window answers each lane, while the machine goes on: what is not in SRAM is kept, and SRAM is
 -- as the lane sees it. The project's own.
-use Rattle.std.specs.Prelude.{◌≡◌, nat_eq, ℕ, ◌==◌, ◌||◌, ◌&&◌, not, Bool, true, false, if◌then◌else◌, List, [], ◌∷◌}
+use Rattle.std.specs.Prelude.{◌≡◌, nat_eq, ℕ, ◌==◌, ◌||◌, ◌&&◌, not, Bool, false, if◌then◌else◌, List, [], ◌∷◌}
 use Rattle.rp_base.specs.declared.map.Spot.{Spot}
 use Rattle.rp_base.specs.declared.map.Spot.TheVariants as spot
 use Rattle.rp_base.specs.Map.{place_of}
@@ -9,7 +9,6 @@ use Rattle.lane_look.specs.declared.lane.Ask.{Ask}
 use Rattle.lane_look.specs.declared.lane.Ask.TheVariants as ask
 use Rattle.lane_look.specs.Replay.{asked}
 use Rattle.lane_look.specs.Alone.{differs, ends_want}
-use Rattle.io_bank.specs.Levels.{is_used}
 use Rattle.m0_core.specs.Fetch as core_asks
 use Rattle.dma_engine.specs.Asks as dma_asks
 use Rattle.pio_block.specs.Cycle as pio
