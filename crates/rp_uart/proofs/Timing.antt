@@ -1,7 +1,8 @@
 -- A frame takes the time of its bits: how much of it has passed is the number of its bit times the time of a bit, and what
 -- has passed of the bit.
-use Rattle.std.proofs.Common.{◌≡◌, ◌∙◌, ℕ, zero, suc, ◌+◌, ◌-◌, ◌*◌, ◌/◌, ◌<◌, ◌≤◌, Bool, true, false, cond, Some, None, refl, sym, ap, arith}
+use Rattle.std.proofs.Common.{◌≡◌, ◌∙◌, ℕ, zero, suc, ◌+◌, ◌-◌, ◌*◌, ◌/◌, ◌<◌, ◌≤◌, Bool, true, false, cond, Some, None, refl, sym, ap, subst, arith}
 use Rattle.std.specs.Prelude.{◌&&◌, nat_lt, nat_le}
+use Rattle.std.proofs.Math.Bool.{and-false}
 use Rattle.std.proofs.Math.Nat.{add-mul, mul-le-mul_right, mul-add-div_right, div-eq_of_lt}
 use Rattle.std.proofs.lemmas.Bool.{leb-true, le-leb, lt-leb, leb-false}
 use Rattle.std.proofs.lemmas.Grind.{common_steps}
@@ -17,7 +18,7 @@ use Rattle.rp_uart.specs.Receiver.{after_receiving}
 use Rattle.rp_uart.specs.Sender.{bit_time, is_over, level_of, with_sender, is_last_bit, after_frame, after_sender, after_sending, ended_byte}
 use Rattle.rp_uart.specs.State.{State}
 use Rattle.rp_uart.specs.Step.{is_running, output_of, heard_of, after_step, sent_byte}
-use Rattle.rp_uart.proofs.Kept.{sending-keeps, receiving-keeps}
+use Rattle.rp_uart.proofs.Kept.{sends-alone, hears-alone}
 
 -- ---- numbers
 
@@ -68,10 +69,6 @@ over-rest d r h w = omega arith
 
 over-less : (b d r t n : ℕ) → b * d + r ≡ t → d ≤ r + 4 → t + 4 < n * d → b + 1 < n
 over-less b d r t n e h early = fewer (b + 1) n d (t + 4) (omega (arith, one_more b d)) early
-
-and-false : (c : Bool) → (c && false) ≡ false
-and-false true = refl
-and-false false = refl
 
 -- whether the last bit is over
 last_over-by : (b d r t total : ℕ) → b * d + r ≡ t → total ≡ b * d + d → (c : Bool) → nat_le d (r + 4) ≡ c →
@@ -179,16 +176,16 @@ pub record Same (s t : State) : Type 0 where
 
 pub same-sending : (s : State) → Same s (after_sending s)
 same-sending s = record {
-  line = sending-keeps (λ (t : State). t.line) (λ a b c t. refl) s;
-  divisor = sending-keeps (λ (t : State). t.divisor) (λ a b c t. refl) s;
-  control = sending-keeps (λ (t : State). t.control) (λ a b c t. refl) s;
+  line = ap (λ (t : State). t.line) (sends-alone s);
+  divisor = ap (λ (t : State). t.divisor) (sends-alone s);
+  control = ap (λ (t : State). t.control) (sends-alone s);
 }
 
 same-receiving : (line : Bool) (s : State) → Same s (after_receiving line s)
 same-receiving line s = record {
-  line = receiving-keeps (λ (t : State). t.line) (λ a b c d e f t. refl) line s;
-  divisor = receiving-keeps (λ (t : State). t.divisor) (λ a b c d e f t. refl) line s;
-  control = receiving-keeps (λ (t : State). t.control) (λ a b c d e f t. refl) line s;
+  line = ap (λ (t : State). t.line) (hears-alone line s);
+  divisor = ap (λ (t : State). t.divisor) (hears-alone line s);
+  control = ap (λ (t : State). t.control) (hears-alone line s);
 }
 
 pub same-both : (s t u : State) → Same s t → Same t u → Same s u
@@ -208,10 +205,10 @@ pub running-as : (s t : State) → Same s t → is_running s ≡ true → is_run
 running-as s t a e = ap (λ (d : Divisor). nat_lt 0 d.integer) a.divisor ∙ e
 
 pub sender-received : (line : Bool) (s : State) → (after_receiving line s).sender ≡ s.sender
-sender-received line s = receiving-keeps (λ (t : State). t.sender) (λ a b c d e f t. refl) line s
+sender-received line s = ap (λ (t : State). t.sender) (hears-alone line s)
 
 pub to_send-received : (line : Bool) (s : State) → (after_receiving line s).to_send ≡ s.to_send
-to_send-received line s = receiving-keeps (λ (t : State). t.to_send) (λ a b c d e f t. refl) line s
+to_send-received line s = ap (λ (t : State). t.to_send) (hears-alone line s)
 
 pub sender-step : (line : Bool) (s : State) → is_running s ≡ true → (after_step line s).sender ≡ (after_sending s).sender
 sender-step line s e = ap (λ (t : State). t.sender) (runs line s e) ∙ sender-received (heard_of line s) (after_sending s)
@@ -224,13 +221,7 @@ pub record On (byte time : ℕ) (s t : State) : Type 0 where
   pub sent : Sent byte time (bit_time s.divisor) t.sender
 
 moved : (byte time : ℕ) (d e : ℕ) (x y : Sender) → e ≡ d → y ≡ x → Sent byte time e x → Sent byte time d y
-moved byte time d e x y p q a = record {
-  bit = a.bit;
-  elapsed = a.elapsed;
-  is = q ∙ a.is;
-  passed = ap (λ (k : ℕ). a.bit * k + a.elapsed) (sym p) ∙ a.passed;
-  within = rw (sym p) a.within;
-}
+moved byte time d e x y p q a = subst (λ (v : ℕ). Sent byte time v y) p (subst (λ (z : Sender). Sent byte time e z) (sym q) a)
 
 pub frame_time-as : (byte : ℕ) (s t : State) → Same s t → frame_time byte t ≡ frame_time byte s
 frame_time-as byte s t a =
@@ -255,27 +246,16 @@ on-next line s t byte time runs a early =
       sent = moved byte (time + 4) _ _ _ _ d (sender-step line t running) (goes-on s t byte time runs a early).sent;
     }
 
-at-time : (byte t u : ℕ) (s x : State) → t ≡ u → On byte t s x → On byte u s x
-at-time byte t u s x e a = record {
-  same = a.same;
-  sent = record {
-    bit = a.sent.bit;
-    elapsed = a.sent.elapsed;
-    is = a.sent.is;
-    passed = a.sent.passed ∙ e;
-    within = a.sent.within;
-  };
-}
-
 on-after : (s : State) (levels : ℕ → Bool) (byte elapsed n : ℕ) → is_running s ≡ true →
     On byte elapsed s s → elapsed + 4 * n < frame_time byte s → On byte (elapsed + 4 * n) s (after_cycles levels n s)
 on-after s levels byte elapsed zero runs a early =
-    at-time byte elapsed (elapsed + 4 * zero) s s (omega arith) a
+    let e : elapsed ≡ elapsed + 4 * zero = omega arith in
+    subst (λ (time : ℕ). On byte time s s) e a
 on-after s levels byte elapsed (suc n) runs a early =
     let e : elapsed + 4 * n + 4 ≡ elapsed + 4 * suc n = omega arith in
     let sooner : elapsed + 4 * n + 4 < frame_time byte s = lt-from (elapsed + 4 * n) (elapsed + 4 * suc n) (frame_time byte s) e early in
     let now : elapsed + 4 * n < frame_time byte s = lt-less (elapsed + 4 * n) (frame_time byte s) sooner in
-    at-time byte (elapsed + 4 * n + 4) (elapsed + 4 * suc n) s (after_cycles levels (suc n) s) e
+    subst (λ (time : ℕ). On byte time s (after_cycles levels (suc n) s)) e
     (on-next (levels n) s (after_cycles levels n s) byte (elapsed + 4 * n) runs
     (on-after s levels byte elapsed n runs a now) sooner)
 
