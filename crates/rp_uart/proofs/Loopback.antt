@@ -139,24 +139,6 @@ high-level line (senders.Frame f) h = level_at-stop line f.byte f.bit h
 output-high : (s t : State) → Same s t → IsHigh s.line t.sender → output_of t ≡ true
 output-high s t a h = ap (level_of t.sender) a.line ∙ high-level s.line t.sender h
 
-receiver-sent : (t : State) → (after_sending t).receiver ≡ t.receiver
-receiver-sent t = ap (λ (x : State). x.receiver) (sends-alone t)
-
-received-sent : (t : State) → (after_sending t).received ≡ t.received
-received-sent t = ap (λ (x : State). x.received) (sends-alone t)
-
-lost-sent : (t : State) → (after_sending t).lost ≡ t.lost
-lost-sent t = ap (λ (x : State). x.lost) (sends-alone t)
-
-receiver-waited : (t : State) → (after_waiting t).receiver ≡ t.receiver
-receiver-waited t = ap (λ (x : State). x.receiver) (waits-alone t)
-
-received-waited : (t : State) → (after_waiting t).received ≡ t.received
-received-waited t = ap (λ (x : State). x.received) (waits-alone t)
-
-lost-waited : (t : State) → (after_waiting t).lost ≡ t.lost
-lost-waited t = ap (λ (x : State). x.lost) (waits-alone t)
-
 -- a cycle in which the receiver is told this level, and leaves this
 step-to : (line h : Bool) (t y : State) → is_running t ≡ true → heard_of line t ≡ h → after_receiving h (after_sending t) ≡ y →
     after_step line t ≡ y
@@ -175,11 +157,11 @@ rests-next line byte s t running loopback a =
     let silent = silent-sending s.line t (record { to_send = a.to_send; high = a.high }) in
     let told_high : heard_of line t ≡ true =
     loops line t (loopback-as s t a.same loopback) ∙ output-high s t a.same a.high in
-    let is : u ≡ after_waiting x = step-to line true t (after_waiting x) on told_high (idle-high x (receiver-sent t ∙ a.receiver)) in
+    let is : u ≡ after_waiting x = step-to line true t (after_waiting x) on told_high (idle-high x (ap (λ (z : State). z.receiver) (sends-alone t) ∙ a.receiver)) in
     record {
       same = same-both s t u a.same (same-step line t on);
-      receiver = ap (λ (y : State). y.receiver) is ∙ (receiver-waited x ∙ (receiver-sent t ∙ a.receiver));
-      received = ap (λ (y : State). y.received) is ∙ (received-waited x ∙ (received-sent t ∙ a.received));
+      receiver = ap (λ (y : State). y.receiver) is ∙ (ap (λ (z : State). z.receiver) (waits-alone x) ∙ (ap (λ (z : State). z.receiver) (sends-alone t) ∙ a.receiver));
+      received = ap (λ (y : State). y.received) is ∙ (ap (λ (z : State). z.received) (waits-alone x) ∙ (ap (λ (z : State). z.received) (sends-alone t) ∙ a.received));
       to_send = to_send-step line t on ∙ silent.to_send;
       high = rw (sender-step line t on) silent.high;
     }
@@ -276,13 +258,13 @@ module _ (line : Bool) (byte time : ℕ) (s t : State) (running : is_running s �
   to_send-u = to_send-step line t on_t ∙ ((goes-on s t byte time running a.on soon).to_send ∙ a.to_send)
 
   receiver-x : x.receiver ≡ receivers.Frame f
-  receiver-x = receiver-sent t ∙ a.is
+  receiver-x = ap (λ (z : State). z.receiver) (sends-alone t) ∙ a.is
 
   received-x : x.received ≡ s.received
-  received-x = received-sent t ∙ a.received
+  received-x = ap (λ (z : State). z.received) (sends-alone t) ∙ a.received
 
   lost-x : x.lost ≡ false
-  lost-x = lost-sent t ∙ a.lost
+  lost-x = ap (λ (z : State). z.lost) (sends-alone t) ∙ a.lost
 
   divisor-x : x.divisor ≡ s.divisor
   divisor-x = (same-sending t).divisor ∙ a.on.same.divisor
@@ -308,13 +290,13 @@ module _ (line : Bool) (byte time : ℕ) (s t : State) (running : is_running s �
         on = on_u;
         bit = a.bit;
         elapsed = a.elapsed + 4;
-        is = ap (λ (z : State). z.receiver) is ∙ receiver-waited y;
+        is = ap (λ (z : State). z.receiver) is ∙ ap (λ (z : State). z.receiver) (waits-alone y);
         passed = more-passed a.bit d a.elapsed time a.passed;
         within = leb-false d (a.elapsed + 4) o;
         early = a.early;
-        received = ap (λ (z : State). z.received) is ∙ (received-waited y ∙ received-x);
+        received = ap (λ (z : State). z.received) (is ∙ waits-alone y) ∙ received-x;
         to_send = to_send-u;
-        lost = ap (λ (z : State). z.lost) is ∙ (lost-waited y ∙ lost-x);
+        lost = ap (λ (z : State). z.lost) (is ∙ waits-alone y) ∙ lost-x;
       }
 
   further : is_over a.elapsed s.divisor ≡ true → is_stop f s ≡ false → Hears byte (time + 4) s u
@@ -336,7 +318,7 @@ module _ (line : Bool) (byte time : ℕ) (s t : State) (running : is_running s �
         elapsed = a.elapsed + 4 - d;
         is =
             ap (λ (z : State). z.receiver) is
-            ∙ (receiver-waited y
+            ∙ (ap (λ (z : State). z.receiver) (waits-alone y)
             ∙ (ap (λ (v : Divisor). receivers.Frame (sampled heard f (a.elapsed + 4 - bit_time v))) divisor-x
             ∙ ap
             (λ (k : ℕ). receivers.Frame (record { samples = k; bit = a.bit + 1; elapsed = a.elapsed + 4 - bit_time s.divisor }))
@@ -344,9 +326,9 @@ module _ (line : Bool) (byte time : ℕ) (s t : State) (running : is_running s �
         passed = next-passed a.bit d a.elapsed time a.passed full;
         within = next-rest d a.elapsed large a.within;
         early = omega arith;
-        received = ap (λ (z : State). z.received) is ∙ (received-waited y ∙ received-x);
+        received = ap (λ (z : State). z.received) (is ∙ waits-alone y) ∙ received-x;
         to_send = to_send-u;
-        lost = ap (λ (z : State). z.lost) is ∙ (lost-waited y ∙ lost-x);
+        lost = ap (λ (z : State). z.lost) (is ∙ waits-alone y) ∙ lost-x;
       }
 
   stops : is_over a.elapsed s.divisor ≡ true → is_stop f s ≡ true → Rests byte s u
@@ -432,7 +414,7 @@ begins line byte s a =
     let first : x ≡ with_first (Some byte) 0 s = sending-idle s a.sender ∙ next-first byte s a.sends a.to_send in
     let high : heard_of line s ≡ true = loops line s a.loops ∙ ap (λ (q : Sender). level_of q s.line) a.sender in
     let is : after_step line s ≡ after_waiting x =
-    step-to line true s (after_waiting x) a.running high (idle-high x (receiver-sent s ∙ a.receiver)) in
+    step-to line true s (after_waiting x) a.running high (idle-high x (ap (λ (z : State). z.receiver) (sends-alone s) ∙ a.receiver)) in
     record {
       on = record {
         same = same-step line s a.running;
@@ -444,12 +426,12 @@ begins line byte s a =
           within = omega arith;
         };
       };
-      receiver = ap (λ (z : State). z.receiver) is ∙ (receiver-waited x ∙ (receiver-sent s ∙ a.receiver));
-      received = ap (λ (z : State). z.received) is ∙ (received-waited x ∙ received-sent s);
+      receiver = ap (λ (z : State). z.receiver) (is ∙ waits-alone x) ∙ ap (λ (z : State). z.receiver) (sends-alone s) ∙ a.receiver;
+      received = ap (λ (z : State). z.received) (is ∙ waits-alone x) ∙ ap (λ (z : State). z.received) (sends-alone s);
       to_send =
           to_send-step line s a.running
           ∙ (ap (λ (z : State). z.to_send) first ∙ (first-to_send byte s ∙ ap (drop 1) a.to_send));
-      lost = ap (λ (z : State). z.lost) is ∙ (lost-waited x ∙ (lost-sent s ∙ a.complete));
+      lost = ap (λ (z : State). z.lost) (is ∙ waits-alone x) ∙ ap (λ (z : State). z.lost) (sends-alone s) ∙ a.complete;
     }
 
 frame-long : (n d k : ℕ) → 64 ≤ d → n ≡ k + 1 → 4 < n * d
@@ -477,7 +459,7 @@ begins-next line byte s t a b =
     ap (λ (c : Control). c.enabled && c.receive) ((same-sending t).control ∙ b.on.same.control) ∙ a.receives in
     let y = with_receiver (first_heard x) x in
     let is : after_step line t ≡ after_waiting y =
-    step-to line false t (after_waiting y) on_t low (idle-low x (receiver-sent t ∙ b.receiver) can) in
+    step-to line false t (after_waiting y) on_t low (idle-low x (ap (λ (z : State). z.receiver) (sends-alone t) ∙ b.receiver) can) in
     let soon = frame-lasts byte s large in
     record {
       on = on-next line s t byte 0 a.running b.on soon;
@@ -485,16 +467,16 @@ begins-next line byte s t a b =
       elapsed = d / 2;
       is =
           ap (λ (z : State). z.receiver) is
-          ∙ (receiver-waited y
+          ∙ (ap (λ (z : State). z.receiver) (waits-alone y)
           ∙ ap (λ (v : Divisor). receivers.Frame (record { samples = 0; bit = 0; elapsed = bit_time v / 2 }))
           ((same-sending t).divisor ∙ b.on.same.divisor));
       passed = first-passed d;
       within = omega arith;
       early = omega arith;
-      received = ap (λ (z : State). z.received) is ∙ (received-waited y ∙ (received-sent t ∙ b.received));
+      received = ap (λ (z : State). z.received) (is ∙ waits-alone y) ∙ ((ap (λ (z : State). z.received) (sends-alone t) ∙ b.received));
       to_send =
           to_send-step line t on_t ∙ ((goes-on s t byte 0 a.running b.on soon).to_send ∙ b.to_send);
-      lost = ap (λ (z : State). z.lost) is ∙ (lost-waited y ∙ (lost-sent t ∙ b.lost));
+      lost = ap (λ (z : State). z.lost) (is ∙ waits-alone y) ∙ ((ap (λ (z : State). z.lost) (sends-alone t) ∙ b.lost));
     }
 
 -- ---- all cycles
