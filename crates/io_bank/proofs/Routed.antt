@@ -219,23 +219,6 @@ routed_inputs-is s levels =
     bits_below-is (input_of s levels) 30 (routed_inputs (routes_of s.controls s.pads) levels) (inputs-lt s levels)
     (λ i h. inputs-at s levels i h)
 
--- the pins of a function
-pub uart-is : (controls pads : List ℕ) → (routes_of controls pads).uart ≡ pins_with controls 0 5 2
-unfolding routes_of
-uart-is controls pads = refl
-
-pub pwm-is : (controls pads : List ℕ) → (routes_of controls pads).pwm ≡ pins_with controls 0 5 4
-unfolding routes_of
-pwm-is controls pads = refl
-
-pub pio0-is : (controls pads : List ℕ) → (routes_of controls pads).pio0 ≡ pins_with controls 0 5 6
-unfolding routes_of
-pio0-is controls pads = refl
-
-pub pio1-is : (controls pads : List ℕ) → (routes_of controls pads).pio1 ≡ pins_with controls 0 5 7
-unfolding routes_of
-pio1-is controls pads = refl
-
 -- ---- sets of pins
 
 pub others-is : (f : ℕ → Bool) → bit_xor (2 ^ 30 - 1) (pins_where f) ≡ pins_where (λ pin. not (f pin))
