@@ -24,7 +24,7 @@ use Rattle.rp_uart.proofs.Frames.{frame_length-sum, level_at-start}
 use Rattle.rp_uart.proofs.Heard.{heard_law, level_at-stop}
 use Rattle.rp_base.proofs.Rows.{either-way}
 use Rattle.rp_uart.proofs.Kept.{next-none, sends-alone, waits-alone, first-by, stored-by}
-use Rattle.rp_uart.proofs.Timing.{bit_time-large, one_more, times_of, fewer, Same, same-sending, same-step, same-both, running-as, runs, to_send-received, sender-step, On, goes-on, on-next, level_by}
+use Rattle.rp_uart.proofs.Timing.{bit_time-large, one_more, over-rest, times_of, fewer, Same, same-sending, same-step, same-both, running-as, runs, to_send-received, sender-step, On, goes-on, on-next, level_by}
 
 -- ---- what receiving comes to
 
@@ -183,9 +183,6 @@ more-passed b d r t e = omega arith
 next-passed : (b d r t : ℕ) → b * d + r + 4 ≡ t + d / 2 → d ≤ r + 4 → (b + 1) * d + (r + 4 - d) + 4 ≡ t + 4 + d / 2
 next-passed b d r t e o = omega (arith, one_more b d)
 
-next-rest : (d r : ℕ) → 64 ≤ d → r < d → r + 4 - d < d
-next-rest d r h w = omega arith
-
 no_false_start : (h : Bool) (bit : ℕ) → (bit ≡ 0 → h ≡ false) → (h && bit == 0) ≡ false
 no_false_start true zero k = k refl
 no_false_start true (suc bit) k = ne_eqb (suc bit) 0 (λ e. omega arith)
@@ -216,9 +213,6 @@ entry-is line byte bit l h lost e p q r =
     ∙ (ap (λ (b : Bool). entry line samples stop b) r
     ∙ (ap (λ (b : ℕ). record { byte = b; errors = with_overrun false (errors_of line samples stop) }) heard.heard
     ∙ ap (λ (e : Errors). record { byte = byte % 2 ^ width_of line.width; errors = with_overrun false e }) heard.errors))))
-
-first-passed : (d : ℕ) → 0 * d + d / 2 + 4 ≡ 4 + d / 2
-first-passed d = omega arith
 
 later_bit : (b c d r q t : ℕ) → b * d + r + 4 ≡ t + d / 2 → d ≤ r + 4 → c * d + q ≡ t + 4 → q < d → b ≤ c
 later_bit b c d r q t e o f w =
@@ -324,7 +318,7 @@ module _ (line : Bool) (byte time : ℕ) (s t : State) (running : is_running s �
             (λ (k : ℕ). receivers.Frame (record { samples = k; bit = a.bit + 1; elapsed = a.elapsed + 4 - bit_time s.divisor }))
             (level-bit s byte heard a.bit level ∙ ap (samples_of s.line byte) one)));
         passed = next-passed a.bit d a.elapsed time a.passed full;
-        within = next-rest d a.elapsed large a.within;
+        within = over-rest d a.elapsed large a.within;
         early = omega arith;
         received = ap (λ (z : State). z.received) (is ∙ waits-alone y) ∙ received-x;
         to_send = to_send-u;
@@ -404,9 +398,6 @@ record Begins (byte : ℕ) (s t : State) : Type 0 where
   to_send : t.to_send ≡ []
   lost : t.lost ≡ false
 
-nothing-yet : (d : ℕ) → 0 * d + 0 ≡ 0
-nothing-yet d = omega arith
-
 begins : (line : Bool) (byte : ℕ) (s : State) → HearsItself byte s → Begins byte s (after_step line s)
 begins line byte s a =
     let x = after_sending s in
@@ -422,7 +413,7 @@ begins line byte s a =
           bit = 0;
           elapsed = 0;
           is = sender-step line s a.running ∙ (ap (λ (z : State). z.sender) first ∙ first-sender byte s);
-          passed = nothing-yet (bit_time s.divisor);
+          passed = omega arith;
           within = omega arith;
         };
       };
@@ -451,7 +442,7 @@ begins-next line byte s t a b =
     let large : 64 ≤ d = bit_time-large s.divisor a.running in
     let on_t = running-as s t b.on.same a.running in
     let x = after_sending t in
-    let zero_bit : 0 / d ≡ 0 = times_of 0 d 0 0 (nothing-yet d) (omega arith) in
+    let zero_bit : 0 / d ≡ 0 = times_of 0 d 0 0 (omega arith) (omega arith) in
     let low : heard_of line t ≡ false =
     loops line t (loopback-as s t b.on.same a.loops)
     ∙ (level_by s t byte 0 b.on ∙ level_at-start s.line byte (0 / d) zero_bit) in
@@ -470,7 +461,7 @@ begins-next line byte s t a b =
           ∙ (ap (λ (z : State). z.receiver) (waits-alone y)
           ∙ ap (λ (v : Divisor). receivers.Frame (record { samples = 0; bit = 0; elapsed = bit_time v / 2 }))
           ((same-sending t).divisor ∙ b.on.same.divisor));
-      passed = first-passed d;
+      passed = omega arith;
       within = omega arith;
       early = omega arith;
       received = ap (λ (z : State). z.received) (is ∙ waits-alone y) ∙ ((ap (λ (z : State). z.received) (sends-alone t) ∙ b.received));

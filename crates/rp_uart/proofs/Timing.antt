@@ -45,26 +45,11 @@ fewer-by b n d t h i false e = leb-false n b e
 pub fewer : (b n d t : ℕ) → b * d ≤ t → t < n * d → b < n
 fewer b n d t h i = fewer-by b n d t h i (nat_le n b) refl
 
-lt-from : (a b c : ℕ) → a + 4 ≡ b → b < c → a + 4 < c
-lt-from a b c e h = omega arith
-
-lt-less : (a c : ℕ) → a + 4 < c → a < c
-lt-less a c h = omega arith
-
-none-and : (d e : ℕ) → 0 * d + e ≡ e
-none-and d e = omega arith
-
-lt-as : (a b c : ℕ) → b ≡ c → a < c → a < b
-lt-as a b c e h = omega arith
-
 -- the next bit, after a rest
 over-time : (b d r t : ℕ) → b * d + r ≡ t → d ≤ r + 4 → (b + 1) * d + (r + 4 - d) ≡ t + 4
 over-time b d r t e h = omega (arith, one_more b d)
 
-on-time : (a r t : ℕ) → a + r ≡ t → a + (r + 4) ≡ t + 4
-on-time a r t e = omega arith
-
-over-rest : (d r : ℕ) → 64 ≤ d → r < d → r + 4 - d < d
+pub over-rest : (d r : ℕ) → 64 ≤ d → r < d → r + 4 - d < d
 over-rest d r h w = omega arith
 
 over-less : (b d r t n : ℕ) → b * d + r ≡ t → d ≤ r + 4 → t + 4 < n * d → b + 1 < n
@@ -156,7 +141,7 @@ goes-over s byte bit elapsed time large is passed within early false over =
     let f : Sending = record { byte = byte; bit = bit; elapsed = elapsed } in
     let g : Sending = record { byte = byte; bit = bit; elapsed = elapsed + 4 } in
     goes-by s (after_sending s) g byte (time + 4) (sending-frame f s is ∙ not_over f s over) refl
-    (on-time (bit * d) elapsed time passed) (leb-false d (elapsed + 4) over)
+    (omega (arith, passed)) (leb-false d (elapsed + 4) over)
 
 pub goes : (s : State) (byte time : ℕ) → 64 ≤ bit_time s.divisor → Sent byte time (bit_time s.divisor) s.sender →
     time + 4 < frame_time byte s → Goes byte (time + 4) s (after_sending s)
@@ -234,7 +219,7 @@ goes-on s t byte time runs a early =
     let large : 64 ≤ bit_time t.divisor = bit_time-large t.divisor (running-as s t a.same runs) in
     let d : bit_time t.divisor ≡ bit_time s.divisor = ap bit_time a.same.divisor in
     let here : Sent byte time (bit_time t.divisor) t.sender = moved byte time _ _ _ _ (sym d) refl a.sent in
-    goes t byte time large here (lt-as (time + 4) (frame_time byte t) (frame_time byte s) (frame_time-as byte s t a.same) early)
+    goes t byte time large here (rw (frame_time-as byte s t a.same) early)
 
 pub on-next : (line : Bool) (s t : State) (byte time : ℕ) → is_running s ≡ true → On byte time s t →
     time + 4 < frame_time byte s → On byte (time + 4) s (after_step line t)
@@ -253,8 +238,8 @@ on-after s levels byte elapsed zero runs a early =
     subst (λ (time : ℕ). On byte time s s) e a
 on-after s levels byte elapsed (suc n) runs a early =
     let e : elapsed + 4 * n + 4 ≡ elapsed + 4 * suc n = omega arith in
-    let sooner : elapsed + 4 * n + 4 < frame_time byte s = lt-from (elapsed + 4 * n) (elapsed + 4 * suc n) (frame_time byte s) e early in
-    let now : elapsed + 4 * n < frame_time byte s = lt-less (elapsed + 4 * n) (frame_time byte s) sooner in
+    let sooner : elapsed + 4 * n + 4 < frame_time byte s = rw e early in
+    let now : elapsed + 4 * n < frame_time byte s = omega (arith, sooner) in
     subst (λ (time : ℕ). On byte time s (after_cycles levels (suc n) s)) e
     (on-next (levels n) s (after_cycles levels n s) byte (elapsed + 4 * n) runs
     (on-after s levels byte elapsed n runs a now) sooner)
@@ -278,7 +263,7 @@ ends_by s t byte time runs a early =
     let d : bit_time t.divisor ≡ bit_time s.divisor = ap bit_time a.same.divisor in
     let total : frame_time byte t ≡ frame_time byte s = frame_time-as byte s t a.same in
     let here : Sent byte time (bit_time t.divisor) t.sender = moved byte time _ _ _ _ (sym d) refl a.sent in
-    let sooner : time < frame_time byte t = lt-as time (frame_time byte t) (frame_time byte s) total early in
+    let sooner : time < frame_time byte t = rw total early in
     runs-sent t running
     ∙ (ap (λ (x : Sender). ended_byte x t) here.is
     ∙ (ap (λ (c : Bool). cond c (Some byte) None)
@@ -290,7 +275,7 @@ pub a_frame_takes_its_time : AFrameTakesItsTime
 a_frame_takes_its_time s levels byte elapsed n runs begins within early =
     let start : On byte elapsed s s = record {
       same = record { line = refl; divisor = refl; control = refl };
-      sent = record { bit = 0; elapsed = elapsed; is = begins; passed = none-and (bit_time s.divisor) elapsed; within = within };
+      sent = record { bit = 0; elapsed = elapsed; is = begins; passed = omega arith; within = within };
     } in
     let time = elapsed + 4 * n in
     let t = after_cycles levels n s in
