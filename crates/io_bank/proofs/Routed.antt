@@ -19,36 +19,22 @@ use Rattle.io_bank.proofs.Bits.{differ, has_and, has_or, has_xor, has_ones, bits
 -- ---- laws of Bool
 
 over-is : (way : ℕ) (b : Bool) → ((differ b (eqb way 1) && (eqb way 0 || eqb way 1)) || eqb way 3) ≡ overridden way b
-over-is way true = grind (arith, nat_tests)
-over-is way false = grind (arith, nat_tests)
+over-is way b = grind (arith, nat_tests)
 
 chosen-is : (a b s : Bool) → differ a (differ a b && s) ≡ cond s b a
-chosen-is true true true = refl
-chosen-is true true false = refl
-chosen-is true false true = refl
-chosen-is true false false = refl
-chosen-is false true true = refl
-chosen-is false true false = refl
-chosen-is false false true = refl
-chosen-is false false false = refl
+chosen-is a b s = grind (arith, nat_tests)
 
 fall-is : (a b : Bool) → (a && differ a b) ≡ (a && not b)
-fall-is true b = refl
-fall-is false b = refl
+fall-is a b = grind (arith, nat_tests)
 
 rise-is : (a b : Bool) → (b && differ a b) ≡ (not a && b)
-rise-is true true = refl
-rise-is true false = refl
-rise-is false true = refl
-rise-is false false = refl
+rise-is a b = grind (arith, nat_tests)
 
 nor-self : (a : Bool) → (a && not a) ≡ false
-nor-self true = refl
-nor-self false = refl
+nor-self a = grind (arith, nat_tests)
 
 not-and_self : (a : Bool) → (not a && a) ≡ false
-not-and_self true = refl
-not-and_self false = refl
+not-and_self a = grind (arith, nat_tests)
 
 disabled-is : (n : ℕ) → eqb (n % 2) 0 ≡ not (eqb (n % 2) 1)
 disabled-is n = grind (arith, nat_tests)

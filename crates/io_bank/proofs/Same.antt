@@ -10,16 +10,13 @@ use Rattle.io_bank.specs.Pins.{overridden}
 use Rattle.io_bank.specs.State.{State}
 use Rattle.io_bank.specs.Levels.{levels_of, by_sets, control_of, pad_of, pad_level, level_to, level_outside, function_of, out_override, enable_override, is_output_disabled, peripheral, enable_to, pins_of, IsSameAt}
 use Rattle.io_bank.proofs.Bits.{same_bit, has_and, bits_below-at, bits_below-same}
-use Rattle.std.proofs.Math.Bool.{and-true}
+use Rattle.std.proofs.Math.Bool.{and-true, and-false}
 
 -- ---- words at the pins of a set
 
 and-same : (x y m : Bool) → (m ≡ true → x ≡ y) → (x && m) ≡ (y && m)
 and-same x y true h = ap (λ t. t && true) (h refl)
-and-same true true false h = refl
-and-same true false false h = refl
-and-same false true false h = refl
-and-same false false false h = refl
+and-same x y false h = and-false x ∙ sym (and-false y)
 
 same-bits : (m a b : ℕ) → IsSameAt m a b → bit_and a m ≡ bit_and b m
 same-bits m a b same =
