@@ -177,9 +177,6 @@ still_early b d r t n large e w h =
 same_bit : (b d r t : ℕ) → 64 ≤ d → b * d + r + 4 ≡ t + d / 2 → d ≤ r + 4 → r < d → t / d ≡ b
 same_bit b d r t large e o w = times_of b d (r + 4 - d / 2) t (omega arith) (omega arith)
 
-more-passed : (b d r t : ℕ) → b * d + r + 4 ≡ t + d / 2 → b * d + (r + 4) + 4 ≡ t + 4 + d / 2
-more-passed b d r t e = omega arith
-
 next-passed : (b d r t : ℕ) → b * d + r + 4 ≡ t + d / 2 → d ≤ r + 4 → (b + 1) * d + (r + 4 - d) + 4 ≡ t + 4 + d / 2
 next-passed b d r t e o = omega (arith, one_more b d)
 
@@ -187,9 +184,6 @@ no_false_start : (h : Bool) (bit : ℕ) → (bit ≡ 0 → h ≡ false) → (h &
 no_false_start true zero k = k refl
 no_false_start true (suc bit) k = ne_eqb (suc bit) 0 (λ e. omega arith)
 no_false_start false bit k = refl
-
-has_time : (b n stop two : ℕ) → b ≤ stop → n ≡ stop + two + 1 → b < n
-has_time b n stop two h e = omega arith
 
 level-bit : (s : State) (byte : ℕ) (h : Bool) (bit : ℕ) → h ≡ level_at s.line byte bit →
     with_sample h bit (samples_of s.line byte bit) ≡ samples_of s.line byte (suc bit)
@@ -242,8 +236,7 @@ module _ (line : Bool) (byte time : ℕ) (s t : State) (running : is_running s �
   soon : time + 4 < frame_time byte s
   soon =
       still_early a.bit d a.elapsed time (frame_length s.line byte) large a.passed a.within
-      (has_time a.bit (frame_length s.line byte) (stop_at s.line) (bit_number s.line.two_stops) a.early
-      (frame_length-sum s.line byte))
+      (omega (arith, a.early, frame_length-sum s.line byte))
 
   on_u : On byte (time + 4) s u
   on_u = on-next line s t byte time running a.on soon
@@ -285,7 +278,7 @@ module _ (line : Bool) (byte time : ℕ) (s t : State) (running : is_running s �
         bit = a.bit;
         elapsed = a.elapsed + 4;
         is = ap (λ (z : State). z.receiver) is ∙ ap (λ (z : State). z.receiver) (waits-alone y);
-        passed = more-passed a.bit d a.elapsed time a.passed;
+        passed = omega (arith, a.passed);
         within = leb-false d (a.elapsed + 4) o;
         early = a.early;
         received = ap (λ (z : State). z.received) (is ∙ waits-alone y) ∙ received-x;
@@ -499,8 +492,7 @@ comes byte time s t a early (hears b) =
     absurd
     (not_now b.bit (bit_time s.divisor) b.elapsed time (frame_length s.line byte) (bit_time-large s.divisor a.running) b.passed
     b.within
-    (has_time b.bit (frame_length s.line byte) (stop_at s.line) (bit_number s.line.two_stops) b.early
-    (frame_length-sum s.line byte)) early)
+    (omega (arith, b.early, frame_length-sum s.line byte)) early)
 
 none-before : (n : ℕ) → 4 < n → n ≤ 4 * 0 → ⊥
 none-before n h e = omega arith

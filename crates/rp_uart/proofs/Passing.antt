@@ -125,10 +125,7 @@ waited-more a b c (Some elapsed) e =
 
 parts : (s : State) (a b : Sender) (c d : Receiver) (e f : Option ℕ) → a ≡ b → c ≡ d → e ≡ f →
     ◌≡◌ {A = State} (record s { sender = a; receiver = c; waited = e }) (record s { sender = b; receiver = d; waited = f })
-parts s a b c d e f x y z =
-    ap (λ (q : Sender). record s { sender = q; receiver = c; waited = e }) x
-    ∙ (ap (λ (q : Receiver). record s { sender = b; receiver = q; waited = e }) y
-    ∙ ap (λ (q : Option ℕ). record s { sender = b; receiver = d; waited = q }) z)
+parts s a b c d e f x y z = rw (x, y, z) refl
 
 passed-more : (k : ℕ) (s : State) → passed 1 (passed k s) ≡ passed (suc k) s
 passed-more k s =

@@ -3,7 +3,7 @@
 use Rattle.std.proofs.Common.{◌≡◌, ◌∙◌, ℕ, zero, suc, ◌+◌, ◌-◌, ◌*◌, ◌/◌, ◌<◌, ◌≤◌, Bool, true, false, cond, Some, None, refl, sym, ap, subst, arith}
 use Rattle.std.specs.Prelude.{◌&&◌, nat_lt, nat_le}
 use Rattle.std.proofs.Math.Bool.{and-false}
-use Rattle.std.proofs.Math.Nat.{add-mul, mul-le-mul_right, mul-add-div_right, div-eq_of_lt}
+use Rattle.std.proofs.Math.Nat.{add-mul, mul-le-mul_right, lt_of_mul-lt-mul_right, mul-add-div_right, div-eq_of_lt}
 use Rattle.std.proofs.lemmas.Bool.{leb-true, le-leb, lt-leb, leb-false}
 use Rattle.std.proofs.lemmas.Grind.{common_steps}
 use Rattle.std.proofs.lemmas.Bool.Decides.{nat_tests}
@@ -36,14 +36,8 @@ times_of b d r t e h =
     ap (λ (x : ℕ). x / d) (sym e) ∙ (mul-add-div_right positive b r ∙ omega arith)
 
 -- fewer times is less
-fewer-by : (b n d t : ℕ) → b * d ≤ t → t < n * d → (c : Bool) → nat_le n b ≡ c → b < n
-fewer-by b n d t h i true e =
-    let more : n * d ≤ b * d = mul-le-mul_right d (leb-true n b e) in
-    absurd (omega arith)
-fewer-by b n d t h i false e = leb-false n b e
-
 pub fewer : (b n d t : ℕ) → b * d ≤ t → t < n * d → b < n
-fewer b n d t h i = fewer-by b n d t h i (nat_le n b) refl
+fewer b n d t h i = lt_of_mul-lt-mul_right d (omega arith)
 
 -- the next bit, after a rest
 over-time : (b d r t : ℕ) → b * d + r ≡ t → d ≤ r + 4 → (b + 1) * d + (r + 4 - d) ≡ t + 4
