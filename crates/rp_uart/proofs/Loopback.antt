@@ -479,26 +479,18 @@ stage-at levels byte (suc k) s a =
     subst (λ (time : ℕ). Stage byte time s (after_cycles levels (suc (suc (suc k))) s)) e
     (stage-next (levels (suc (suc k))) byte (4 * suc k) s (after_cycles levels (suc (suc k)) s) a (stage-at levels byte k s a))
 
-not_now : (b d r t n : ℕ) → 64 ≤ d → b * d + r + 4 ≡ t + d / 2 → r < d → b < n → n * d ≤ t → ⊥
-not_now b d r t n large e w h early =
-    let more : b + 1 ≤ n = omega arith in
-    let enough : (b + 1) * d ≤ n * d = mul-le-mul_right d more in
-    omega (arith, one_more b d)
-
 comes : (byte time : ℕ) (s t : State) → HearsItself byte s → frame_time byte s ≤ time → Stage byte time s t →
     t.received ≡ s.received ++ record { byte = byte % 2 ^ width_of s.line.width; errors = no_errors } ∷ []
 comes byte time s t a early (rests b) = b.received
 comes byte time s t a early (hears b) =
-    absurd
-    (not_now b.bit (bit_time s.divisor) b.elapsed time (frame_length s.line byte) (bit_time-large s.divisor a.running) b.passed
-    b.within
-    (omega (arith, b.early, frame_length-sum s.line byte)) early)
-
-none-before : (n : ℕ) → 4 < n → n ≤ 4 * 0 → ⊥
-none-before n h e = omega arith
+    let soon =
+    still_early b.bit (bit_time s.divisor) b.elapsed time (frame_length s.line byte) (bit_time-large s.divisor a.running) b.passed b.within
+    (omega (arith, b.early, frame_length-sum s.line byte)) in
+    absurd (omega (arith, soon, early))
 
 pub the_byte_comes_back : TheByteComesBack
 the_byte_comes_back s levels byte zero a early =
-    absurd (none-before (frame_time byte s) (frame-lasts byte s (bit_time-large s.divisor a.running)) early)
+    let long = frame-lasts byte s (bit_time-large s.divisor a.running) in
+    absurd (omega (arith, long, early))
 the_byte_comes_back s levels byte (suc k) a early =
     comes byte (4 * suc k) s (after_cycles levels (suc (suc k)) s) a early (stage-at levels byte k s a)

@@ -4,7 +4,7 @@ use Rattle.std.proofs.Common.{◌≡◌, ◌∙◌, ℕ, zero, suc, ◌+◌, ◌
 use Rattle.std.specs.Prelude.{◌&&◌, nat_lt, nat_le}
 use Rattle.std.proofs.Math.Bool.{and-false}
 use Rattle.std.proofs.Math.Nat.{add-mul, mul-le-mul_right, lt_of_mul-lt-mul_right, mul-add-div_right, div-eq_of_lt}
-use Rattle.std.proofs.lemmas.Bool.{leb-true, le-leb, lt-leb, leb-false}
+use Rattle.std.proofs.lemmas.Bool.{leb-true, lt-leb, leb-false}
 use Rattle.std.proofs.lemmas.Grind.{common_steps}
 use Rattle.std.proofs.lemmas.Bool.Decides.{nat_tests}
 use Rattle.rp_uart.specs.declared.control.Divisor.{Divisor}
@@ -52,12 +52,7 @@ over-less b d r t n e h early = fewer (b + 1) n d (t + 4) (omega (arith, one_mor
 -- whether the last bit is over
 last_over-by : (b d r t total : ℕ) → b * d + r ≡ t → total ≡ b * d + d → (c : Bool) → nat_le d (r + 4) ≡ c →
     (c && true) ≡ nat_le total (t + 4)
-last_over-by b d r t total e f true h =
-    let full : d ≤ r + 4 = leb-true d (r + 4) h in
-    sym (le-leb total (t + 4) (omega arith))
-last_over-by b d r t total e f false h =
-    let short : r + 4 < d = leb-false d (r + 4) h in
-    sym (lt-leb total (t + 4) (omega arith))
+last_over-by b d r t total e f c h = grind (arith, nat_tests)
 
 last_over : (b n d r t : ℕ) → b * d + r ≡ t → r < d → t < n * d → 64 ≤ d → (c : Bool) → nat_le n (b + 1) ≡ c →
     (nat_le d (r + 4) && c) ≡ nat_le (n * d) (t + 4)
