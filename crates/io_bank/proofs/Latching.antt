@@ -1,7 +1,8 @@
 -- The interrupt words bit by bit, and the edges that a step latches.
-use Rattle.std.proofs.Common.{◌≡◌, ℕ, zero, suc, ◌+◌, ◌*◌, ◌/◌, ◌%◌, ◌<◌, ◌==◌, Bool, true, false, not, ◌&&◌, ◌||◌, cond, Some, refl, sym, ap, ◌∙◌, arith}
+use Rattle.std.proofs.Common.{◌≡◌, ℕ, zero, suc, ◌+◌, ◌*◌, ◌/◌, ◌%◌, ◌<◌, ◌==◌, Bool, false, not, ◌&&◌, ◌||◌, cond, Some, refl, sym, ap, ◌∙◌, arith}
 use Rattle.std.specs.Prelude.{bit_and, bit_or}
 use Rattle.std.proofs.lemmas.Bool.{eq-eqb}
+use Rattle.std.proofs.lemmas.Bool.Decides.{nat_tests}
 use Rattle.rp_base.specs.Word.{has_bit}
 use Rattle.io_bank.specs.declared.outputs.Outs.{Outs}
 use Rattle.io_bank.specs.declared.events.Edges.{Edges}
@@ -54,10 +55,7 @@ shown_by : (t u v : Bool) (raw : Events) (x : Interrupts) → cond t (shown raw 
     ≡ bit_or (bit_and (cond t raw.level_low (cond u raw.level_high (cond v raw.edge_low raw.edge_high)))
     (cond t x.enable.level_low (cond u x.enable.level_high (cond v x.enable.edge_low x.enable.edge_high))))
     (cond t x.force.level_low (cond u x.force.level_high (cond v x.force.edge_low x.force.edge_high)))
-shown_by true u v raw x = refl
-shown_by false true v raw x = refl
-shown_by false false true raw x = refl
-shown_by false false false raw x = refl
+shown_by t u v raw x = grind (arith, nat_tests)
 
 kind-shown : (raw : Events) (x : Interrupts) (kind : ℕ) →
     kind_of (shown raw x) kind ≡ bit_or (bit_and (kind_of raw kind) (kind_of x.enable kind)) (kind_of x.force kind)

@@ -2,7 +2,6 @@ pub mod AtRest
 pub mod Bits
 pub mod Comparisons
 pub mod Latching
-pub mod Renewed
 pub mod Routed
 pub mod Rows
 pub mod Same

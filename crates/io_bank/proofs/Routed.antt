@@ -1,6 +1,7 @@
 -- Signals of all pins at once are the signals of each pin.
 use Rattle.std.proofs.Common.{◌≡◌, ℕ, ◌-◌, ◌/◌, ◌%◌, ◌^◌, ◌<◌, Bool, true, false, not, ◌&&◌, ◌||◌, eqb, refl, ap, sym, subst, ◌∙◌, cond, ◌⊎◌, inl, inr, arith, List, [], ◌∷◌, Option, Some, None}
-use Rattle.std.specs.Prelude.{bit_and, bit_or, bit_xor, slice_index, is_some, unwrap_or}
+use Rattle.std.specs.Prelude.{bit_and, bit_xor, slice_index, is_some, unwrap_or}
+use Rattle.std.proofs.Math.Bool.{and-true, and-false, or-false, and_comm}
 use Rattle.std.proofs.lemmas.Grind.{common_steps}
 use Rattle.std.proofs.lemmas.Bool.Decides.{nat_tests}
 use Rattle.std.proofs.lemmas.Nat.{and_le_r, and_le_l, or_lt, xor_lt, pow_pos}
@@ -8,7 +9,6 @@ use Rattle.std.proofs.lemmas.Nat.Bits.{bit_at-zero}
 use Rattle.rp_base.specs.Word.{has_bit}
 use Rattle.io_bank.specs.declared.outputs.Outs.{Outs}
 use Rattle.io_bank.specs.declared.events.Edges.{Edges}
-use Rattle.io_bank.specs.declared.routes.Override.{Override}
 use Rattle.io_bank.specs.Pins.{bits_below, pins_where, field, overridden}
 use Rattle.io_bank.specs.State.{State, no_edges}
 use Rattle.io_bank.specs.Levels.{peripheral, function_of, level_to, enable_to, level_outside, pad_level, levels_of, by_sets, level_sensed, input_of, inputs_of, by_list}
@@ -19,54 +19,22 @@ use Rattle.io_bank.proofs.Bits.{differ, has_and, has_or, has_xor, has_ones, bits
 -- ---- laws of Bool
 
 over-is : (way : ℕ) (b : Bool) → ((differ b (eqb way 1) && (eqb way 0 || eqb way 1)) || eqb way 3) ≡ overridden way b
-over-is way true = grind (arith, nat_tests)
-over-is way false = grind (arith, nat_tests)
+over-is way b = grind (arith, nat_tests)
 
 chosen-is : (a b s : Bool) → differ a (differ a b && s) ≡ cond s b a
-chosen-is true true true = refl
-chosen-is true true false = refl
-chosen-is true false true = refl
-chosen-is true false false = refl
-chosen-is false true true = refl
-chosen-is false true false = refl
-chosen-is false false true = refl
-chosen-is false false false = refl
-
-and_comm_bool : (a b : Bool) → (a && b) ≡ (b && a)
-and_comm_bool true true = refl
-and_comm_bool true false = refl
-and_comm_bool false true = refl
-and_comm_bool false false = refl
+chosen-is a b s = grind (arith, nat_tests)
 
 fall-is : (a b : Bool) → (a && differ a b) ≡ (a && not b)
-fall-is true b = refl
-fall-is false b = refl
+fall-is a b = grind (arith, nat_tests)
 
 rise-is : (a b : Bool) → (b && differ a b) ≡ (not a && b)
-rise-is true true = refl
-rise-is true false = refl
-rise-is false true = refl
-rise-is false false = refl
+rise-is a b = grind (arith, nat_tests)
 
 nor-self : (a : Bool) → (a && not a) ≡ false
-nor-self true = refl
-nor-self false = refl
+nor-self a = grind (arith, nat_tests)
 
 not-and_self : (a : Bool) → (not a && a) ≡ false
-not-and_self true = refl
-not-and_self false = refl
-
-pub and_true : (a : Bool) → (a && true) ≡ a
-and_true true = refl
-and_true false = refl
-
-and_false : (a : Bool) → (a && false) ≡ false
-and_false true = refl
-and_false false = refl
-
-or_false : (a : Bool) → (a || false) ≡ a
-or_false true = refl
-or_false false = refl
+not-and_self a = grind (arith, nat_tests)
 
 disabled-is : (n : ℕ) → eqb (n % 2) 0 ≡ not (eqb (n % 2) 1)
 disabled-is n = grind (arith, nat_tests)
@@ -82,7 +50,7 @@ picked f a b c d e =
 
 mix-is : (f : ℕ) (a b c d e : Bool) →
     (((((a && eqb f 2) || (b && eqb f 4)) || (c && eqb f 5)) || (d && eqb f 6)) || (e && eqb f 7)) ≡ picked f a b c d e
-mix-is f a b c d e = grind (arith, nat_tests, and_true, and_false, or_false)
+mix-is f a b c d e = grind (arith, nat_tests, and-true, and-false, or-false)
 
 cond-of : {A B : Type 0} (g : A → B) (b : Bool) (x y : A) (z : B) → z ≡ g y → cond b (g x) z ≡ g (cond b x y)
 cond-of g true x y z h = refl
@@ -106,65 +74,28 @@ none-of i k h =
 
 -- ---- each operation at a pin
 
-override-at : (o : Override) (x i : ℕ) → has_bit (routed_override o x) i ≡
-    ((differ (has_bit x i) (has_bit o.flips i) && has_bit o.passes i) || has_bit o.sets i)
-override-at o x i =
-    has_or (bit_and (bit_xor x o.flips) o.passes) o.sets i
-    ∙ ap (λ b. b || has_bit o.sets i) (has_and (bit_xor x o.flips) o.passes i ∙ ap (λ b. b && has_bit o.passes i) (has_xor x o.flips i))
-
 -- the bits of a set of pins with a value
 with-at : (words : List ℕ) (low count value i : ℕ) → i < 30 →
     has_bit (pins_with words low count value) i ≡ eqb (field (slice_index words i) low count) value
 with-at words low count value i h = bits_below-at (λ pin. eqb (field (slice_index words pin) low count) value) 30 i h
 
-passes-at : (controls : List ℕ) (low i : ℕ) → i < 30 → has_bit (override_of controls low).passes i ≡
-    (eqb (field (slice_index controls i) low 2) 0 || eqb (field (slice_index controls i) low 2) 1)
-passes-at controls low i h =
-    has_or (pins_with controls low 2 0) (pins_with controls low 2 1) i
-    ∙ ap (λ b. b || has_bit (pins_with controls low 2 1) i) (with-at controls low 2 0 i h)
-    ∙ ap (λ b. eqb (field (slice_index controls i) low 2) 0 || b) (with-at controls low 2 1 i h)
-
 overridden-at : (controls : List ℕ) (low x i : ℕ) → i < 30 →
     has_bit (routed_override (override_of controls low) x) i ≡ overridden (field (slice_index controls i) low 2) (has_bit x i)
 overridden-at controls low x i h =
-    let way : ℕ = field (slice_index controls i) low 2 in
-    override-at (override_of controls low) x i
-    ∙ ap (λ b. (differ (has_bit x i) b && has_bit (override_of controls low).passes i) || has_bit (override_of controls low).sets i)
-    (with-at controls low 2 1 i h)
-    ∙ ap (λ b. (differ (has_bit x i) (eqb way 1) && b) || has_bit (override_of controls low).sets i) (passes-at controls low i h)
-    ∙ ap (λ b. (differ (has_bit x i) (eqb way 1) && (eqb way 0 || eqb way 1)) || b) (with-at controls low 2 3 i h)
-    ∙ over-is way (has_bit x i)
+    simp (has_or, has_and, has_xor, with-at controls low 2 0 i h, with-at controls low 2 1 i h, with-at controls low 2 3 i h)
+    (over-is (field (slice_index controls i) low 2) (has_bit x i))
 
 chosen-at : (outside inside set i : ℕ) → has_bit (chosen outside inside set) i ≡
     cond (has_bit set i) (has_bit inside i) (has_bit outside i)
-chosen-at outside inside set i =
-    has_xor outside (bit_and (bit_xor outside inside) set) i
-    ∙ ap (λ b. differ (has_bit outside i) b)
-    (has_and (bit_xor outside inside) set i ∙ ap (λ b. b && has_bit set i) (has_xor outside inside i))
-    ∙ chosen-is (has_bit outside i) (has_bit inside i) (has_bit set i)
-
--- a part of a mix at a pin
-part-at : (a : ℕ) (controls : List ℕ) (value i : ℕ) → i < 30 → has_bit (bit_and a (pins_with controls 0 5 value)) i ≡
-    (has_bit a i && eqb (function_of (slice_index controls i)) value)
-part-at a controls value i h =
-    has_and a (pins_with controls 0 5 value) i ∙ ap (λ b. has_bit a i && b) (with-at controls 0 5 value i h)
-
-or-at : (a b i : ℕ) (x y : Bool) → has_bit a i ≡ x → has_bit b i ≡ y → has_bit (bit_or a b) i ≡ (x || y)
-or-at a b i x y p q = has_or a b i ∙ ap (λ z. z || has_bit b i) p ∙ ap (λ z. x || z) q
+chosen-at outside inside set i = simp (has_xor, has_and) (chosen-is (has_bit outside i) (has_bit inside i) (has_bit set i))
 
 mix-at : (controls pads : List ℕ) (a b c d e i : ℕ) → i < 30 →
     has_bit (routed_mix (routes_of controls pads) a b c d e) i ≡
     picked (function_of (slice_index controls i)) (has_bit a i) (has_bit b i) (has_bit c i) (has_bit d i) (has_bit e i)
 unfolding routes_of
 mix-at controls pads a b c d e i h =
-    or-at _ _ i _ _
-    (or-at _ _ i _ _
-    (or-at _ _ i _ _
-    (or-at _ _ i _ _ (part-at a controls 2 i h) (part-at b controls 4 i h))
-    (part-at c controls 5 i h))
-    (part-at d controls 6 i h))
-    (part-at e controls 7 i h)
-    ∙ mix-is (function_of (slice_index controls i)) (has_bit a i) (has_bit b i) (has_bit c i) (has_bit d i) (has_bit e i)
+    simp (has_or, has_and, with-at controls 0 5 2 i h, with-at controls 0 5 4 i h, with-at controls 0 5 5 i h, with-at controls 0 5 6 i h, with-at controls 0 5 7 i h)
+    (mix-is (function_of (slice_index controls i)) (has_bit a i) (has_bit b i) (has_bit c i) (has_bit d i) (has_bit e i))
 
 routed_part-at : (controls pads : List ℕ) (outs : Outs) (k i : ℕ) → i < 30 → k < 2 →
     has_bit (routed_part (routes_of controls pads) outs k) i ≡
@@ -210,26 +141,17 @@ outside-is false h pad = refl
 outside-at : (controls pads : List ℕ) (driven high i : ℕ) → i < 30 →
     has_bit (chosen (routes_of controls pads).pulls high driven) i ≡ level_outside (by_sets driven high i) (slice_index pads i)
 outside-at controls pads driven high i h =
-    chosen-at (routes_of controls pads).pulls high driven i
-    ∙ ap (λ b. cond (has_bit driven i) (has_bit high i) b) (pulls-at controls pads i h)
-    ∙ outside-is (has_bit driven i) (has_bit high i) (slice_index pads i)
+    simp (chosen-at, pulls-at controls pads i h) (outside-is (has_bit driven i) (has_bit high i) (slice_index pads i))
 
 driven-at : (controls pads : List ℕ) (outs : Outs) (i : ℕ) → i < 30 →
     has_bit (bit_and (routed_override (routes_of controls pads).enable (routed_part (routes_of controls pads) outs 1)) (routes_of controls pads).drives) i ≡
     (enable_to outs (slice_index controls i) i && not (has_bit (slice_index pads i) 7))
-driven-at controls pads outs i h =
-    has_and _ (routes_of controls pads).drives i
-    ∙ ap (λ b. b && has_bit (routes_of controls pads).drives i) (enable-at controls pads outs i h)
-    ∙ ap (λ b. enable_to outs (slice_index controls i) i && b) (drives-at controls pads i h)
+driven-at controls pads outs i h = simp (has_and, enable-at controls pads outs i h, drives-at controls pads i h)
 
 -- ---- levels and inputs
 
-cond-cong : (s t a b x y : Bool) → s ≡ t → a ≡ b → x ≡ y → cond s a x ≡ cond t b y
-cond-cong s t a b x y p q r = ap (λ z. cond z a x) p ∙ ap (λ z. cond t z x) q ∙ ap (λ z. cond t b z) r
-
 masked-at : (x i : ℕ) → i < 30 → has_bit (bit_and x (2 ^ 30 - 1)) i ≡ has_bit x i
-masked-at x i h =
-    has_and x (2 ^ 30 - 1) i ∙ ap (λ b. has_bit x i && b) (has_ones 30 i h) ∙ and_true (has_bit x i)
+masked-at x i h = simp (has_and, has_ones 30 i h, and-true)
 
 masked-lt : (x : ℕ) → bit_and x (2 ^ 30 - 1) < 2 ^ 30
 masked-lt x = omega (arith, and_le_r x (2 ^ 30 - 1))
@@ -239,15 +161,9 @@ levels-at : (controls pads : List ℕ) (outs : Outs) (driven high i : ℕ) → i
     pad_level outs (by_sets driven high i) (slice_index controls i) (slice_index pads i) i
 levels-at controls pads outs driven high i h =
     let r = routes_of controls pads in
-    let outside : ℕ = chosen r.pulls high driven in
-    let level : ℕ = routed_override r.out (routed_part r outs 0) in
-    let on : ℕ = bit_and (routed_override r.enable (routed_part r outs 1)) r.drives in
-    masked-at (chosen outside level on) i h
-    ∙ chosen-at outside level on i
-    ∙ cond-cong (has_bit on i) (enable_to outs (slice_index controls i) i && not (has_bit (slice_index pads i) 7))
-    (has_bit level i) (level_to outs (slice_index controls i) i)
-    (has_bit outside i) (level_outside (by_sets driven high i) (slice_index pads i))
-    (driven-at controls pads outs i h) (level-at controls pads outs i h) (outside-at controls pads driven high i h)
+    masked-at _ i h
+    ∙ chosen-at (chosen r.pulls high driven) (routed_override r.out (routed_part r outs 0)) _ i
+    ∙ rw (driven-at controls pads outs i h, level-at controls pads outs i h, outside-at controls pads driven high i h) refl
 
 pub routed_levels-is : (s : State) (outs : Outs) (driven high : ℕ) →
     routed_levels (routes_of s.controls s.pads) outs driven high ≡ levels_of outs (by_sets driven high) s
@@ -261,8 +177,7 @@ sensed-at : (s : State) (levels i : ℕ) → i < 30 →
     has_bit (bit_and levels (routes_of s.controls s.pads).senses) i ≡ level_sensed s levels i
 sensed-at s levels i h =
     has_and levels (routes_of s.controls s.pads).senses i
-    ∙ ap (λ b. has_bit levels i && b) (senses-at s.controls s.pads i h)
-    ∙ and_comm_bool (has_bit levels i) (has_bit (slice_index s.pads i) 6)
+    ∙ rw (senses-at s.controls s.pads i h) (and_comm (has_bit levels i) (has_bit (slice_index s.pads i) 6))
 
 inputs-at : (s : State) (levels i : ℕ) → i < 30 →
     has_bit (routed_inputs (routes_of s.controls s.pads) levels) i ≡ input_of s levels i
@@ -290,55 +205,25 @@ routed_inputs-is s levels =
     bits_below-is (input_of s levels) 30 (routed_inputs (routes_of s.controls s.pads) levels) (inputs-lt s levels)
     (λ i h. inputs-at s levels i h)
 
--- the pins of a function
-pub uart-is : (controls pads : List ℕ) → (routes_of controls pads).uart ≡ pins_with controls 0 5 2
-unfolding routes_of
-uart-is controls pads = refl
-
-pub pwm-is : (controls pads : List ℕ) → (routes_of controls pads).pwm ≡ pins_with controls 0 5 4
-unfolding routes_of
-pwm-is controls pads = refl
-
-pub pio0-is : (controls pads : List ℕ) → (routes_of controls pads).pio0 ≡ pins_with controls 0 5 6
-unfolding routes_of
-pio0-is controls pads = refl
-
-pub pio1-is : (controls pads : List ℕ) → (routes_of controls pads).pio1 ≡ pins_with controls 0 5 7
-unfolding routes_of
-pio1-is controls pads = refl
-
 -- ---- sets of pins
 
 pub others-is : (f : ℕ → Bool) → bit_xor (2 ^ 30 - 1) (pins_where f) ≡ pins_where (λ pin. not (f pin))
 others-is f =
     bits_below-is (λ pin. not (f pin)) 30 (bit_xor (2 ^ 30 - 1) (pins_where f))
     (xor_lt 30 (2 ^ 30 - 1) (pins_where f) (omega arith) (bits_below-lt f 30))
-    (λ i h.
-    has_xor (2 ^ 30 - 1) (pins_where f) i
-    ∙ ap (λ b. differ b (has_bit (pins_where f) i)) (has_ones 30 i h)
-    ∙ ap not (bits_below-at f 30 i h))
+    (λ i h. simp (has_xor, has_ones 30 i h, bits_below-at f 30 i h))
 
 falls-is : (f g : ℕ → Bool) → bit_and (pins_where f) (bit_xor (pins_where f) (pins_where g)) ≡ pins_where (λ pin. f pin && not (g pin))
 falls-is f g =
     bits_below-is (λ pin. f pin && not (g pin)) 30 (bit_and (pins_where f) (bit_xor (pins_where f) (pins_where g)))
     (omega (arith, and_le_l (pins_where f) (bit_xor (pins_where f) (pins_where g)), bits_below-lt f 30))
-    (λ i h.
-    has_and (pins_where f) (bit_xor (pins_where f) (pins_where g)) i
-    ∙ ap (λ b. has_bit (pins_where f) i && b) (has_xor (pins_where f) (pins_where g) i)
-    ∙ ap (λ b. b && differ b (has_bit (pins_where g) i)) (bits_below-at f 30 i h)
-    ∙ ap (λ b. f i && differ (f i) b) (bits_below-at g 30 i h)
-    ∙ fall-is (f i) (g i))
+    (λ i h. simp (has_and, has_xor, bits_below-at f 30 i h, bits_below-at g 30 i h) (fall-is (f i) (g i)))
 
 rises-is : (f g : ℕ → Bool) → bit_and (pins_where g) (bit_xor (pins_where f) (pins_where g)) ≡ pins_where (λ pin. not (f pin) && g pin)
 rises-is f g =
     bits_below-is (λ pin. not (f pin) && g pin) 30 (bit_and (pins_where g) (bit_xor (pins_where f) (pins_where g)))
     (omega (arith, and_le_l (pins_where g) (bit_xor (pins_where f) (pins_where g)), bits_below-lt g 30))
-    (λ i h.
-    has_and (pins_where g) (bit_xor (pins_where f) (pins_where g)) i
-    ∙ ap (λ b. has_bit (pins_where g) i && b) (has_xor (pins_where f) (pins_where g) i)
-    ∙ ap (λ b. b && differ (has_bit (pins_where f) i) b) (bits_below-at g 30 i h)
-    ∙ ap (λ b. g i && differ b (g i)) (bits_below-at f 30 i h)
-    ∙ rise-is (f i) (g i))
+    (λ i h. simp (has_and, has_xor, bits_below-at f 30 i h, bits_below-at g 30 i h) (rise-is (f i) (g i)))
 
 no-pins : (n : ℕ) → bits_below (λ pin. false) n ≡ 0
 no-pins n = sym (bits_below-is (λ pin. false) n 0 (omega (arith, pow_pos n)) (λ i h. no-bit i))

@@ -10,16 +10,13 @@ use Rattle.io_bank.specs.Pins.{overridden}
 use Rattle.io_bank.specs.State.{State}
 use Rattle.io_bank.specs.Levels.{levels_of, by_sets, control_of, pad_of, pad_level, level_to, level_outside, function_of, out_override, enable_override, is_output_disabled, peripheral, enable_to, pins_of, IsSameAt}
 use Rattle.io_bank.proofs.Bits.{same_bit, has_and, bits_below-at, bits_below-same}
-use Rattle.io_bank.proofs.Routed.{and_true}
+use Rattle.std.proofs.Math.Bool.{and-true, and-false}
 
 -- ---- words at the pins of a set
 
 and-same : (x y m : Bool) → (m ≡ true → x ≡ y) → (x && m) ≡ (y && m)
 and-same x y true h = ap (λ t. t && true) (h refl)
-and-same true true false h = refl
-and-same true false false h = refl
-and-same false true false h = refl
-and-same false false false h = refl
+and-same x y false h = and-false x ∙ sym (and-false y)
 
 same-bits : (m a b : ℕ) → IsSameAt m a b → bit_and a m ≡ bit_and b m
 same-bits m a b same =
@@ -29,8 +26,8 @@ same-bits m a b same =
 
 members-same : (m a b : ℕ) → bit_and a m ≡ bit_and b m → IsSameAt m a b
 members-same m a b e i h =
-    let left : has_bit (bit_and a m) i ≡ has_bit a i = has_and a m i ∙ ap (λ x. has_bit a i && x) h ∙ and_true (has_bit a i) in
-    let right : has_bit (bit_and b m) i ≡ has_bit b i = has_and b m i ∙ ap (λ x. has_bit b i && x) h ∙ and_true (has_bit b i) in
+    let left : has_bit (bit_and a m) i ≡ has_bit a i = has_and a m i ∙ ap (λ x. has_bit a i && x) h ∙ and-true (has_bit a i) in
+    let right : has_bit (bit_and b m) i ≡ has_bit b i = has_and b m i ∙ ap (λ x. has_bit b i && x) h ∙ and-true (has_bit b i) in
     sym left ∙ ap (λ n. has_bit n i) e ∙ right
 
 -- ---- what a pin gets of the parts

@@ -1,6 +1,6 @@
 -- What the control words of all pins say, as sets of pins. These sets are kept beside the words, so that a step treats all
 -- pins at once; nothing of them is told outside.
-use Rattle.std.specs.Prelude.{◌≡◌, ℕ, ◌-◌, ◌^◌, ◌<◌, ◌==◌, List, bit_and, bit_or, bit_xor, slice_index}
+use Rattle.std.specs.Prelude.{ℕ, ◌-◌, ◌^◌, ◌==◌, List, bit_and, bit_or, bit_xor, slice_index}
 use Rattle.io_bank.specs.declared.outputs.Outs.{Outs}
 use Rattle.io_bank.specs.declared.routes.Override.{Override}
 use Rattle.io_bank.specs.declared.routes.Routes.{Routes}
@@ -10,17 +10,13 @@ use Rattle.io_bank.specs.Pins.{pins_where, field}
 abbrev pub pins_with : List ℕ → ℕ → ℕ → ℕ → ℕ
 pins_with words low count value = pins_where (λ pin. field (slice_index words pin) low count == value)
 
--- the sets of an override by what it is at each pin
-abbrev pub override_where : (ℕ → ℕ) → Override
-override_where way =
-    record {
-      passes = bit_or (pins_where (λ pin. way pin == 0)) (pins_where (λ pin. way pin == 1));
-      flips = pins_where (λ pin. way pin == 1);
-      sets = pins_where (λ pin. way pin == 3);
-    }
-
 abbrev pub override_of : List ℕ → ℕ → Override
-override_of controls low = override_where (λ pin. field (slice_index controls pin) low 2)
+override_of controls low =
+    record {
+      passes = bit_or (pins_with controls low 2 0) (pins_with controls low 2 1);
+      flips = pins_with controls low 2 1;
+      sets = pins_with controls low 2 3;
+    }
 
 unfoldable pub routes_of : List ℕ → List ℕ → Routes
 routes_of controls pads =
@@ -37,10 +33,6 @@ routes_of controls pads =
       senses = pins_with pads 6 1 1;
       pulls = pins_with pads 3 1 1;
     }
-
--- the same at all pins but one
-abbrev pub IsElse : {A : Type 0} → ℕ → (ℕ → A) → (ℕ → A) → Type 0
-IsElse pin f g = (i : ℕ) → i < 30 → (i ≡ pin → ⊥) → f i ≡ g i
 
 -- ---- signals of all pins by these sets
 

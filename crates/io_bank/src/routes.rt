@@ -1,10 +1,10 @@
 //! What the control words of all pins say, as sets of pins, by which a step treats all pins at once.
 
-ghost use Rattle.std.specs.Prelude.{◌≡◌, ◌<◌, ℕ, List, length, slice_set};
-ghost use Rattle.io_bank.specs.Routes.{IsElse, override_of, override_where, routes_of, routed_override, routed_mix, routed_driven, routed_levels, routed_inputs};
+ghost use Rattle.std.specs.Prelude.{◌≡◌, ◌<◌};
+ghost use Rattle.io_bank.specs.Routes.{override_of, routes_of, routed_override, routed_mix, routed_driven, routed_levels, routed_inputs};
 
 use crate::outputs::Outs;
-use crate::sets::{PINS, pins_with, with_pin};
+use crate::sets::{PINS, pins_with};
 
 /// The pins whose signal passes, as it is or inverted, those whose signal is inverted, and those whose signal is high.
 #[derive(Clone, Copy)]
@@ -45,19 +45,6 @@ impl Override {
         }
     }
 
-    /// The same where it is this at one pin.
-    fn with_pin(&self, pin: u32, way: u32) -> Override
-        requires { pin < 30 }
-        ensures { (f g : ℕ → ℕ) → self.now ≡ override_where f → IsElse pin f g → way ≡ g pin
-            → result ≡ override_where g }
-    {
-        Override {
-            passes: with_pin(self.passes, pin, way < 2),
-            flips: with_pin(self.flips, pin, way == 1),
-            sets: with_pin(self.sets, pin, way == 3),
-        }
-    }
-
     /// The signals under the override.
     #[inline]
     fn apply(&self, signals: u32) -> u32
@@ -84,51 +71,6 @@ impl Routes {
             drives: pins_with(pads, 7, 2, 0),
             senses: pins_with(pads, 6, 2, 1),
             pulls: pins_with(pads, 3, 2, 1),
-        }
-    }
-
-    /// The same where this is the control word of one pin.
-    pub(crate) fn with_control(&self, pin: u32, control: u32) -> Routes
-        requires { pin < 30 }
-        ensures { (controls pads : List ℕ) → length controls ≡ 30
-            → self.now ≡ routes_of controls pads
-            → result ≡ routes_of (slice_set controls pin control) pads }
-    {
-        let function = control % 32;
-        Routes {
-            uart: with_pin(self.uart, pin, function == 2),
-            pwm: with_pin(self.pwm, pin, function == 4),
-            sio: with_pin(self.sio, pin, function == 5),
-            pio0: with_pin(self.pio0, pin, function == 6),
-            pio1: with_pin(self.pio1, pin, function == 7),
-            out: self.out.with_pin(pin, (control >> 8) % 4),
-            enable: self.enable.with_pin(pin, (control >> 12) % 4),
-            input: self.input.with_pin(pin, (control >> 16) % 4),
-            drives: self.drives,
-            senses: self.senses,
-            pulls: self.pulls,
-        }
-    }
-
-    /// The same where this is the register of one pad.
-    pub(crate) fn with_pad(&self, pin: u32, pad: u32) -> Routes
-        requires { pin < 30 }
-        ensures { (controls pads : List ℕ) → length pads ≡ 30
-            → self.now ≡ routes_of controls pads
-            → result ≡ routes_of controls (slice_set pads pin pad) }
-    {
-        Routes {
-            uart: self.uart,
-            pwm: self.pwm,
-            sio: self.sio,
-            pio0: self.pio0,
-            pio1: self.pio1,
-            out: self.out,
-            enable: self.enable,
-            input: self.input,
-            drives: with_pin(self.drives, pin, (pad >> 7) % 2 == 0),
-            senses: with_pin(self.senses, pin, (pad >> 6) % 2 == 1),
-            pulls: with_pin(self.pulls, pin, (pad >> 3) % 2 == 1),
         }
     }
 

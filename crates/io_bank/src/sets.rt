@@ -1,10 +1,9 @@
 //! Sets of pins, and words, bit by bit.
 
-ghost use Rattle.std.specs.Prelude.{ℕ, Bool, ◌≡◌, ◌==◌, ◌+◌, ◌*◌, ◌/◌, ◌%◌, ◌^◌, ◌<◌, false, slice_index, is_some, unwrap_or};
+ghost use Rattle.std.specs.Prelude.{◌≡◌, ◌==◌, ◌+◌, ◌*◌, ◌/◌, ◌%◌, ◌^◌, ◌<◌, false, slice_index, is_some, unwrap_or};
 ghost use Rattle.rp_base.specs.Word.{bit_number};
 ghost use Rattle.io_bank.specs.Pins.{bits_below, pins_where, overridden};
 ghost use Rattle.io_bank.specs.Levels.{by_list};
-ghost use Rattle.io_bank.specs.Routes.{IsElse};
 
 /// All pins.
 pub(crate) const PINS: u32 = 0x3fff_ffff;
@@ -44,19 +43,6 @@ pub(crate) fn pins_with(words: &[u32; 30], low: u32, size: u32, value: u32) -> u
         pins = with_bit(pins, pin, on);
     }
     pins
-}
-
-/// A set of pins with one pin in it, or not in it.
-pub(crate) fn with_pin(set: u32, pin: u32, on: bool) -> u32
-    requires { pin < 30 }
-    ensures { (f g : ℕ → Bool) → set ≡ pins_where f → IsElse pin f g → on ≡ g pin
-        → result ≡ pins_where g }
-{
-    if on {
-        set | (1 << pin)
-    } else {
-        set & !(1 << pin)
-    }
 }
 
 /// The pins that are driven from outside.

@@ -12,6 +12,7 @@ use crate::registers::{
     GPIO0_CTRL, GPIO0_STATUS, INTR0, IO_BANK0_END, PAD_GPIO0, PAD_GPIO29, PADS_BANK0, PROC0_INTE0,
     PROC0_INTF0, PROC0_INTS0, PROC1_INTE0, PROC1_INTF0, PROC1_INTS0, VOLTAGE_SELECT,
 };
+use crate::routes::Routes;
 use crate::sets::overridden;
 use rp_base::bits::{bit_number, has_bit};
 use rp_base::{Registers, unless_held};
@@ -131,9 +132,8 @@ impl IoBank {
         ensures { self.new ≡ effect_at pin_rows offset (Some word) self.old }
     {
         if offset % 8 == GPIO0_CTRL {
-            let (pin, control) = (offset / 8, word & 0x3_331f);
-            self.routes = self.routes.with_control(u32::from(pin), control);
-            self.controls[pin as usize] = control;
+            self.controls[(offset / 8) as usize] = word & 0x3_331f;
+            self.routes = Routes::of(&self.controls, &self.pads);
         }
     }
 
@@ -195,9 +195,8 @@ impl IoBank {
         if offset == VOLTAGE_SELECT {
             self.voltage = word;
         } else if is_pad(offset) {
-            let (pin, pad) = ((offset - PAD_GPIO0) / 4, word & 0xff);
-            self.routes = self.routes.with_pad(u32::from(pin), pad);
-            self.pads[pin as usize] = pad;
+            self.pads[((offset - PAD_GPIO0) / 4) as usize] = word & 0xff;
+            self.routes = Routes::of(&self.controls, &self.pads);
         }
     }
 }

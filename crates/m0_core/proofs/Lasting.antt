@@ -1,7 +1,8 @@
 -- A core that is asleep, or in WFI or WFE while nothing wakes it, cycle after cycle.
 use Rattle.std.proofs.Common.{◌≡◌, ◌∙◌, ℕ, suc, ◌+◌, ◌%◌, ◌^◌, ◌<◌, ◌≤◌, ◌==◌, ◌&&◌, ◌||◌, not, Bool, true, false, cond, List, [], ◌∷◌, refl, sym, ap, ap₂, true≢false, arith, Some, None}
 use Rattle.std.specs.Prelude.{slice_get, Option}
-use Rattle.std.proofs.lemmas.Bool.{eqb-true}
+use Rattle.std.proofs.Math.Bool.{or-false}
+use Rattle.std.proofs.lemmas.Bool.{and_parts, eqb-true}
 use Rattle.rp_base.specs.declared.op.Op.{Op}
 use Rattle.rp_base.specs.declared.op.Op.TheVariants as op
 use Rattle.m0_beats.specs.declared.registers.Regs.{Regs}
@@ -62,11 +63,6 @@ wakes_timer t e =
 
 -- ---- the second beat
 
-both : (a b : Bool) → (a && b) ≡ true → (a ≡ true) × (b ≡ true)
-both true true h = (refl, refl)
-both true false h = absurd (true≢false (sym h))
-both false b h = absurd (true≢false (sym h))
-
 second_inner : (o : Op) (r : Regs) (e : Bool) → (awaits_interrupt o || (awaits_event o && e)) ≡ true → slice_get (beats_of o r) 1 ≡ Some Inner
 unfolding beats_of
 second_inner op.Wfi r e h = refl
@@ -85,12 +81,12 @@ record Lasts (o : Op) (s : State) : Type 0 where
   paused : is_paused_op o s ≡ true
 
 waits_on : (o : Op) (s : State) → Lasts o s → (awaits_interrupt o || (awaits_event o && not s.event)) ≡ true
-waits_on o s h = (both _ _ (both (s.beats_done == 1) _ h.paused).1).0
+waits_on o s h = (and_parts _ _ (and_parts (s.beats_done == 1) _ h.paused).1).0
 
 begun_waiting : (o : Op) (s : State) (cycle : ℕ) (answer : Ask → ℕ) → Lasts o s
     → answered answer (asks s cycle) ≡ ends_with (answer Lines % 2 ^ 32) cycle (act.Inner (works.Instruction o))
 begun_waiting o s cycle answer h =
-    let second = eqb-true s.beats_done 1 (both (s.beats_done == 1) _ h.paused).0 in
+    let second = eqb-true s.beats_done 1 (and_parts (s.beats_done == 1) _ h.paused).0 in
     let at : slice_get (beats_of o s.regs) s.beats_done ≡ Some Inner = ap (slice_get (beats_of o s.regs)) second ∙ second_inner o s.regs (not s.event) (waits_on o s h) in
     begun_on answer cycle s o Inner h.awake h.waits at
 
@@ -132,11 +128,7 @@ unfolding closed
 more_after o s lines first n fits h q k lt =
     rested_lasting o (after lines first s k) (first + k) lines fits (lasts_after o s lines first n h q k (omega (arith, lt)))
     ∙ ap (λ e. record s { nvic = after_all lines first (suc k) s.nvic; event = s.event || e }) (q.silent k lt)
-    ∙ ap (λ e. record s { nvic = after_all lines first (suc k) s.nvic; event = e }) (or_false s.event)
-  where
-    or_false : (b : Bool) → (b || false) ≡ b
-    or_false true = refl
-    or_false false = refl
+    ∙ ap (λ e. record s { nvic = after_all lines first (suc k) s.nvic; event = e }) (or-false s.event)
 
 states : (o : Op) (s : State) (lines first n : ℕ) → lines < 2 ^ 32 → Lasts o s → nvic.IsQuiet lines s.nvic first n
     → (k : ℕ) → k ≤ n → times (rested lines) first k s ≡ after lines first s k

@@ -1,15 +1,17 @@
 -- A plain instruction begins with an inner beat in Thumb state, and its end begins no return, calls nothing and waits for nothing.
-use Rattle.std.proofs.Common.{◌≡◌, ◌+◌, ℕ, zero, suc, Bool, true, false, not, ◌||◌, ◌&&◌, cond, nat_lt, refl, ap, arith, ◌∙◌}
+use Rattle.std.proofs.Common.{◌≡◌, ◌+◌, ℕ, zero, suc, Bool, true, false, not, ◌||◌, ◌&&◌, cond, nat_lt, refl, ap, arith, rules, ◌≤◌, ◌∙◌}
 use Rattle.std.specs.Prelude.{slice_get, unwrap_or, length, List, [], Option, None, ◌==◌}
 use Rattle.std.specs.List.{list_any}
 use Rattle.std.proofs.Math.Bool.{and-false, and-true}
+use Rattle.std.proofs.lemmas.Bool.{and_parts}
 use Rattle.std.proofs.lemmas.Bool.Decides.{nat_tests}
 use Rattle.rp_base.specs.declared.op.Op.{Op}
 use Rattle.rp_base.specs.declared.op.Op.TheVariants as op
 use Rattle.rp_base.specs.declared.Why.TheVariants as why
 use Rattle.m0_beats.specs.declared.registers.Regs.{Regs}
+use Rattle.m0_beats.specs.declared.timing.Beat.{Beat}
 use Rattle.m0_beats.specs.declared.timing.Beat.TheVariants.{Inner}
-use Rattle.m0_beats.specs.Beats.{inner, is_unaligned_beat}
+use Rattle.m0_beats.specs.Beats.{inner, is_unaligned_beat, single}
 use Rattle.m0_beats.specs.Instructions.{beats_of, is_unaligned_of, effect_of, return_of}
 use Rattle.m0_beats.specs.Conditions.{condition_holds}
 use Rattle.m0_nvic.specs.Exceptions.{SVCALL}
@@ -169,57 +171,45 @@ same_end o s call wait value p q r =
     (ap (λ e. record s { regs = effect_of o s.regs s.read; event = e; work = None; beats_done = 0; read = [] })
     (and-true s.event))
 
-plain_ended : (o : Op) (s : State) → is_plain o ≡ true →
-    ended o s ≡ record s { regs = effect_of o s.regs s.read; work = None; beats_done = 0; read = [] }
-unfolding ended
-plain_ended o s h =
-    let q = (plainly o (is_branch o) refl h).0 in
-    same_end o s (is_call o) (awaits_event o) (return_of o s.regs s.read) q.call q.event (q.returns s.regs s.read)
+at_most : (address : ℕ) (beat : Beat) → length (single address beat) ≤ 2
+at_most address beat = search rules
 
-pub accessing : (o : Op) → is_one_access o ≡ true → Ordinary o
-unfolding return_of
-accessing (op.LdrLit t i) h = ordinary refl refl refl refl refl (λ g read. refl)
-accessing (op.StrReg m n t) h = ordinary refl refl refl refl refl (λ g read. refl)
-accessing (op.StrhReg m n t) h = ordinary refl refl refl refl refl (λ g read. refl)
-accessing (op.StrbReg m n t) h = ordinary refl refl refl refl refl (λ g read. refl)
-accessing (op.LdrsbReg m n t) h = ordinary refl refl refl refl refl (λ g read. refl)
-accessing (op.LdrReg m n t) h = ordinary refl refl refl refl refl (λ g read. refl)
-accessing (op.LdrhReg m n t) h = ordinary refl refl refl refl refl (λ g read. refl)
-accessing (op.LdrbReg m n t) h = ordinary refl refl refl refl refl (λ g read. refl)
-accessing (op.LdrshReg m n t) h = ordinary refl refl refl refl refl (λ g read. refl)
-accessing (op.StrImm i n t) h = ordinary refl refl refl refl refl (λ g read. refl)
-accessing (op.LdrImm i n t) h = ordinary refl refl refl refl refl (λ g read. refl)
-accessing (op.StrbImm i n t) h = ordinary refl refl refl refl refl (λ g read. refl)
-accessing (op.LdrbImm i n t) h = ordinary refl refl refl refl refl (λ g read. refl)
-accessing (op.StrhImm i n t) h = ordinary refl refl refl refl refl (λ g read. refl)
-accessing (op.LdrhImm i n t) h = ordinary refl refl refl refl refl (λ g read. refl)
-accessing (op.StrSp t i) h = ordinary refl refl refl refl refl (λ g read. refl)
-accessing (op.LdrSp t i) h = ordinary refl refl refl refl refl (λ g read. refl)
+-- it has two beats at most
+pub accessing : (o : Op) → is_one_access o ≡ true → Ordinary o × ((g : Regs) → length (beats_of o g) ≤ 2)
+unfolding beats_of return_of
+accessing (op.LdrLit t i) h = (ordinary refl refl refl refl refl (λ g read. refl), λ g. at_most _ _)
+accessing (op.StrReg m n t) h = (ordinary refl refl refl refl refl (λ g read. refl), λ g. at_most _ _)
+accessing (op.StrhReg m n t) h = (ordinary refl refl refl refl refl (λ g read. refl), λ g. at_most _ _)
+accessing (op.StrbReg m n t) h = (ordinary refl refl refl refl refl (λ g read. refl), λ g. at_most _ _)
+accessing (op.LdrsbReg m n t) h = (ordinary refl refl refl refl refl (λ g read. refl), λ g. at_most _ _)
+accessing (op.LdrReg m n t) h = (ordinary refl refl refl refl refl (λ g read. refl), λ g. at_most _ _)
+accessing (op.LdrhReg m n t) h = (ordinary refl refl refl refl refl (λ g read. refl), λ g. at_most _ _)
+accessing (op.LdrbReg m n t) h = (ordinary refl refl refl refl refl (λ g read. refl), λ g. at_most _ _)
+accessing (op.LdrshReg m n t) h = (ordinary refl refl refl refl refl (λ g read. refl), λ g. at_most _ _)
+accessing (op.StrImm i n t) h = (ordinary refl refl refl refl refl (λ g read. refl), λ g. at_most _ _)
+accessing (op.LdrImm i n t) h = (ordinary refl refl refl refl refl (λ g read. refl), λ g. at_most _ _)
+accessing (op.StrbImm i n t) h = (ordinary refl refl refl refl refl (λ g read. refl), λ g. at_most _ _)
+accessing (op.LdrbImm i n t) h = (ordinary refl refl refl refl refl (λ g read. refl), λ g. at_most _ _)
+accessing (op.StrhImm i n t) h = (ordinary refl refl refl refl refl (λ g read. refl), λ g. at_most _ _)
+accessing (op.LdrhImm i n t) h = (ordinary refl refl refl refl refl (λ g read. refl), λ g. at_most _ _)
+accessing (op.StrSp t i) h = (ordinary refl refl refl refl refl (λ g read. refl), λ g. at_most _ _)
+accessing (op.LdrSp t i) h = (ordinary refl refl refl refl refl (λ g read. refl), λ g. at_most _ _)
 accessing _ h = absurd (cc h)
 
--- so has a load or a store of one register
-access_ended : (o : Op) (s : State) → is_one_access o ≡ true →
-    ended o s ≡ record s { regs = effect_of o s.regs s.read; work = None; beats_done = 0; read = [] }
-unfolding ended
-access_ended o s h =
-    let q = accessing o h in
-    same_end o s (is_call o) (awaits_event o) (return_of o s.regs s.read) q.call q.event (q.returns s.regs s.read)
-
-ended_by : (o : Op) (s : State) (plain : Bool) → is_plain o ≡ plain → (plain || is_one_access o) ≡ true →
-    ended o s ≡ record s { regs = effect_of o s.regs s.read; work = None; beats_done = 0; read = [] }
-ended_by o s true p h = plain_ended o s p
-ended_by o s false p h = access_ended o s h
+-- so are a plain instruction, and a load or a store of one register
+ordinary_by : (o : Op) (plain : Bool) → is_plain o ≡ plain → (plain || is_one_access o) ≡ true → Ordinary o
+ordinary_by o true p h = (plainly o (is_branch o) refl p).0
+ordinary_by o false p h = (accessing o h).0
 
 pub plainly_ended : (o : Op) (s : State) → (is_plain o || is_one_access o) ≡ true →
     ended o s ≡ record s { regs = effect_of o s.regs s.read; work = None; beats_done = 0; read = [] }
-plainly_ended o s h = ended_by o s (is_plain o) refl h
-
-both : (a b : Bool) → (a && b) ≡ true → (a ≡ true) × (b ≡ true)
-both true b h = (refl, h)
-both false b h = absurd (cc)
+unfolding ended
+plainly_ended o s h =
+    let q = ordinary_by o (is_plain o) refl h in
+    same_end o s (is_call o) (awaits_event o) (return_of o s.regs s.read) q.call q.event (q.returns s.regs s.read)
 
 pub single_plain : (o : Op) → is_single o ≡ true → is_plain o ≡ true
-single_plain o h = (both (is_plain o) _ h).0
+single_plain o h = (and_parts (is_plain o) _ h).0
 
 pub branch_plain : (o : Op) → is_branch o ≡ true → is_plain o ≡ true
 branch_plain (op.BCond c i) h = refl
@@ -242,15 +232,9 @@ single_after o s h =
     ap (λ paused. cond paused (waiting (works.Instruction o) s) (passed (works.Instruction o) None s)) (goes_on o s one.0.event one.0.interrupt)
     ∙ passes o s (length (beats_of o s.regs)) (ap length (one.1 s.regs))
 
--- a plain instruction does not last, nor does a load or a store of one register
-awaits_nothing : (o : Op) (plain : Bool) → is_plain o ≡ plain → (plain || is_one_access o) ≡ true → (awaits_event o ≡ false) × (awaits_interrupt o ≡ false)
-awaits_nothing o true p h =
-    let plain = (plainly o (is_branch o) refl p).0 in (plain.event, plain.interrupt)
-awaits_nothing o false p h =
-    let access = accessing o h in (access.event, access.interrupt)
-
+-- neither lasts
 pub plainly_after : (o : Op) (s : State) → (is_plain o || is_one_access o) ≡ true → after_inner (works.Instruction o) s ≡ passed_instruction o s
 unfolding after_inner passed
 plainly_after o s h =
-    let none = awaits_nothing o (is_plain o) refl h in
-    ap (λ paused. cond paused (waiting (works.Instruction o) s) (passed (works.Instruction o) None s)) (goes_on o s none.0 none.1)
+    let none = ordinary_by o (is_plain o) refl h in
+    ap (λ paused. cond paused (waiting (works.Instruction o) s) (passed (works.Instruction o) None s)) (goes_on o s none.event none.interrupt)

@@ -39,22 +39,24 @@ use Rattle.outer_lane.specs.Rest.{pads_driven}
 use Rattle.outer_lane.specs.Quiet.{seen_in, outer_step, outer_after, held_blocks, quiet_mark, IsQuiet, uart_cycle, uart_word, words_cycle, words_after, IsSettled, IsTimerQuiet, IsUartQuiet, AreWordsQuiet, IsScriptQuiet}
 use Rattle.outer_lane.proofs.Sets.{levels_same}
 
--- ---- the timer
+-- ---- a block beside its bit of RESETS
 
-timer_go : (held : Bool) (block x : TimerState) (c : ℕ) → timer_after c (unless_held_becomes (record { block = block; held = held }) x) ≡ unless_held_becomes (record { block = block; held = held }) (timer.after_step c x)
-timer_go true block x c = refl
-timer_go false block x c = refl
+go : {T : Type 0} (held : Bool) (block x : T) (step : T → T) → unless_held_becomes (unless_held_becomes (record { block = block; held = held }) x) (step (unless_held_becomes (record { block = block; held = held }) x).block) ≡ unless_held_becomes (record { block = block; held = held }) (step x)
+go true block x step = refl
+go false block x step = refl
 
-none_go : (held : Bool) (block : TimerState) → record { block = block; held = held } ≡ unless_held_becomes (record { block = block; held = held }) block
+none_go : {T : Type 0} (held : Bool) (block : T) → record { block = block; held = held } ≡ unless_held_becomes (record { block = block; held = held }) block
 none_go true block = refl
 none_go false block = refl
+
+-- ---- the timer
 
 pub timer_cycles : (t : Resettable TimerState) (cycle k : ℕ) → times timer_after cycle k t ≡ unless_held_becomes t (timer.after_cycles cycle k t.block)
 unfolding times
 timer_cycles t cycle zero = none_go t.held t.block
 timer_cycles t cycle (suc k) =
     ap (timer_after (cycle + k)) (timer_cycles t cycle k)
-    ∙ timer_go t.held t.block (timer.after_cycles cycle k t.block) (cycle + k)
+    ∙ go t.held t.block (timer.after_cycles cycle k t.block) (timer.after_step (cycle + k))
 
 pub held_timer : (t : Resettable TimerState) (cycle k : ℕ) → t.held ≡ true → times timer_after cycle k t ≡ t
 held_timer t cycle k e = timer_cycles t cycle k ∙ rw e refl
@@ -79,20 +81,12 @@ timer_runs t cycle n e q = record {
 
 -- ---- a UART
 
-uart_go : (held : Bool) (block x : SerialPort) (line : Bool) → uart_after line (unless_held_becomes (record { block = block; held = held }) x) ≡ unless_held_becomes (record { block = block; held = held }) (uart.after_step line x)
-uart_go true block x line = refl
-uart_go false block x line = refl
-
-none_uart : (held : Bool) (block : SerialPort) → record { block = block; held = held } ≡ unless_held_becomes (record { block = block; held = held }) block
-none_uart true block = refl
-none_uart false block = refl
-
 uart_cycles : (line : Bool) (u : Resettable SerialPort) (cycle k : ℕ) → times (uart_cycle line) cycle k u ≡ unless_held_becomes u (uart_quiet.after_cycles line k u.block)
 unfolding times
-uart_cycles line u cycle zero = none_uart u.held u.block
+uart_cycles line u cycle zero = none_go u.held u.block
 uart_cycles line u cycle (suc k) =
     ap (uart_after line) (uart_cycles line u cycle k)
-    ∙ uart_go u.held u.block (uart_quiet.after_cycles line k u.block) line
+    ∙ go u.held u.block (uart_quiet.after_cycles line k u.block) (uart.after_step line)
 
 pub held_uart : (line : Bool) (u : Resettable SerialPort) (cycle k : ℕ) → u.held ≡ true → times (uart_cycle line) cycle k u ≡ u
 held_uart line u cycle k e = uart_cycles line u cycle k ∙ rw e refl
@@ -245,21 +239,14 @@ closed_step w seen s k here pads irq =
     ap (outer_step w seen (seen.cycle + k)) here
     ∙ with_same (outer_step w seen (seen.cycle + k) (passed w seen k s)) s.pads s.irq pads irq
 
-closed_none : (w : Setting) (seen : SeenOutputs) (s : State) → outer_after w seen 0 s ≡ passed w seen 0 s
-unfolding times
-closed_none w seen s = refl
-
-one_more : (w : Setting) (seen : SeenOutputs) (s : State) (k : ℕ) → outer_after w seen (suc k) s ≡ outer_step w seen (seen.cycle + k) (outer_after w seen k s)
-unfolding times
-one_more w seen s k = refl
-
 -- where the peripherals are quiet, each part has gone on its own
 pub quiet_closed : (w : Setting) (seen : SeenOutputs) (s : State) (n : ℕ) → IsQuiet w seen s n → (k : ℕ) → k ≤ n → outer_after w seen k s ≡ passed w seen k s
-quiet_closed w seen s n q zero le = closed_none w seen s
+unfolding times
+quiet_closed w seen s n q zero le = refl
 quiet_closed w seen s n q (suc k) le =
     let here = quiet_closed w seen s n q k (omega arith) in
     let there : outer_step w seen (seen.cycle + k) (passed w seen k s) ≡ outer_after w seen (suc k) s =
-    sym (one_more w seen s k ∙ ap (outer_step w seen (seen.cycle + k)) here) in
+    sym (ap (outer_step w seen (seen.cycle + k)) here) in
     closed_step w seen s k here
     (ap (λ (x : State). x.pads) there ∙ q.pads (suc k) le)
     (ap (λ (x : State). x.irq) there ∙ q.irq (suc k) le)
@@ -313,20 +300,12 @@ pads_stay w seen s n k p lt =
     (λ pin low. same_outside w.script wires seen.cycle cycle (p.script_quiet k lt) pin))
     ∙ p.settled
 
-next_pads : (w : Setting) (seen : SeenOutputs) (s : State) (k : ℕ) → (outer_step w seen (seen.cycle + k) (passed w seen k s)).pads ≡ pads_by w.script (wires_at w seen k s) (seen_in seen (seen.cycle + k)) (passed w seen k s)
-unfolding next next_by
-next_pads w seen s k = refl
-
-next_irq : (w : Setting) (seen : SeenOutputs) (s : State) (k : ℕ) → (outer_step w seen (seen.cycle + k) (passed w seen k s)).irq ≡ (wires_at w seen k s).irq
-unfolding next next_by
-next_irq w seen s k = refl
-
 parts_closed : (w : Setting) (seen : SeenOutputs) (s : State) (n : ℕ) → ArePartsQuiet w seen s n → (k : ℕ) → k ≤ n → outer_after w seen k s ≡ passed w seen k s
-parts_closed w seen s n p zero le = closed_none w seen s
+unfolding times next next_by
+parts_closed w seen s n p zero le = refl
 parts_closed w seen s n p (suc k) le =
-    closed_step w seen s k (parts_closed w seen s n p k (omega arith))
-    (next_pads w seen s k ∙ pads_stay w seen s n k p (omega arith))
-    (next_irq w seen s k ∙ ap (λ (x : Wires). x.irq) (p.words_quiet.drives k (omega arith)) ∙ p.same_irq)
+    closed_step w seen s k (parts_closed w seen s n p k (omega arith)) (pads_stay w seen s n k p (omega arith))
+    (ap (λ (x : Wires). x.irq) (p.words_quiet.drives k (omega arith)) ∙ p.same_irq)
 
 mark_go : (a b : Option ℕ) (x : ℕ) (s : State) → a ≡ None → b ≡ None → x ≡ s.pads.current → record { uart = a ∷ b ∷ []; pads = x } ≡ quiet_mark s
 mark_go a b x s e f g = rw (e, f, g) refl

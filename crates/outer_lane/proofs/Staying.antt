@@ -36,12 +36,6 @@ empty_outside script wires cycle e pin lt =
 
 -- ---- the pads stay
 
-abbrev parts : List ℕ → List ℕ → List ℕ → List ℕ → List ℕ → Outs
-parts sio a b c d = record { sio = sio; pio0 = a; pio1 = b; pwm = c; uart = d }
-
-parts-go : (sio a b c d a' b' c' d' : List ℕ) → a ≡ a' → b ≡ b' → c ≡ c' → d ≡ d' → parts sio a b c d ≡ parts sio a' b' c' d'
-parts-go sio a b c d a' b' c' d' p q r s = rw (p, q, r, s) refl
-
 abbrev pub by_pwm : Outs → ℕ → ℕ → Outs
 by_pwm outs levels enables = record outs { pwm = levels ∷ enables ∷ [] }
 
@@ -57,10 +51,7 @@ pub pads_stay : (wires : Wires) (seen : SeenOutputs) (drives : Drives) (s : Stat
 unfolding pads_driven pads_after
 pads_stay wires seen drives s d stays pio0 pio1 pwm driven high =
     let pwm_outs : Outs = by_pwm (outs_by s.sio d) wires.pwm (2 ^ 30 - 1) in
-    let outs : outs_of wires seen s ≡ pwm_outs =
-    parts-go s.sio seen.pio0 seen.pio1 (wires.pwm ∷ (2 ^ 30 - 1) ∷ []) (uart_outputs (output_of s.uart0.block) (output_of s.uart1.block))
-    (d.pio0_levels ∷ d.pio0_enables ∷ []) (d.pio1_levels ∷ d.pio1_enables ∷ []) (wires.pwm ∷ (2 ^ 30 - 1) ∷ []) (d.uart_levels ∷ d.uart_enables ∷ [])
-    pio0 pio1 refl stays.1.1 in
+    let outs : outs_of wires seen s ≡ pwm_outs = rw (pio0, pio1, stays.1.1) refl in
     ap (λ (o : Outs). after_step o (by_sets drives.driven drives.high) s.pads) outs
     ∙ ap (λ (n : ℕ). after_step pwm_outs (by_sets n drives.high) s.pads) driven
     ∙ ap (λ (n : ℕ). after_step pwm_outs (by_sets d.driven n) s.pads) high

@@ -12,44 +12,28 @@ use Rattle.outer_lane.specs.Step.{wires_by, words_by, levels_by, pads_by, next_b
 abbrev pub device_first : Setting → SeenOutputs → State → State
 device_first w seen s = record s { device = w.device.after_step s.device seen.cycle s.pads.current }
 
-pub next-fits : (w : Setting) (seen : SeenOutputs) (s : State) → (length s.device == w.device.count) ≡ true →
-    next_by w.script (w.device.wires s.device seen.cycle s.pads.current) seen (device_first w seen s) ≡ next w s seen
-unfolding wires_by words_by pads_by next_by next
-next-fits w seen s e = rw e refl
-
-pub marked-fits : (w : Setting) (seen : SeenOutputs) (s : State) → (length s.device == w.device.count) ≡ true →
-    marked_by w.script (w.device.wires s.device seen.cycle s.pads.current) seen (device_first w seen s) ≡ marked w s seen
-unfolding wires_by levels_by marked_by marked
-marked-fits w seen s e = rw e refl
-
-pub next-none : (w : Setting) (seen : SeenOutputs) (s : State) → (length s.device == w.device.count) ≡ false →
-    next_by w.script no_wires seen s ≡ next w s seen
-unfolding wires_by words_by next_by next
-next-none w seen s e = rw e refl
-
-pub marked-none : (w : Setting) (seen : SeenOutputs) (s : State) → (length s.device == w.device.count) ≡ false →
-    marked_by w.script no_wires seen s ≡ marked w s seen
-unfolding wires_by marked_by marked
-marked-none w seen s e = rw e refl
-
--- the same of what the calls of a cycle leave
+-- by what the calls of a cycle leave
 pub next_fits : (w : Setting) (seen : SeenOutputs) (s stepped : State) (wires : Wires) → (length s.device == w.device.count) ≡ true →
     wires ≡ w.device.wires s.device seen.cycle s.pads.current → stepped ≡ device_first w seen s →
     next_by w.script wires seen stepped ≡ next w s seen
-next_fits w seen s stepped wires fits drives e = rw (drives, e) (next-fits w seen s fits)
+unfolding wires_by words_by pads_by next_by next
+next_fits w seen s stepped wires fits drives e = rw (drives, e, fits) refl
 
 pub marked_fits : (w : Setting) (seen : SeenOutputs) (s stepped : State) (wires : Wires) → (length s.device == w.device.count) ≡ true →
     wires ≡ w.device.wires s.device seen.cycle s.pads.current → stepped ≡ device_first w seen s →
     marked_by w.script wires seen stepped ≡ marked w s seen
-marked_fits w seen s stepped wires fits drives e = rw (drives, e) (marked-fits w seen s fits)
+unfolding wires_by levels_by marked_by marked
+marked_fits w seen s stepped wires fits drives e = rw (drives, e, fits) refl
 
 pub next_none : (w : Setting) (seen : SeenOutputs) (s stepped : State) (wires : Wires) → (length s.device == w.device.count) ≡ false →
     wires ≡ no_wires → stepped ≡ s → next_by w.script wires seen stepped ≡ next w s seen
-next_none w seen s stepped wires fits drives e = rw (drives, e) (next-none w seen s fits)
+unfolding wires_by words_by next_by next
+next_none w seen s stepped wires fits drives e = rw (drives, e, fits) refl
 
 pub marked_none : (w : Setting) (seen : SeenOutputs) (s stepped : State) (wires : Wires) → (length s.device == w.device.count) ≡ false →
     wires ≡ no_wires → stepped ≡ s → marked_by w.script wires seen stepped ≡ marked w s seen
-marked_none w seen s stepped wires fits drives e = rw (drives, e) (marked-none w seen s fits)
+unfolding wires_by marked_by marked
+marked_none w seen s stepped wires fits drives e = rw (drives, e, fits) refl
 
 -- a slice that keeps its length is all of what it was lent from
 take_front : (ws ys : List ℕ) → take (length ws) (ws ++ ys) ≡ ws

@@ -8,7 +8,7 @@ use io_bank::Outs;
 use pin_script::Drives;
 
 /// All pins.
-const PINS: u32 = 0x3fff_ffff;
+pub(crate) const PINS: u32 = 0x3fff_ffff;
 
 /// The outputs of the parts but SIO, by pin, and what is driven from outside.
 #[derive(Clone, Copy)]

@@ -7,7 +7,7 @@ ghost use Rattle.outer_lane.specs.BroughtUp.{blocks_outs};
 ghost use Rattle.outer_lane.specs.Step.{wires_by};
 
 use crate::behind::Behind;
-use crate::drivers::Drivers;
+use crate::drivers::{Drivers, PINS};
 use crate::outer::Outer;
 use crate::outside::drives;
 use crate::world::SeenOutputs;
@@ -15,9 +15,6 @@ use arrayvec::ArrayVec;
 use io_bank::{IoBank, Outs};
 use lane_look::{Device, Mark, Marks, Wires};
 use pin_script::{Drives, Script};
-
-/// All pins.
-const PINS: u32 = 0x3fff_ffff;
 
 /// The pads are at rest and interrupt neither core, and what the UARTs put out is among what they are stepped by.
 fn do_stay(pads: &IoBank, blocks: &Behind, drivers: &Drivers) -> bool
@@ -54,16 +51,6 @@ impl Outer {
     ghost use Rattle.outer_lane.specs.BroughtUp.{blocks_of, blocks_outs, blocks_stepped};
     ghost use Rattle.outer_lane.specs.Rest.{outs_by, pads_after, pads_driven, next_driven, marked_driven};
     ghost use Rattle.outer_lane.specs.Step.{outs_of, outside_of, byte_of, next_by, marked_by};
-
-    /// What the script and the device drive in a cycle.
-    #[inline(always)]
-    fn drives(&mut self, script: &Script, wires: &Wires, cycle: u64) -> Drives
-        ensures kept { self.new ≡ self.old }
-        ensures drives { (pin : ℕ) → pin < 30 → by_sets result.driven result.high pin
-            ≡ outside_of script.now wires.now cycle pin }
-    {
-        drives(script, &mut self.cursor, wires, cycle)
-    }
 
     /// What the UARTs put out, by pin: levels and enables.
     #[inline(always)]
@@ -222,7 +209,7 @@ impl Outer {
         ensures marks { marks.new
             ≡ marks.old ++ marked_by script.now wires.now seen.now self.old ∷ [] }
     {
-        let drives = self.drives(script, wires, seen.cycle);
+        let drives = drives(script, &mut self.cursor, wires, seen.cycle);
         self.step_all(wires, seen, drives, marks);
     }
 

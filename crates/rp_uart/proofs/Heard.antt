@@ -8,6 +8,7 @@ use Rattle.std.specs.Int.Bits.{or_shifted_r}
 use Rattle.std.proofs.Math.Nat.{pow-suc, add-mul-div_right, mul-div_cancel, mod-lt, div-eq_of_lt}
 use Rattle.std.proofs.lemmas.Nat.{mod-pow-add, mod_low, shr_split, pow_pos}
 use Rattle.std.proofs.lemmas.Nat.Bits.{bit_at-lt, bit_at_cat_low}
+use Rattle.std.proofs.lemmas.Bool.Decides.{nat_tests}
 use Rattle.rp_base.specs.Word.{has_bit, bit_number}
 use Rattle.rp_uart.specs.declared.frame.LineControl.{LineControl}
 use Rattle.rp_uart.specs.declared.receiver.Errors.{Errors}
@@ -26,17 +27,13 @@ gather : (p q r l : ℕ) → r ≡ q * 2 → l * 2 + p * r ≡ (p * q + l) * 2
 gather p q r l e = rw e (omega arith)
 
 bit_from : (n : ℕ) → n < 2 → bit_number (eqb n 1) ≡ n
-bit_from zero h = refl
-bit_from (suc zero) h = refl
-bit_from (suc (suc n)) h = absurd (omega arith)
+bit_from n h = grind (arith, nat_tests)
 
 is_bit : (b : Bool) → eqb (bit_number b) 1 ≡ b
-is_bit true = refl
-is_bit false = refl
+is_bit b = grind (arith, nat_tests)
 
 bit-small : (b : Bool) → bit_number b < 2
-bit-small true = omega arith
-bit-small false = omega arith
+bit-small b = grind (arith, nat_tests)
 
 low-more : (byte k : ℕ) → byte % 2 ^ suc k ≡ bit_at byte k * 2 ^ k + byte % 2 ^ k
 low-more byte k =
@@ -132,8 +129,7 @@ parity_bit-low line byte =
     (map-same (has_bit (byte % 2 ^ w)) (has_bit byte) 0 w (λ k lt. low-bit byte w k (omega arith)))
 
 beq-same : (b : Bool) → beq b b ≡ true
-beq-same true = refl
-beq-same false = refl
+beq-same b = grind (arith, nat_tests)
 
 parity_fits : (parity heard expected : Bool) → heard ≡ expected → (parity && not (beq heard expected)) ≡ false
 parity_fits true heard expected e = rw (e, beq-same expected) refl

@@ -1,4 +1,3 @@
-pub mod AtRest
 pub mod Comparisons
 pub mod Frames
 pub mod Heard

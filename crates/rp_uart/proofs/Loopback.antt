@@ -1,5 +1,5 @@
 -- A UART at rest that hears itself hears the byte that it is given.
-use Rattle.std.proofs.Common.{◌≡◌, ◌∙◌, ℕ, zero, suc, ◌+◌, ◌-◌, ◌*◌, ◌/◌, ◌%◌, ◌^◌, ◌<◌, ◌≤◌, Bool, true, false, cond, List, [], ◌∷◌, ◌++◌, Some, refl, sym, ap, arith, ne_eqb}
+use Rattle.std.proofs.Common.{◌≡◌, ◌∙◌, ℕ, zero, suc, ◌+◌, ◌-◌, ◌*◌, ◌/◌, ◌%◌, ◌^◌, ◌<◌, ◌≤◌, Bool, true, false, cond, List, [], ◌∷◌, ◌++◌, Some, refl, sym, ap, subst, arith, ne_eqb}
 use Rattle.std.specs.Prelude.{◌&&◌, ◌==◌, nat_lt, nat_le, length, drop, slice_get}
 use Rattle.std.proofs.Math.Nat.{mul-le-mul_right}
 use Rattle.std.proofs.lemmas.Bool.{leb-true, leb-false}
@@ -10,131 +10,63 @@ use Rattle.rp_uart.specs.declared.frame.LineControl.{LineControl}
 use Rattle.rp_uart.specs.declared.receiver.Errors.{Errors}
 use Rattle.rp_uart.specs.declared.receiver.Hearing.{Hearing}
 use Rattle.rp_uart.specs.declared.receiver.Received.{Received}
-use Rattle.rp_uart.specs.declared.receiver.Receiver.{Receiver}
 use Rattle.rp_uart.specs.declared.receiver.Receiver.TheVariants as receivers
 use Rattle.rp_uart.specs.declared.sender.Sender.{Sender}
 use Rattle.rp_uart.specs.declared.sender.Sender.TheVariants as senders
 use Rattle.rp_uart.specs.Frame.{width_of, level_at, frame_length, stop_at}
-use Rattle.rp_uart.specs.Interrupts.{depth_of, receive_trigger, transmit_trigger, receive_interrupt, transmit_interrupt, error_interrupts, told}
+use Rattle.rp_uart.specs.Interrupts.{depth_of}
 use Rattle.rp_uart.specs.Laws.{after_cycles, samples_of, begun, frame_time, HearsItself, TheByteComesBack}
-use Rattle.rp_uart.specs.Receiver.{byte_heard, errors_of, with_overrun, stored, with_waited, after_byte, after_waiting, with_receiver, can_receive, first_heard, after_idle, is_false_start, is_stop, with_sample, sampled, after_stop, after_hearing, after_line, is_frame_due, is_byte_due, after_receiving}
-use Rattle.rp_uart.specs.Sender.{bit_time, is_over, elapsed_after, level_of, with_sender, with_first, can_send, next_frame, is_last_bit, after_bit, after_sender, after_sending}
+use Rattle.rp_uart.specs.Receiver.{byte_heard, errors_of, with_overrun, stored, with_waited, after_byte, after_waiting, with_receiver, can_receive, first_heard, is_false_start, is_stop, with_sample, sampled, after_stop, after_line, is_byte_due, after_receiving}
+use Rattle.rp_uart.specs.Sender.{bit_time, is_over, elapsed_after, level_of, with_sender, with_first, can_send, next_frame, is_last_bit, after_sender, after_sending}
 use Rattle.rp_uart.specs.State.{State, no_errors}
 use Rattle.rp_uart.specs.Step.{is_running, output_of, heard_of, after_step}
 use Rattle.rp_uart.proofs.Frames.{frame_length-sum, level_at-start}
 use Rattle.rp_uart.proofs.Heard.{heard_law, level_at-stop}
-use Rattle.rp_uart.proofs.AtRest.{next-none}
-use Rattle.rp_uart.proofs.Kept.{either, sending-keeps, waiting-keeps}
-use Rattle.rp_uart.proofs.Timing.{bit_time-large, one_more, times_of, fewer, Same, same-sending, same-step, same-both, running-as, runs, to_send-received, sender-step, On, goes-on, on-next, level_by}
+use Rattle.rp_base.proofs.Rows.{either-way}
+use Rattle.rp_uart.proofs.Kept.{next-none, sends-alone, waits-alone, first-by, stored-by}
+use Rattle.rp_uart.proofs.Timing.{bit_time-large, one_more, over-rest, times_of, fewer, Same, same-sending, same-step, same-both, running-as, runs, to_send-received, sender-step, On, goes-on, on-next, level_by}
 
 -- ---- what receiving comes to
 
-receiving-no : (h : Bool) (x : State) → is_byte_due x.receiver x ≡ false →
-    after_receiving h x ≡ after_waiting (after_line x.receiver h x)
-unfolding after_receiving
-receiving-no h x e = rw e refl
-
-receiving-yes : (h : Bool) (x : State) → is_byte_due x.receiver x ≡ true →
-    after_receiving h x ≡ after_line x.receiver h x
-unfolding after_receiving
-receiving-yes h x e = rw e refl
-
-idle-due : (x : State) → x.receiver ≡ receivers.Idle → is_byte_due x.receiver x ≡ false
-unfolding is_byte_due
-idle-due x e = ap (λ (r : Receiver). is_byte_due r x) e
-
-idle-line : (h : Bool) (x : State) → x.receiver ≡ receivers.Idle → after_line x.receiver h x ≡ after_idle h x
-unfolding after_line
-idle-line h x e = ap (λ (r : Receiver). after_line r h x) e
-
-frame-due : (f : Hearing) (x : State) → x.receiver ≡ receivers.Frame f → is_byte_due x.receiver x ≡ is_frame_due f x
-unfolding is_byte_due
-frame-due f x e = ap (λ (r : Receiver). is_byte_due r x) e
-
-frame-line : (h : Bool) (f : Hearing) (x : State) → x.receiver ≡ receivers.Frame f →
-    after_line x.receiver h x ≡ after_hearing h f x
-unfolding after_line
-frame-line h f x e = ap (λ (r : Receiver). after_line r h x) e
-
--- a high line at rest
+-- a high line at rest, and a low one
 idle-high : (x : State) → x.receiver ≡ receivers.Idle → after_receiving true x ≡ after_waiting x
-idle-high x e = receiving-no true x (idle-due x e) ∙ ap after_waiting (idle-line true x e)
-
--- a low line at rest
-idle-low-line : (x : State) → can_receive x ≡ true → after_idle false x ≡ with_receiver (first_heard x) x
-idle-low-line x c = rw c refl
+unfolding after_receiving after_line is_byte_due
+idle-high x e = rw e refl
 
 idle-low : (x : State) → x.receiver ≡ receivers.Idle → can_receive x ≡ true →
     after_receiving false x ≡ after_waiting (with_receiver (first_heard x) x)
-idle-low x e c =
-    receiving-no false x (idle-due x e) ∙ ap after_waiting (idle-line false x e ∙ idle-low-line x c)
+unfolding after_receiving after_line is_byte_due
+idle-low x e c = rw (e, c) refl
 
 -- a frame that goes on
-goes_on-due : (f : Hearing) (x : State) → is_over f.elapsed x.divisor ≡ false → is_frame_due f x ≡ false
-goes_on-due f x o = rw o refl
-
-goes_on-line : (h : Bool) (f : Hearing) (x : State) → is_over f.elapsed x.divisor ≡ false →
-    after_hearing h f x ≡ with_receiver (receivers.Frame (record f { elapsed = f.elapsed + 4 })) x
-goes_on-line h f x o = rw o refl
-
 hears-on : (h : Bool) (f : Hearing) (x : State) → x.receiver ≡ receivers.Frame f →
     is_over f.elapsed x.divisor ≡ false →
     after_receiving h x ≡ after_waiting (with_receiver (receivers.Frame (record f { elapsed = f.elapsed + 4 })) x)
-hears-on h f x e o =
-    receiving-no h x (frame-due f x e ∙ goes_on-due f x o) ∙ ap after_waiting (frame-line h f x e ∙ goes_on-line h f x o)
+unfolding after_receiving after_line is_byte_due
+hears-on h f x e o = rw (e, o) refl
 
--- a sample that is not the stop bit's
-sample-due : (f : Hearing) (x : State) → is_over f.elapsed x.divisor ≡ true → is_stop f x ≡ false → is_frame_due f x ≡ false
-sample-due f x o p = rw (o, p) refl
-
-sample-line : (h : Bool) (f : Hearing) (x : State) → is_over f.elapsed x.divisor ≡ true → is_stop f x ≡ false →
-    is_false_start h f ≡ false →
-    after_hearing h f x ≡ with_receiver (receivers.Frame (sampled h f (f.elapsed + 4 - bit_time x.divisor))) x
-sample-line h f x o p q = rw (o, p, q) refl
-
+-- a sample that is not the stop bit's, and the stop bit's
 hears-sample : (h : Bool) (f : Hearing) (x : State) → x.receiver ≡ receivers.Frame f →
     is_over f.elapsed x.divisor ≡ true → is_stop f x ≡ false → is_false_start h f ≡ false →
     after_receiving h x
     ≡ after_waiting (with_receiver (receivers.Frame (sampled h f (f.elapsed + 4 - bit_time x.divisor))) x)
-hears-sample h f x e o p q =
-    receiving-no h x (frame-due f x e ∙ sample-due f x o p)
-    ∙ ap after_waiting (frame-line h f x e ∙ sample-line h f x o p q)
-
--- the stop bit's sample
-stop-due : (f : Hearing) (x : State) → is_over f.elapsed x.divisor ≡ true → is_stop f x ≡ true → is_frame_due f x ≡ true
-stop-due f x o p = rw (o, p) refl
-
-stop-line : (h : Bool) (f : Hearing) (x : State) → is_over f.elapsed x.divisor ≡ true → is_stop f x ≡ true →
-    after_hearing h f x ≡ after_stop h f x
-stop-line h f x o p = rw (o, p) refl
+unfolding after_receiving after_line is_byte_due
+hears-sample h f x e o p q = rw (e, o, p, q) refl
 
 hears-stop : (h : Bool) (f : Hearing) (x : State) → x.receiver ≡ receivers.Frame f →
     is_over f.elapsed x.divisor ≡ true → is_stop f x ≡ true → after_receiving h x ≡ after_stop h f x
-hears-stop h f x e o p =
-    receiving-yes h x (frame-due f x e ∙ stop-due f x o p) ∙ (frame-line h f x e ∙ stop-line h f x o p)
+unfolding after_receiving after_line is_byte_due
+hears-stop h f x e o p = rw (e, o, p) refl
 
 -- ---- a byte that is stored
 
 stored-received : (byte : ℕ) (e : Errors) (y : State) →
     (stored byte e y).received ≡ y.received ++ record { byte = byte; errors = with_overrun y.lost e } ∷ []
 stored-received byte e y =
-    let kept : State = record y {
-      received = y.received ++ record { byte = byte; errors = with_overrun y.lost e } ∷ [];
-      lost = false;
-    } in
-    let some = told (error_interrupts e) kept in
-    either (λ (t : State). t.received) (length kept.received == receive_trigger kept) (told receive_interrupt some) some
-    kept.received refl refl
+    stored-by (λ (t : State). t.received ≡ y.received ++ record { byte = byte; errors = with_overrun y.lost e } ∷ []) byte e y refl refl
 
 stored-receiver : (byte : ℕ) (e : Errors) (y : State) → (stored byte e y).receiver ≡ y.receiver
-stored-receiver byte e y =
-    let kept : State = record y {
-      received = y.received ++ record { byte = byte; errors = with_overrun y.lost e } ∷ [];
-      lost = false;
-    } in
-    let some = told (error_interrupts e) kept in
-    either (λ (t : State). t.receiver) (length kept.received == receive_trigger kept) (told receive_interrupt some) some
-    y.receiver refl refl
+stored-receiver byte e y = stored-by (λ (t : State). t.receiver ≡ y.receiver) byte e y refl refl
 
 room-stores : (byte : ℕ) (e : Errors) (y : State) → nat_lt (length y.received) (depth_of y) ≡ true →
     after_byte byte e y ≡ with_waited (Some 0) (stored byte e y)
@@ -142,27 +74,6 @@ unfolding after_byte
 room-stores byte e y r = rw r refl
 
 -- ---- where sender and receiver are
-
-suc-one : (b : ℕ) → suc b ≡ b + 1
-suc-one b = omega arith
-
-lt-more : (b s : ℕ) → b < s → b + 1 ≤ s
-lt-more b s h = omega arith
-
-le-more : (s b : ℕ) → s ≤ b → s ≤ b + 1
-le-more s b h = omega arith
-
-le-both : (b s : ℕ) → b ≤ s → s ≤ b → b ≡ s
-le-both b s h i = omega arith
-
-positive : (d : ℕ) → 64 ≤ d → 0 < d
-positive d h = omega arith
-
-none-less : (s : ℕ) → 0 ≤ s
-none-less s = omega arith
-
-four-more : (k : ℕ) → 4 * suc k + 4 ≡ 4 * suc (suc k)
-four-more k = omega arith
 
 -- the receiver hears the frame of which the sender has sent so much
 record Hears (byte time : ℕ) (s t : State) : Type 0 where
@@ -205,26 +116,16 @@ record Silent (line : LineControl) (t : State) : Type 0 where
   to_send : t.to_send ≡ []
   high : IsHigh line t.sender
 
-silent-either : (line : LineControl) (c : Bool) (x y : State) → Silent line x → Silent line y → Silent line (cond c x y)
-silent-either line true x y a b = a
-silent-either line false x y a b = b
-
-silent-as : (line : LineControl) (x y : State) → x ≡ y → Silent line y → Silent line x
-silent-as line x y e a = rw e a
-
 silent-sender : (line : LineControl) (sender : Sender) (t : State) → t.sender ≡ sender → t.to_send ≡ [] → IsHigh line sender →
     Silent line (after_sender sender t)
 silent-sender line senders.Idle t is e h =
-    silent-as line (next_frame 0 t) t (next-none 0 t e) (record { to_send = e; high = rw is h })
+    subst (Silent line) (sym (next-none 0 t e)) (record { to_send = e; high = rw is h })
 silent-sender line (senders.Frame f) t is e h =
-    let elapsed = elapsed_after f.elapsed t.divisor in
     let idle = with_sender senders.Idle t in
-    let next = with_sender (senders.Frame (record f { bit = f.bit + 1; elapsed = elapsed })) t in
-    let on = with_sender (senders.Frame (record f { elapsed = elapsed })) t in
-    silent-either line (is_over f.elapsed t.divisor) (after_bit f elapsed t) on
-    (silent-either line (is_last_bit f t) (next_frame elapsed idle) next
-    (silent-as line (next_frame elapsed idle) idle (next-none elapsed idle e) (record { to_send = e; high = record {} }))
-    (record { to_send = e; high = le-more (stop_at line) f.bit h }))
+    either-way (Silent line) (is_over f.elapsed t.divisor)
+    (either-way (Silent line) (is_last_bit f t)
+    (subst (Silent line) (sym (next-none (elapsed_after f.elapsed t.divisor) idle e)) (record { to_send = e; high = record {} }))
+    (record { to_send = e; high = omega arith }))
     (record { to_send = e; high = h })
 
 silent-sending : (line : LineControl) (t : State) → Silent line t → Silent line (after_sending t)
@@ -237,24 +138,6 @@ high-level line (senders.Frame f) h = level_at-stop line f.byte f.bit h
 
 output-high : (s t : State) → Same s t → IsHigh s.line t.sender → output_of t ≡ true
 output-high s t a h = ap (level_of t.sender) a.line ∙ high-level s.line t.sender h
-
-receiver-sent : (t : State) → (after_sending t).receiver ≡ t.receiver
-receiver-sent t = sending-keeps (λ (x : State). x.receiver) (λ a b c x. refl) t
-
-received-sent : (t : State) → (after_sending t).received ≡ t.received
-received-sent t = sending-keeps (λ (x : State). x.received) (λ a b c x. refl) t
-
-lost-sent : (t : State) → (after_sending t).lost ≡ t.lost
-lost-sent t = sending-keeps (λ (x : State). x.lost) (λ a b c x. refl) t
-
-receiver-waited : (t : State) → (after_waiting t).receiver ≡ t.receiver
-receiver-waited t = waiting-keeps (λ (x : State). x.receiver) (λ a b x. refl) t
-
-received-waited : (t : State) → (after_waiting t).received ≡ t.received
-received-waited t = waiting-keeps (λ (x : State). x.received) (λ a b x. refl) t
-
-lost-waited : (t : State) → (after_waiting t).lost ≡ t.lost
-lost-waited t = waiting-keeps (λ (x : State). x.lost) (λ a b x. refl) t
 
 -- a cycle in which the receiver is told this level, and leaves this
 step-to : (line h : Bool) (t y : State) → is_running t ≡ true → heard_of line t ≡ h → after_receiving h (after_sending t) ≡ y →
@@ -274,11 +157,11 @@ rests-next line byte s t running loopback a =
     let silent = silent-sending s.line t (record { to_send = a.to_send; high = a.high }) in
     let told_high : heard_of line t ≡ true =
     loops line t (loopback-as s t a.same loopback) ∙ output-high s t a.same a.high in
-    let is : u ≡ after_waiting x = step-to line true t (after_waiting x) on told_high (idle-high x (receiver-sent t ∙ a.receiver)) in
+    let is : u ≡ after_waiting x = step-to line true t (after_waiting x) on told_high (idle-high x (ap (λ (z : State). z.receiver) (sends-alone t) ∙ a.receiver)) in
     record {
       same = same-both s t u a.same (same-step line t on);
-      receiver = ap (λ (y : State). y.receiver) is ∙ (receiver-waited x ∙ (receiver-sent t ∙ a.receiver));
-      received = ap (λ (y : State). y.received) is ∙ (received-waited x ∙ (received-sent t ∙ a.received));
+      receiver = ap (λ (y : State). y.receiver) is ∙ (ap (λ (z : State). z.receiver) (waits-alone x) ∙ (ap (λ (z : State). z.receiver) (sends-alone t) ∙ a.receiver));
+      received = ap (λ (y : State). y.received) is ∙ (ap (λ (z : State). z.received) (waits-alone x) ∙ (ap (λ (z : State). z.received) (sends-alone t) ∙ a.received));
       to_send = to_send-step line t on ∙ silent.to_send;
       high = rw (sender-step line t on) silent.high;
     }
@@ -294,22 +177,13 @@ still_early b d r t n large e w h =
 same_bit : (b d r t : ℕ) → 64 ≤ d → b * d + r + 4 ≡ t + d / 2 → d ≤ r + 4 → r < d → t / d ≡ b
 same_bit b d r t large e o w = times_of b d (r + 4 - d / 2) t (omega arith) (omega arith)
 
-more-passed : (b d r t : ℕ) → b * d + r + 4 ≡ t + d / 2 → b * d + (r + 4) + 4 ≡ t + 4 + d / 2
-more-passed b d r t e = omega arith
-
 next-passed : (b d r t : ℕ) → b * d + r + 4 ≡ t + d / 2 → d ≤ r + 4 → (b + 1) * d + (r + 4 - d) + 4 ≡ t + 4 + d / 2
 next-passed b d r t e o = omega (arith, one_more b d)
-
-next-rest : (d r : ℕ) → 64 ≤ d → r < d → r + 4 - d < d
-next-rest d r h w = omega arith
 
 no_false_start : (h : Bool) (bit : ℕ) → (bit ≡ 0 → h ≡ false) → (h && bit == 0) ≡ false
 no_false_start true zero k = k refl
 no_false_start true (suc bit) k = ne_eqb (suc bit) 0 (λ e. omega arith)
 no_false_start false bit k = refl
-
-has_time : (b n stop two : ℕ) → b ≤ stop → n ≡ stop + two + 1 → b < n
-has_time b n stop two h e = omega arith
 
 level-bit : (s : State) (byte : ℕ) (h : Bool) (bit : ℕ) → h ≡ level_at s.line byte bit →
     with_sample h bit (samples_of s.line byte bit) ≡ samples_of s.line byte (suc bit)
@@ -333,15 +207,6 @@ entry-is line byte bit l h lost e p q r =
     ∙ (ap (λ (b : Bool). entry line samples stop b) r
     ∙ (ap (λ (b : ℕ). record { byte = b; errors = with_overrun false (errors_of line samples stop) }) heard.heard
     ∙ ap (λ (e : Errors). record { byte = byte % 2 ^ width_of line.width; errors = with_overrun false e }) heard.errors))))
-
-le-as : (a b c : ℕ) → a ≤ b → b ≤ c → a ≤ c
-le-as a b c h i = omega arith
-
-first-passed : (d : ℕ) → 0 * d + d / 2 + 4 ≡ 4 + d / 2
-first-passed d = omega arith
-
-half-less : (d : ℕ) → 64 ≤ d → d / 2 < d
-half-less d h = omega arith
 
 later_bit : (b c d r q t : ℕ) → b * d + r + 4 ≡ t + d / 2 → d ≤ r + 4 → c * d + q ≡ t + 4 → q < d → b ≤ c
 later_bit b c d r q t e o f w =
@@ -371,8 +236,7 @@ module _ (line : Bool) (byte time : ℕ) (s t : State) (running : is_running s �
   soon : time + 4 < frame_time byte s
   soon =
       still_early a.bit d a.elapsed time (frame_length s.line byte) large a.passed a.within
-      (has_time a.bit (frame_length s.line byte) (stop_at s.line) (bit_number s.line.two_stops) a.early
-      (frame_length-sum s.line byte))
+      (omega (arith, a.early, frame_length-sum s.line byte))
 
   on_u : On byte (time + 4) s u
   on_u = on-next line s t byte time running a.on soon
@@ -381,13 +245,13 @@ module _ (line : Bool) (byte time : ℕ) (s t : State) (running : is_running s �
   to_send-u = to_send-step line t on_t ∙ ((goes-on s t byte time running a.on soon).to_send ∙ a.to_send)
 
   receiver-x : x.receiver ≡ receivers.Frame f
-  receiver-x = receiver-sent t ∙ a.is
+  receiver-x = ap (λ (z : State). z.receiver) (sends-alone t) ∙ a.is
 
   received-x : x.received ≡ s.received
-  received-x = received-sent t ∙ a.received
+  received-x = ap (λ (z : State). z.received) (sends-alone t) ∙ a.received
 
   lost-x : x.lost ≡ false
-  lost-x = lost-sent t ∙ a.lost
+  lost-x = ap (λ (z : State). z.lost) (sends-alone t) ∙ a.lost
 
   divisor-x : x.divisor ≡ s.divisor
   divisor-x = (same-sending t).divisor ∙ a.on.same.divisor
@@ -413,13 +277,13 @@ module _ (line : Bool) (byte time : ℕ) (s t : State) (running : is_running s �
         on = on_u;
         bit = a.bit;
         elapsed = a.elapsed + 4;
-        is = ap (λ (z : State). z.receiver) is ∙ receiver-waited y;
-        passed = more-passed a.bit d a.elapsed time a.passed;
+        is = ap (λ (z : State). z.receiver) is ∙ ap (λ (z : State). z.receiver) (waits-alone y);
+        passed = omega (arith, a.passed);
         within = leb-false d (a.elapsed + 4) o;
         early = a.early;
-        received = ap (λ (z : State). z.received) is ∙ (received-waited y ∙ received-x);
+        received = ap (λ (z : State). z.received) (is ∙ waits-alone y) ∙ received-x;
         to_send = to_send-u;
-        lost = ap (λ (z : State). z.lost) is ∙ (lost-waited y ∙ lost-x);
+        lost = ap (λ (z : State). z.lost) (is ∙ waits-alone y) ∙ lost-x;
       }
 
   further : is_over a.elapsed s.divisor ≡ true → is_stop f s ≡ false → Hears byte (time + 4) s u
@@ -433,7 +297,7 @@ module _ (line : Bool) (byte time : ℕ) (s t : State) (running : is_running s �
       step-to line heard t (after_waiting y) on_t refl
       (hears-sample heard f x receiver-x (ap (is_over a.elapsed) divisor-x ∙ o)
       (ap (λ (l : LineControl). nat_le (stop_at l) a.bit) line-x ∙ p) start) in
-      let one : suc a.bit ≡ a.bit + 1 = suc-one a.bit in
+      let one : suc a.bit ≡ a.bit + 1 = omega arith in
       let less : a.bit < stop_at s.line = leb-false (stop_at s.line) a.bit p in
       record {
         on = on_u;
@@ -441,17 +305,17 @@ module _ (line : Bool) (byte time : ℕ) (s t : State) (running : is_running s �
         elapsed = a.elapsed + 4 - d;
         is =
             ap (λ (z : State). z.receiver) is
-            ∙ (receiver-waited y
+            ∙ (ap (λ (z : State). z.receiver) (waits-alone y)
             ∙ (ap (λ (v : Divisor). receivers.Frame (sampled heard f (a.elapsed + 4 - bit_time v))) divisor-x
             ∙ ap
             (λ (k : ℕ). receivers.Frame (record { samples = k; bit = a.bit + 1; elapsed = a.elapsed + 4 - bit_time s.divisor }))
             (level-bit s byte heard a.bit level ∙ ap (samples_of s.line byte) one)));
         passed = next-passed a.bit d a.elapsed time a.passed full;
-        within = next-rest d a.elapsed large a.within;
-        early = lt-more a.bit (stop_at s.line) less;
-        received = ap (λ (z : State). z.received) is ∙ (received-waited y ∙ received-x);
+        within = over-rest d a.elapsed large a.within;
+        early = omega arith;
+        received = ap (λ (z : State). z.received) (is ∙ waits-alone y) ∙ received-x;
         to_send = to_send-u;
-        lost = ap (λ (z : State). z.lost) is ∙ (lost-waited y ∙ lost-x);
+        lost = ap (λ (z : State). z.lost) (is ∙ waits-alone y) ∙ lost-x;
       }
 
   stops : is_over a.elapsed s.divisor ≡ true → is_stop f s ≡ true → Rests byte s u
@@ -459,7 +323,7 @@ module _ (line : Bool) (byte time : ℕ) (s t : State) (running : is_running s �
       let full : d ≤ a.elapsed + 4 = leb-true d (a.elapsed + 4) o in
       let level = heard-is full in
       let past : stop_at s.line ≤ a.bit = leb-true (stop_at s.line) a.bit p in
-      let here : a.bit ≡ stop_at s.line = le-both a.bit (stop_at s.line) a.early past in
+      let here : a.bit ≡ stop_at s.line = omega arith in
       let high : heard ≡ true = level ∙ level_at-stop s.line byte a.bit past in
       let y = with_receiver (cond heard receivers.Idle receivers.Waiting) x in
       let b = byte_heard x.line f.samples in
@@ -473,9 +337,9 @@ module _ (line : Bool) (byte time : ℕ) (s t : State) (running : is_running s �
       (ap (λ (l : LineControl). nat_le (stop_at l) a.bit) line-x ∙ p)
       ∙ room-stores b e y fits) in
       let next = on_u.sent in
-      let later : stop_at s.line ≤ next.bit =
-      le-as (stop_at s.line) a.bit next.bit past
-      (later_bit a.bit next.bit d a.elapsed next.elapsed time a.passed full next.passed next.within) in
+      let more : a.bit ≤ next.bit =
+      later_bit a.bit next.bit d a.elapsed next.elapsed time a.passed full next.passed next.within in
+      let later : stop_at s.line ≤ next.bit = omega arith in
       record {
         same = on_u.same;
         receiver =
@@ -515,16 +379,10 @@ next-first byte s c e =
     ∙ ap (λ (b : Bool). cond b (with_first (Some byte) 0 s) s) c
 
 first-sender : (byte : ℕ) (s : State) → (with_first (Some byte) 0 s).sender ≡ begun byte 0
-first-sender byte s =
-    let rest : State = record s { sender = begun byte 0; to_send = drop 1 s.to_send } in
-    either (λ (z : State). z.sender) (length rest.to_send == transmit_trigger rest) (told transmit_interrupt rest) rest
-    (begun byte 0) refl refl
+first-sender byte s = first-by (λ (z : State). z.sender ≡ begun byte 0) byte 0 s refl refl
 
 first-to_send : (byte : ℕ) (s : State) → (with_first (Some byte) 0 s).to_send ≡ drop 1 s.to_send
-first-to_send byte s =
-    let rest : State = record s { sender = begun byte 0; to_send = drop 1 s.to_send } in
-    either (λ (z : State). z.to_send) (length rest.to_send == transmit_trigger rest) (told transmit_interrupt rest) rest
-    (drop 1 s.to_send) refl refl
+first-to_send byte s = first-by (λ (z : State). z.to_send ≡ drop 1 s.to_send) byte 0 s refl refl
 
 record Begins (byte : ℕ) (s t : State) : Type 0 where
   on : On byte 0 s t
@@ -533,9 +391,6 @@ record Begins (byte : ℕ) (s t : State) : Type 0 where
   to_send : t.to_send ≡ []
   lost : t.lost ≡ false
 
-nothing-yet : (d : ℕ) → 0 * d + 0 ≡ 0
-nothing-yet d = omega arith
-
 begins : (line : Bool) (byte : ℕ) (s : State) → HearsItself byte s → Begins byte s (after_step line s)
 begins line byte s a =
     let x = after_sending s in
@@ -543,7 +398,7 @@ begins line byte s a =
     let first : x ≡ with_first (Some byte) 0 s = sending-idle s a.sender ∙ next-first byte s a.sends a.to_send in
     let high : heard_of line s ≡ true = loops line s a.loops ∙ ap (λ (q : Sender). level_of q s.line) a.sender in
     let is : after_step line s ≡ after_waiting x =
-    step-to line true s (after_waiting x) a.running high (idle-high x (receiver-sent s ∙ a.receiver)) in
+    step-to line true s (after_waiting x) a.running high (idle-high x (ap (λ (z : State). z.receiver) (sends-alone s) ∙ a.receiver)) in
     record {
       on = record {
         same = same-step line s a.running;
@@ -551,16 +406,16 @@ begins line byte s a =
           bit = 0;
           elapsed = 0;
           is = sender-step line s a.running ∙ (ap (λ (z : State). z.sender) first ∙ first-sender byte s);
-          passed = nothing-yet (bit_time s.divisor);
-          within = positive (bit_time s.divisor) large;
+          passed = omega arith;
+          within = omega arith;
         };
       };
-      receiver = ap (λ (z : State). z.receiver) is ∙ (receiver-waited x ∙ (receiver-sent s ∙ a.receiver));
-      received = ap (λ (z : State). z.received) is ∙ (received-waited x ∙ received-sent s);
+      receiver = ap (λ (z : State). z.receiver) (is ∙ waits-alone x) ∙ ap (λ (z : State). z.receiver) (sends-alone s) ∙ a.receiver;
+      received = ap (λ (z : State). z.received) (is ∙ waits-alone x) ∙ ap (λ (z : State). z.received) (sends-alone s);
       to_send =
           to_send-step line s a.running
           ∙ (ap (λ (z : State). z.to_send) first ∙ (first-to_send byte s ∙ ap (drop 1) a.to_send));
-      lost = ap (λ (z : State). z.lost) is ∙ (lost-waited x ∙ (lost-sent s ∙ a.complete));
+      lost = ap (λ (z : State). z.lost) (is ∙ waits-alone x) ∙ ap (λ (z : State). z.lost) (sends-alone s) ∙ a.complete;
     }
 
 frame-long : (n d k : ℕ) → 64 ≤ d → n ≡ k + 1 → 4 < n * d
@@ -580,7 +435,7 @@ begins-next line byte s t a b =
     let large : 64 ≤ d = bit_time-large s.divisor a.running in
     let on_t = running-as s t b.on.same a.running in
     let x = after_sending t in
-    let zero_bit : 0 / d ≡ 0 = times_of 0 d 0 0 (nothing-yet d) (positive d large) in
+    let zero_bit : 0 / d ≡ 0 = times_of 0 d 0 0 (omega arith) (omega arith) in
     let low : heard_of line t ≡ false =
     loops line t (loopback-as s t b.on.same a.loops)
     ∙ (level_by s t byte 0 b.on ∙ level_at-start s.line byte (0 / d) zero_bit) in
@@ -588,7 +443,7 @@ begins-next line byte s t a b =
     ap (λ (c : Control). c.enabled && c.receive) ((same-sending t).control ∙ b.on.same.control) ∙ a.receives in
     let y = with_receiver (first_heard x) x in
     let is : after_step line t ≡ after_waiting y =
-    step-to line false t (after_waiting y) on_t low (idle-low x (receiver-sent t ∙ b.receiver) can) in
+    step-to line false t (after_waiting y) on_t low (idle-low x (ap (λ (z : State). z.receiver) (sends-alone t) ∙ b.receiver) can) in
     let soon = frame-lasts byte s large in
     record {
       on = on-next line s t byte 0 a.running b.on soon;
@@ -596,22 +451,19 @@ begins-next line byte s t a b =
       elapsed = d / 2;
       is =
           ap (λ (z : State). z.receiver) is
-          ∙ (receiver-waited y
+          ∙ (ap (λ (z : State). z.receiver) (waits-alone y)
           ∙ ap (λ (v : Divisor). receivers.Frame (record { samples = 0; bit = 0; elapsed = bit_time v / 2 }))
           ((same-sending t).divisor ∙ b.on.same.divisor));
-      passed = first-passed d;
-      within = half-less d large;
-      early = none-less (stop_at s.line);
-      received = ap (λ (z : State). z.received) is ∙ (received-waited y ∙ (received-sent t ∙ b.received));
+      passed = omega arith;
+      within = omega arith;
+      early = omega arith;
+      received = ap (λ (z : State). z.received) (is ∙ waits-alone y) ∙ ((ap (λ (z : State). z.received) (sends-alone t) ∙ b.received));
       to_send =
           to_send-step line t on_t ∙ ((goes-on s t byte 0 a.running b.on soon).to_send ∙ b.to_send);
-      lost = ap (λ (z : State). z.lost) is ∙ (lost-waited y ∙ (lost-sent t ∙ b.lost));
+      lost = ap (λ (z : State). z.lost) (is ∙ waits-alone y) ∙ ((ap (λ (z : State). z.lost) (sends-alone t) ∙ b.lost));
     }
 
 -- ---- all cycles
-
-stage-as : (byte t u : ℕ) (s x : State) → t ≡ u → Stage byte t s x → Stage byte u s x
-stage-as byte t u s x e a = rw (sym e) a
 
 stage-next : (line : Bool) (byte time : ℕ) (s t : State) → HearsItself byte s → Stage byte time s t →
     Stage byte (time + 4) s (after_step line t)
@@ -623,30 +475,22 @@ stage-at : (levels : ℕ → Bool) (byte k : ℕ) (s : State) → HearsItself by
 stage-at levels byte zero s a =
     hears (begins-next (levels 1) byte s (after_step (levels 0) s) a (begins (levels 0) byte s a))
 stage-at levels byte (suc k) s a =
-    stage-as byte (4 * suc k + 4) (4 * suc (suc k)) s (after_cycles levels (suc (suc (suc k))) s) (four-more k)
+    let e : 4 * suc k + 4 ≡ 4 * suc (suc k) = omega arith in
+    subst (λ (time : ℕ). Stage byte time s (after_cycles levels (suc (suc (suc k))) s)) e
     (stage-next (levels (suc (suc k))) byte (4 * suc k) s (after_cycles levels (suc (suc k)) s) a (stage-at levels byte k s a))
-
-not_now : (b d r t n : ℕ) → 64 ≤ d → b * d + r + 4 ≡ t + d / 2 → r < d → b < n → n * d ≤ t → ⊥
-not_now b d r t n large e w h early =
-    let more : b + 1 ≤ n = omega arith in
-    let enough : (b + 1) * d ≤ n * d = mul-le-mul_right d more in
-    omega (arith, one_more b d)
 
 comes : (byte time : ℕ) (s t : State) → HearsItself byte s → frame_time byte s ≤ time → Stage byte time s t →
     t.received ≡ s.received ++ record { byte = byte % 2 ^ width_of s.line.width; errors = no_errors } ∷ []
 comes byte time s t a early (rests b) = b.received
 comes byte time s t a early (hears b) =
-    absurd
-    (not_now b.bit (bit_time s.divisor) b.elapsed time (frame_length s.line byte) (bit_time-large s.divisor a.running) b.passed
-    b.within
-    (has_time b.bit (frame_length s.line byte) (stop_at s.line) (bit_number s.line.two_stops) b.early
-    (frame_length-sum s.line byte)) early)
-
-none-before : (n : ℕ) → 4 < n → n ≤ 4 * 0 → ⊥
-none-before n h e = omega arith
+    let soon =
+    still_early b.bit (bit_time s.divisor) b.elapsed time (frame_length s.line byte) (bit_time-large s.divisor a.running) b.passed b.within
+    (omega (arith, b.early, frame_length-sum s.line byte)) in
+    absurd (omega (arith, soon, early))
 
 pub the_byte_comes_back : TheByteComesBack
 the_byte_comes_back s levels byte zero a early =
-    absurd (none-before (frame_time byte s) (frame-lasts byte s (bit_time-large s.divisor a.running)) early)
+    let long = frame-lasts byte s (bit_time-large s.divisor a.running) in
+    absurd (omega (arith, long, early))
 the_byte_comes_back s levels byte (suc k) a early =
     comes byte (4 * suc k) s (after_cycles levels (suc (suc k)) s) a early (stage-at levels byte k s a)

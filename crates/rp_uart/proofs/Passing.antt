@@ -16,7 +16,7 @@ use Rattle.rp_uart.specs.Sender.{bit_time, is_over, level_of, can_send, is_last_
 use Rattle.rp_uart.specs.State.{State}
 use Rattle.rp_uart.specs.Step.{is_running, output_of, heard_of, after_step, sent_byte, pacing_of}
 use Rattle.rp_uart.specs.Words.{word_of}
-use Rattle.rp_uart.proofs.AtRest.{cond-same, none-in, next-none}
+use Rattle.rp_uart.proofs.Kept.{cond-same, none-in, next-none}
 
 not-over : (elapsed : ℕ) (d : Divisor) → elapsed + 4 < bit_time d → is_over elapsed d ≡ false
 not-over elapsed d lt = grind (arith, nat_tests)
@@ -125,10 +125,7 @@ waited-more a b c (Some elapsed) e =
 
 parts : (s : State) (a b : Sender) (c d : Receiver) (e f : Option ℕ) → a ≡ b → c ≡ d → e ≡ f →
     ◌≡◌ {A = State} (record s { sender = a; receiver = c; waited = e }) (record s { sender = b; receiver = d; waited = f })
-parts s a b c d e f x y z =
-    ap (λ (q : Sender). record s { sender = q; receiver = c; waited = e }) x
-    ∙ (ap (λ (q : Receiver). record s { sender = b; receiver = q; waited = e }) y
-    ∙ ap (λ (q : Option ℕ). record s { sender = b; receiver = d; waited = q }) z)
+parts s a b c d e f x y z = rw (x, y, z) refl
 
 passed-more : (k : ℕ) (s : State) → passed 1 (passed k s) ≡ passed (suc k) s
 passed-more k s =
@@ -212,26 +209,3 @@ stands-quiet line s n e = record {
 pub not-false : (b : Bool) → true ≡ not b → b ≡ false
 not-false true e = cc
 not-false false e = refl
-
--- ---- for fewer cycles
-
-sends-less : (n k : ℕ) (x : Sender) (b : Bool) (d : Divisor) → k ≤ n → SendsOn n x b d → SendsOn k x b d
-sends-less n k senders.Idle b d le h = h
-sends-less n k (senders.Frame f) b d le h = omega (arith, h)
-
-hears-less : (n k : ℕ) (x : Receiver) (level can : Bool) (d : Divisor) → k ≤ n → HearsOn n x level can d → HearsOn k x level can d
-hears-less n k receivers.Idle level can d le h = h
-hears-less n k (receivers.Frame f) level can d le h = omega (arith, h)
-hears-less n k receivers.Waiting level can d le h = h
-
-waits-less : (n k : ℕ) (x : Option ℕ) (d : Divisor) → k ≤ n → WaitsOn n x d → WaitsOn k x d
-waits-less n k None d le h = h
-waits-less n k (Some elapsed) d le h = omega (arith, h)
-
-pub goes-less : (line : Bool) (s : State) (n k : ℕ) → GoesOn line s n → k ≤ n → GoesOn line s k
-goes-less line s n k g le = record {
-  running = g.running;
-  sends = sends-less n k s.sender (has_frame s) s.divisor le g.sends;
-  hears = hears-less n k s.receiver (heard_of line s) (can_receive s) s.divisor le g.hears;
-  waits = waits-less n k s.waited s.divisor le g.waits;
-}

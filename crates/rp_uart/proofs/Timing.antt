@@ -1,9 +1,10 @@
 -- A frame takes the time of its bits: how much of it has passed is the number of its bit times the time of a bit, and what
 -- has passed of the bit.
-use Rattle.std.proofs.Common.{◌≡◌, ◌∙◌, ℕ, zero, suc, ◌+◌, ◌-◌, ◌*◌, ◌/◌, ◌<◌, ◌≤◌, Bool, true, false, cond, Some, None, refl, sym, ap, arith}
+use Rattle.std.proofs.Common.{◌≡◌, ◌∙◌, ℕ, zero, suc, ◌+◌, ◌-◌, ◌*◌, ◌/◌, ◌<◌, ◌≤◌, Bool, true, false, cond, Some, None, refl, sym, ap, subst, arith}
 use Rattle.std.specs.Prelude.{◌&&◌, nat_lt, nat_le}
-use Rattle.std.proofs.Math.Nat.{add-mul, mul-le-mul_right, mul-add-div_right, div-eq_of_lt}
-use Rattle.std.proofs.lemmas.Bool.{leb-true, le-leb, lt-leb, leb-false}
+use Rattle.std.proofs.Math.Bool.{and-false}
+use Rattle.std.proofs.Math.Nat.{add-mul, mul-le-mul_right, lt_of_mul-lt-mul_right, mul-add-div_right, div-eq_of_lt}
+use Rattle.std.proofs.lemmas.Bool.{leb-true, lt-leb, leb-false}
 use Rattle.std.proofs.lemmas.Grind.{common_steps}
 use Rattle.std.proofs.lemmas.Bool.Decides.{nat_tests}
 use Rattle.rp_uart.specs.declared.control.Divisor.{Divisor}
@@ -17,7 +18,7 @@ use Rattle.rp_uart.specs.Receiver.{after_receiving}
 use Rattle.rp_uart.specs.Sender.{bit_time, is_over, level_of, with_sender, is_last_bit, after_frame, after_sender, after_sending, ended_byte}
 use Rattle.rp_uart.specs.State.{State}
 use Rattle.rp_uart.specs.Step.{is_running, output_of, heard_of, after_step, sent_byte}
-use Rattle.rp_uart.proofs.Kept.{sending-keeps, receiving-keeps}
+use Rattle.rp_uart.proofs.Kept.{sends-alone, hears-alone}
 
 -- ---- numbers
 
@@ -35,53 +36,23 @@ times_of b d r t e h =
     ap (λ (x : ℕ). x / d) (sym e) ∙ (mul-add-div_right positive b r ∙ omega arith)
 
 -- fewer times is less
-fewer-by : (b n d t : ℕ) → b * d ≤ t → t < n * d → (c : Bool) → nat_le n b ≡ c → b < n
-fewer-by b n d t h i true e =
-    let more : n * d ≤ b * d = mul-le-mul_right d (leb-true n b e) in
-    absurd (omega arith)
-fewer-by b n d t h i false e = leb-false n b e
-
 pub fewer : (b n d t : ℕ) → b * d ≤ t → t < n * d → b < n
-fewer b n d t h i = fewer-by b n d t h i (nat_le n b) refl
-
-lt-from : (a b c : ℕ) → a + 4 ≡ b → b < c → a + 4 < c
-lt-from a b c e h = omega arith
-
-lt-less : (a c : ℕ) → a + 4 < c → a < c
-lt-less a c h = omega arith
-
-none-and : (d e : ℕ) → 0 * d + e ≡ e
-none-and d e = omega arith
-
-lt-as : (a b c : ℕ) → b ≡ c → a < c → a < b
-lt-as a b c e h = omega arith
+fewer b n d t h i = lt_of_mul-lt-mul_right d (omega arith)
 
 -- the next bit, after a rest
 over-time : (b d r t : ℕ) → b * d + r ≡ t → d ≤ r + 4 → (b + 1) * d + (r + 4 - d) ≡ t + 4
 over-time b d r t e h = omega (arith, one_more b d)
 
-on-time : (a r t : ℕ) → a + r ≡ t → a + (r + 4) ≡ t + 4
-on-time a r t e = omega arith
-
-over-rest : (d r : ℕ) → 64 ≤ d → r < d → r + 4 - d < d
+pub over-rest : (d r : ℕ) → 64 ≤ d → r < d → r + 4 - d < d
 over-rest d r h w = omega arith
 
 over-less : (b d r t n : ℕ) → b * d + r ≡ t → d ≤ r + 4 → t + 4 < n * d → b + 1 < n
 over-less b d r t n e h early = fewer (b + 1) n d (t + 4) (omega (arith, one_more b d)) early
 
-and-false : (c : Bool) → (c && false) ≡ false
-and-false true = refl
-and-false false = refl
-
 -- whether the last bit is over
 last_over-by : (b d r t total : ℕ) → b * d + r ≡ t → total ≡ b * d + d → (c : Bool) → nat_le d (r + 4) ≡ c →
     (c && true) ≡ nat_le total (t + 4)
-last_over-by b d r t total e f true h =
-    let full : d ≤ r + 4 = leb-true d (r + 4) h in
-    sym (le-leb total (t + 4) (omega arith))
-last_over-by b d r t total e f false h =
-    let short : r + 4 < d = leb-false d (r + 4) h in
-    sym (lt-leb total (t + 4) (omega arith))
+last_over-by b d r t total e f c h = grind (arith, nat_tests)
 
 last_over : (b n d r t : ℕ) → b * d + r ≡ t → r < d → t < n * d → 64 ≤ d → (c : Bool) → nat_le n (b + 1) ≡ c →
     (nat_le d (r + 4) && c) ≡ nat_le (n * d) (t + 4)
@@ -159,7 +130,7 @@ goes-over s byte bit elapsed time large is passed within early false over =
     let f : Sending = record { byte = byte; bit = bit; elapsed = elapsed } in
     let g : Sending = record { byte = byte; bit = bit; elapsed = elapsed + 4 } in
     goes-by s (after_sending s) g byte (time + 4) (sending-frame f s is ∙ not_over f s over) refl
-    (on-time (bit * d) elapsed time passed) (leb-false d (elapsed + 4) over)
+    (omega (arith, passed)) (leb-false d (elapsed + 4) over)
 
 pub goes : (s : State) (byte time : ℕ) → 64 ≤ bit_time s.divisor → Sent byte time (bit_time s.divisor) s.sender →
     time + 4 < frame_time byte s → Goes byte (time + 4) s (after_sending s)
@@ -179,16 +150,16 @@ pub record Same (s t : State) : Type 0 where
 
 pub same-sending : (s : State) → Same s (after_sending s)
 same-sending s = record {
-  line = sending-keeps (λ (t : State). t.line) (λ a b c t. refl) s;
-  divisor = sending-keeps (λ (t : State). t.divisor) (λ a b c t. refl) s;
-  control = sending-keeps (λ (t : State). t.control) (λ a b c t. refl) s;
+  line = ap (λ (t : State). t.line) (sends-alone s);
+  divisor = ap (λ (t : State). t.divisor) (sends-alone s);
+  control = ap (λ (t : State). t.control) (sends-alone s);
 }
 
 same-receiving : (line : Bool) (s : State) → Same s (after_receiving line s)
 same-receiving line s = record {
-  line = receiving-keeps (λ (t : State). t.line) (λ a b c d e f t. refl) line s;
-  divisor = receiving-keeps (λ (t : State). t.divisor) (λ a b c d e f t. refl) line s;
-  control = receiving-keeps (λ (t : State). t.control) (λ a b c d e f t. refl) line s;
+  line = ap (λ (t : State). t.line) (hears-alone line s);
+  divisor = ap (λ (t : State). t.divisor) (hears-alone line s);
+  control = ap (λ (t : State). t.control) (hears-alone line s);
 }
 
 pub same-both : (s t u : State) → Same s t → Same t u → Same s u
@@ -208,10 +179,10 @@ pub running-as : (s t : State) → Same s t → is_running s ≡ true → is_run
 running-as s t a e = ap (λ (d : Divisor). nat_lt 0 d.integer) a.divisor ∙ e
 
 pub sender-received : (line : Bool) (s : State) → (after_receiving line s).sender ≡ s.sender
-sender-received line s = receiving-keeps (λ (t : State). t.sender) (λ a b c d e f t. refl) line s
+sender-received line s = ap (λ (t : State). t.sender) (hears-alone line s)
 
 pub to_send-received : (line : Bool) (s : State) → (after_receiving line s).to_send ≡ s.to_send
-to_send-received line s = receiving-keeps (λ (t : State). t.to_send) (λ a b c d e f t. refl) line s
+to_send-received line s = ap (λ (t : State). t.to_send) (hears-alone line s)
 
 pub sender-step : (line : Bool) (s : State) → is_running s ≡ true → (after_step line s).sender ≡ (after_sending s).sender
 sender-step line s e = ap (λ (t : State). t.sender) (runs line s e) ∙ sender-received (heard_of line s) (after_sending s)
@@ -224,13 +195,7 @@ pub record On (byte time : ℕ) (s t : State) : Type 0 where
   pub sent : Sent byte time (bit_time s.divisor) t.sender
 
 moved : (byte time : ℕ) (d e : ℕ) (x y : Sender) → e ≡ d → y ≡ x → Sent byte time e x → Sent byte time d y
-moved byte time d e x y p q a = record {
-  bit = a.bit;
-  elapsed = a.elapsed;
-  is = q ∙ a.is;
-  passed = ap (λ (k : ℕ). a.bit * k + a.elapsed) (sym p) ∙ a.passed;
-  within = rw (sym p) a.within;
-}
+moved byte time d e x y p q a = subst (λ (v : ℕ). Sent byte time v y) p (subst (λ (z : Sender). Sent byte time e z) (sym q) a)
 
 pub frame_time-as : (byte : ℕ) (s t : State) → Same s t → frame_time byte t ≡ frame_time byte s
 frame_time-as byte s t a =
@@ -243,7 +208,7 @@ goes-on s t byte time runs a early =
     let large : 64 ≤ bit_time t.divisor = bit_time-large t.divisor (running-as s t a.same runs) in
     let d : bit_time t.divisor ≡ bit_time s.divisor = ap bit_time a.same.divisor in
     let here : Sent byte time (bit_time t.divisor) t.sender = moved byte time _ _ _ _ (sym d) refl a.sent in
-    goes t byte time large here (lt-as (time + 4) (frame_time byte t) (frame_time byte s) (frame_time-as byte s t a.same) early)
+    goes t byte time large here (rw (frame_time-as byte s t a.same) early)
 
 pub on-next : (line : Bool) (s t : State) (byte time : ℕ) → is_running s ≡ true → On byte time s t →
     time + 4 < frame_time byte s → On byte (time + 4) s (after_step line t)
@@ -255,27 +220,16 @@ on-next line s t byte time runs a early =
       sent = moved byte (time + 4) _ _ _ _ d (sender-step line t running) (goes-on s t byte time runs a early).sent;
     }
 
-at-time : (byte t u : ℕ) (s x : State) → t ≡ u → On byte t s x → On byte u s x
-at-time byte t u s x e a = record {
-  same = a.same;
-  sent = record {
-    bit = a.sent.bit;
-    elapsed = a.sent.elapsed;
-    is = a.sent.is;
-    passed = a.sent.passed ∙ e;
-    within = a.sent.within;
-  };
-}
-
 on-after : (s : State) (levels : ℕ → Bool) (byte elapsed n : ℕ) → is_running s ≡ true →
     On byte elapsed s s → elapsed + 4 * n < frame_time byte s → On byte (elapsed + 4 * n) s (after_cycles levels n s)
 on-after s levels byte elapsed zero runs a early =
-    at-time byte elapsed (elapsed + 4 * zero) s s (omega arith) a
+    let e : elapsed ≡ elapsed + 4 * zero = omega arith in
+    subst (λ (time : ℕ). On byte time s s) e a
 on-after s levels byte elapsed (suc n) runs a early =
     let e : elapsed + 4 * n + 4 ≡ elapsed + 4 * suc n = omega arith in
-    let sooner : elapsed + 4 * n + 4 < frame_time byte s = lt-from (elapsed + 4 * n) (elapsed + 4 * suc n) (frame_time byte s) e early in
-    let now : elapsed + 4 * n < frame_time byte s = lt-less (elapsed + 4 * n) (frame_time byte s) sooner in
-    at-time byte (elapsed + 4 * n + 4) (elapsed + 4 * suc n) s (after_cycles levels (suc n) s) e
+    let sooner : elapsed + 4 * n + 4 < frame_time byte s = rw e early in
+    let now : elapsed + 4 * n < frame_time byte s = omega (arith, sooner) in
+    subst (λ (time : ℕ). On byte time s (after_cycles levels (suc n) s)) e
     (on-next (levels n) s (after_cycles levels n s) byte (elapsed + 4 * n) runs
     (on-after s levels byte elapsed n runs a now) sooner)
 
@@ -298,7 +252,7 @@ ends_by s t byte time runs a early =
     let d : bit_time t.divisor ≡ bit_time s.divisor = ap bit_time a.same.divisor in
     let total : frame_time byte t ≡ frame_time byte s = frame_time-as byte s t a.same in
     let here : Sent byte time (bit_time t.divisor) t.sender = moved byte time _ _ _ _ (sym d) refl a.sent in
-    let sooner : time < frame_time byte t = lt-as time (frame_time byte t) (frame_time byte s) total early in
+    let sooner : time < frame_time byte t = rw total early in
     runs-sent t running
     ∙ (ap (λ (x : Sender). ended_byte x t) here.is
     ∙ (ap (λ (c : Bool). cond c (Some byte) None)
@@ -310,7 +264,7 @@ pub a_frame_takes_its_time : AFrameTakesItsTime
 a_frame_takes_its_time s levels byte elapsed n runs begins within early =
     let start : On byte elapsed s s = record {
       same = record { line = refl; divisor = refl; control = refl };
-      sent = record { bit = 0; elapsed = elapsed; is = begins; passed = none-and (bit_time s.divisor) elapsed; within = within };
+      sent = record { bit = 0; elapsed = elapsed; is = begins; passed = omega arith; within = within };
     } in
     let time = elapsed + 4 * n in
     let t = after_cycles levels n s in

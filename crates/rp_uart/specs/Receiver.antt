@@ -57,11 +57,6 @@ unfoldable pub after_byte : ℕ → Errors → State → State
 after_byte byte e s =
     with_waited (Some 0) (if nat_lt (length s.received) (depth_of s) then stored byte e s else dropped e s)
 
--- no byte is being received
-abbrev pub is_free : Receiver → Bool
-is_free receivers.Idle = true
-is_free _ = false
-
 -- ---- the timeout
 
 -- the timeout is told after 32 bits without a byte or a read while bytes wait

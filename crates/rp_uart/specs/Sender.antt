@@ -1,7 +1,7 @@
 -- Sending (PrimeCell UART PL011 Technical Reference Manual, DDI 0183, 2.4.3, UART operation: baud rate divisor and data
 -- transmission, and 3.3.8, UARTCR). Time is counted in quarters of a cycle, of which a cycle has 4 and a bit 64 times the
 -- divisor, which is a whole number of them.
-use Rattle.std.specs.Prelude.{ℕ, ◌+◌, ◌-◌, ◌*◌, ◌==◌, Bool, true, false, ◌&&◌, nat_le, if◌then◌else◌, length, drop, Option, Some, None, slice_get}
+use Rattle.std.specs.Prelude.{ℕ, ◌+◌, ◌-◌, ◌*◌, ◌==◌, Bool, true, ◌&&◌, nat_le, if◌then◌else◌, length, drop, Option, Some, None, slice_get}
 use Rattle.rp_uart.specs.declared.control.Divisor.{Divisor}
 use Rattle.rp_uart.specs.declared.frame.LineControl.{LineControl}
 use Rattle.rp_uart.specs.declared.sender.Sending.{Sending}
@@ -26,10 +26,6 @@ elapsed_after elapsed d = if is_over elapsed d then elapsed + 4 - bit_time d els
 abbrev pub level_of : Sender → LineControl → Bool
 level_of senders.Idle line = true
 level_of (senders.Frame f) line = level_at line f.byte f.bit
-
-abbrev pub is_idle : Sender → Bool
-is_idle senders.Idle = true
-is_idle (senders.Frame f) = false
 
 abbrev pub with_sender : Sender → State → State
 with_sender sender s = record s { sender = sender }

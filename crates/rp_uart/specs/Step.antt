@@ -1,9 +1,9 @@
 -- One cycle of a UART (PrimeCell UART PL011 Technical Reference Manual, DDI 0183, 2.4.3, UART operation: system and diagnostic
 -- loopback testing, 2.7, DMA interface, and 3.3.14, UARTDMACR).
-use Rattle.std.specs.Prelude.{ℕ, ◌-◌, ◌==◌, ◌&&◌, ◌||◌, Bool, is_none, nat_lt, if◌then◌else◌, List, [], ◌∷◌, length, Option, None}
+use Rattle.std.specs.Prelude.{ℕ, ◌-◌, Bool, nat_lt, if◌then◌else◌, List, [], ◌∷◌, length, Option, None}
 use Rattle.rp_uart.specs.Interrupts.{depth_of}
-use Rattle.rp_uart.specs.Receiver.{after_receiving, is_free}
-use Rattle.rp_uart.specs.Sender.{level_of, is_idle, after_sending, ended_byte}
+use Rattle.rp_uart.specs.Receiver.{after_receiving}
+use Rattle.rp_uart.specs.Sender.{level_of, after_sending, ended_byte}
 use Rattle.rp_uart.specs.State.{State}
 
 -- with an integer divisor of 0 nothing runs
@@ -23,12 +23,6 @@ after_step line s = if is_running s then after_receiving (heard_of line s) (afte
 -- the byte whose frame ends in this cycle
 abbrev pub sent_byte : State → Option ℕ
 sent_byte s = if is_running s then ended_byte s.sender s else None
-
--- nothing is sent, nothing is received, and no byte waits to be sent or to be told; a low line, which is heard, would begin a frame
-abbrev pub has_nothing_to_do : Bool → State → Bool
-has_nothing_to_do line s =
-    is_idle s.sender
-    && (is_free s.receiver && (is_none s.waited && ((length s.to_send == 0) && (line || s.control.loopback))))
 
 -- the free entries of the transmit FIFO and the words of the receive FIFO, each where the DMA engine is asked to move them
 abbrev pub pacing_of : State → List ℕ

@@ -1,9 +1,9 @@
 //! A UART: its state, its cycle and its readers.
 
-ghost use Rattle.std.specs.Prelude.{◌≡◌, true, not, None, Decides};
+ghost use Rattle.std.specs.Prelude.{◌≡◌, not, Decides};
 ghost use Rattle.rp_uart.specs.State.{at_reset};
 ghost use Rattle.rp_uart.specs.Interrupts.{is_line_high};
-ghost use Rattle.rp_uart.specs.Step.{is_running, has_nothing_to_do, output_of, heard_of, after_step, sent_byte, pacing_of};
+ghost use Rattle.rp_uart.specs.Step.{is_running, output_of, heard_of, after_step, sent_byte, pacing_of};
 
 use crate::control::{Control, Divisor, DmaControl};
 use crate::frame::{LineControl, WordLength};
@@ -156,26 +156,12 @@ impl Uart {
 
     /// One cycle, in which `line` is the level of RX; with LBE the UART hears its own TX in place of that. The byte whose frame
     /// ends in this cycle, None exactly where none does.
-    #[inline(always)]
+    #[tactic(auto, using(crate::proofs::Kept::kept))]
     pub fn step(&mut self, line: bool) -> Option<u8>
         ensures after { self.new ≡ after_step line self.old }
         ensures byte { result ≡ sent_byte self.old }
     {
-        if self.divisor.integer == 0 {
-            return None;
-        }
-        self.run(line)
-    }
-
-    /// One cycle of a UART that has a divisor.
-    #[inline(never)]
-    #[tactic(auto, using(crate::proofs::Kept::kept))]
-    fn run(&mut self, line: bool) -> Option<u8>
-        requires { is_running self.old ≡ true }
-        ensures after { self.new ≡ after_step line self.old }
-        ensures byte { result ≡ sent_byte self.old }
-    {
-        if self.has_nothing_to_do(line) {
+        if self.is_stopped() {
             return None;
         }
         let heard = self.heard(line);
@@ -217,21 +203,6 @@ impl Uart {
         ensures { result ≡ is_line_high self.now }
     {
         self.raw & self.mask != 0
-    }
-
-    /// Nothing is sent, nothing is received and no byte waits to be told, so that a cycle with this level changes nothing.
-    #[inline(always)]
-    #[tactic(auto, using(crate::proofs::AtRest::at_rest))]
-    fn has_nothing_to_do(&self, line: bool) -> bool
-        ensures value { result ≡ has_nothing_to_do line self.now }
-        ensures same { result ≡ true → after_step line self.now ≡ self.now }
-        ensures silent { result ≡ true → sent_byte self.now ≡ None }
-    {
-        matches!(self.sender, Sender::Idle)
-            && matches!(self.receiver, Receiver::Idle)
-            && self.waited.is_none()
-            && self.to_send.is_empty()
-            && (line || self.control.loopback)
     }
 
     /// The UART has no divisor, so that it does not run.

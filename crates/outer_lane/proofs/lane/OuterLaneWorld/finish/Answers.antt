@@ -6,8 +6,8 @@ use Rattle.outer_lane.proofs.Stepped.{next_fits, marked_fits, next_none, marked_
 use Rattle.outer_lane.specs.contracts.outer.Outer.{the_view}
 use Rattle.outer_lane.proofs.lane.OuterLaneWorld.finish.Goals as goal
 
-pub returns-then-len-words-clause-state : goal.returns-then-len-words-clause-state
-returns-then-len-words-clause-state g c =
+pub returns-then-len-words : goal.returns-then-len-words
+returns-then-len-words g c =
     let d = g.X.Device.meaning c.args.env.now.device.now in
     let w = setting_of c.args.env.now.script.now d c.args.env.now.limit in
     let i = the_view c.self.inside in
@@ -26,37 +26,19 @@ returns-then-len-words-clause-state g c =
     refilled i.device c.step-wires.new.state kept ∙ c.step-wires.ensures.state
     ∙ ap (λ (xs : List ℕ). d.after_step xs cycle c.pads-levels.result) c.as_mut_slice.ensures.value
     ∙ ap (λ (n : ℕ). d.after_step i.device cycle n) c.pads-levels.ensures in
-    c.step_by.ensures.state
-    ∙ next_fits w c.args.begun.now i _ _ fits drives (ap (λ (xs : List ℕ). record i { device = xs }) words)
-    ∙ ap (λ s. next w s c.args.begun.now) c.self.view_is
+    let stepped = ap (λ (xs : List ℕ). record i { device = xs }) words in
+    record {
+      state =
+          c.step_by.ensures.state ∙ next_fits w c.args.begun.now i _ _ fits drives stepped
+          ∙ ap (λ s. next w s c.args.begun.now) c.self.view_is;
+      marks =
+          c.step_by.ensures.marks
+          ∙ ap (λ m. c.args.marks.now ++ m ∷ [])
+          (marked_fits w c.args.begun.now i _ _ fits drives stepped ∙ ap (λ s. marked w s c.args.begun.now) c.self.view_is);
+    }
 
-pub returns-then-len-words-clause-marks : goal.returns-then-len-words-clause-marks
-returns-then-len-words-clause-marks g c =
-    let d = g.X.Device.meaning c.args.env.now.device.now in
-    let w = setting_of c.args.env.now.script.now d c.args.env.now.limit in
-    let i = the_view c.self.inside in
-    let a = c.len.ensures.value in
-    let b = c.words.ensures.number in
-    let t = c.if-len-words.true in
-    let fits : (length i.device == d.count) ≡ true = grind (arith, nat_tests, a, b, t) in
-    let cycle = c.args.begun.now.cycle in
-    let drives =
-    c.step-wires.ensures.wires
-    ∙ ap (λ (xs : List ℕ). d.wires xs cycle c.pads-levels.result) c.as_mut_slice.ensures.value
-    ∙ ap (λ (n : ℕ). d.wires i.device cycle n) c.pads-levels.ensures in
-    let kept : length c.step-wires.new.state ≡ length i.device =
-    omega (arith, c.step-wires.auto.state, ap (λ (xs : List ℕ). length xs) c.as_mut_slice.ensures.value) in
-    let words =
-    refilled i.device c.step-wires.new.state kept ∙ c.step-wires.ensures.state
-    ∙ ap (λ (xs : List ℕ). d.after_step xs cycle c.pads-levels.result) c.as_mut_slice.ensures.value
-    ∙ ap (λ (n : ℕ). d.after_step i.device cycle n) c.pads-levels.ensures in
-    c.step_by.ensures.marks
-    ∙ ap (λ m. c.args.marks.now ++ m ∷ [])
-    (marked_fits w c.args.begun.now i _ _ fits drives (ap (λ (xs : List ℕ). record i { device = xs }) words)
-    ∙ ap (λ s. marked w s c.args.begun.now) c.self.view_is)
-
-pub returns-else-len-words-clause-state : goal.returns-else-len-words-clause-state
-returns-else-len-words-clause-state g c =
+pub returns-else-len-words : goal.returns-else-len-words
+returns-else-len-words g c =
     let d = g.X.Device.meaning c.args.env.now.device.now in
     let w = setting_of c.args.env.now.script.now d c.args.env.now.limit in
     let i = the_view c.self.inside in
@@ -64,20 +46,13 @@ returns-else-len-words-clause-state g c =
     let b = c.words.ensures.number in
     let t = c.if-len-words.false in
     let unfit : (length i.device == d.count) ≡ false = grind (arith, nat_tests, a, b, t) in
-    c.step_by-else-len-words.ensures.state
-    ∙ next_none w c.args.begun.now i _ _ unfit (no_wires_by c.default.result c.default.ensures) (sym c.self.view_is)
-    ∙ ap (λ s. next w s c.args.begun.now) c.self.view_is
-
-pub returns-else-len-words-clause-marks : goal.returns-else-len-words-clause-marks
-returns-else-len-words-clause-marks g c =
-    let d = g.X.Device.meaning c.args.env.now.device.now in
-    let w = setting_of c.args.env.now.script.now d c.args.env.now.limit in
-    let i = the_view c.self.inside in
-    let a = c.len.ensures.value in
-    let b = c.words.ensures.number in
-    let t = c.if-len-words.false in
-    let unfit : (length i.device == d.count) ≡ false = grind (arith, nat_tests, a, b, t) in
-    c.step_by-else-len-words.ensures.marks
-    ∙ ap (λ m. c.args.marks.now ++ m ∷ [])
-    (marked_none w c.args.begun.now i _ _ unfit (no_wires_by c.default.result c.default.ensures) (sym c.self.view_is)
-    ∙ ap (λ s. marked w s c.args.begun.now) c.self.view_is)
+    let none = no_wires_by c.default.result c.default.ensures in
+    record {
+      state =
+          c.step_by-else-len-words.ensures.state ∙ next_none w c.args.begun.now i _ _ unfit none (sym c.self.view_is)
+          ∙ ap (λ s. next w s c.args.begun.now) c.self.view_is;
+      marks =
+          c.step_by-else-len-words.ensures.marks
+          ∙ ap (λ m. c.args.marks.now ++ m ∷ [])
+          (marked_none w c.args.begun.now i _ _ unfit none (sym c.self.view_is) ∙ ap (λ s. marked w s c.args.begun.now) c.self.view_is);
+    }
