@@ -26,7 +26,7 @@ use Rattle.pio_machine.specs.Queue.{Try, completed, stalled, loaded_from, refill
 use Rattle.pio_machine.specs.Output.{out_value, out_stalls, starved, out_done, ending_of_out, try_out}
 use Rattle.pio_machine.specs.Move.{mov_value, ending_of_mov}
 use Rattle.pio_machine.specs.Operation.{tried, loads_osr, delay_of, stepped_past, ended}
-use Rattle.pio_machine.specs.Cycle.{worked, word_tried, after_op}
+use Rattle.pio_machine.specs.Cycle.{worked, word_tried}
 use Rattle.pio_machine.specs.WordLaws.{IsUntried, AWordBeginsUntried, AWrittenWordComesNext, TheBitsInStandAtTheirEnd, IsKept, AStallKeepsTheRest}
 use Rattle.pio_machine.proofs.Refills.{refilled-keeps, ended-stalled}
 
@@ -160,14 +160,11 @@ kept-op (Irq clear wait index) number seen m h =
     cond_both (waits_for_clear clear wait (flag_of index number) seen m) (with_raised m) m (IsKept m) (λ e. kept-keep m.waiting _ m) (λ e. stays m)
 kept-op _ number seen m h = absurd (cc)
 
-same_kept : (m t u : Machine1) → u ≡ t → IsKept m t → IsKept m u
-same_kept m t u e h = kept m u (ap (λ x. x.pc) e ∙ h.pc) (ap (λ x. x.delay) e ∙ h.delay) (ap (λ x. x.x) e ∙ h.x) (ap (λ x. x.y) e ∙ h.y) (ap (λ x. x.rx) e ∙ h.rx)
-
 pub stall_keeps : AStallKeepsTheRest
 stall_keeps word op number seen m h =
     let t = (tried op number seen m).machine in
-    same_kept m (worked op number seen m) (after_op word op number seen m)
-    (ended-stalled (delay_of word (worked op number seen m)) (tried op number seen m).ending (worked op number seen m) h)
+    subst (IsKept m)
+    (sym (ended-stalled (delay_of word (worked op number seen m)) (tried op number seen m).ending (worked op number seen m) h))
     (then_kept (kept-op op number seen m h) (cond_both (loads_osr op) t (refilled t) (IsKept t) (λ e. stays t) (λ e. kept-refill t)))
 
 -- ---- the bits of an IN
