@@ -1,10 +1,10 @@
 //! Copies worked by hand over a small memory: cycle by cycle, what the engine reads and what it writes.
 
-use dma_engine::{BegunTransfer, Dma};
 use dma_engine::registers::{
     CH0_AL1_CTRL, CH0_CTRL_TRIG, CH0_READ_ADDR, CH0_TRANS_COUNT, CH0_WRITE_ADDR, CHAN_ABORT, INTE0,
     INTF0, INTF1, INTR, INTS0, INTS1, MULTI_CHAN_TRIGGER, N_CHANNELS, TIMER0,
 };
+use dma_engine::{BegunTransfer, Dma};
 use lane_look::{Ask, Lane, Look, Marks, Turn, Want};
 use rp_base::map::{Spot, place, port};
 use rp_base::{Master, Request, Reset, Size, Why};
