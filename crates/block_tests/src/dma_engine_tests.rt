@@ -1,10 +1,10 @@
 //! Copies worked by hand over a small memory: cycle by cycle, what the engine reads and what it writes.
 
-use dma_engine::Dma;
 use dma_engine::registers::{
     CH0_AL1_CTRL, CH0_CTRL_TRIG, CH0_READ_ADDR, CH0_TRANS_COUNT, CH0_WRITE_ADDR, CHAN_ABORT, INTE0,
     INTF0, INTF1, INTR, INTS0, INTS1, MULTI_CHAN_TRIGGER, N_CHANNELS, TIMER0,
 };
+use dma_engine::{BegunTransfer, Dma};
 use lane_look::{Ask, Lane, Look, Marks, Turn, Want};
 use rp_base::map::{Spot, place, port};
 use rp_base::{Master, Request, Reset, Size, Why};
@@ -153,7 +153,7 @@ enum Deed {
     Word(u32, u32),
     /// The interrupt lines.
     Lines(bool, bool),
-    /// The engine rests, or not.
+    /// The engine is quiet for ever, or not.
     Idle(bool),
     /// What a copy reads at an offset.
     Twin(u16, u32),
@@ -205,7 +205,7 @@ fn shows(dma: &Dma, memory: &Memory, deed: &Deed) -> bool {
         Deed::Missing(offset) => dma.read(offset).is_none() && !dma.allows(offset, Some(0)),
         Deed::Word(address, word) => memory.word(address) == word,
         Deed::Lines(first, second) => dma.lines() == [first, second],
-        Deed::Idle(idle) => dma.is_at_rest() == idle,
+        Deed::Idle(idle) => (dma.quiet(&BegunTransfer::nothing()) == u64::MAX) == idle,
         Deed::Twin(offset, word) => copied(dma, offset) == Some(word),
         _ => true,
     }

@@ -122,7 +122,7 @@ fn acts(block: &mut PioBlock, look: &mut Levels, deed: &Deed) -> bool {
             }
         }
         Deed::Lines(first, second) => return block.lines() == [first, second],
-        Deed::Idle(idle) => return block.is_at_rest() == idle,
+        Deed::Idle(idle) => return (block.quiet() == u64::MAX) == idle,
         Deed::Copy => replace(block),
         _ => {}
     }

@@ -1,6 +1,7 @@
 -- The cycles of a copy, one after another.
 use Rattle.std.proofs.Common.{◌≡◌, ℕ, zero, suc, ◌+◌, ◌-◌, ◌*◌, ◌/◌, ◌%◌, ◌^◌, ◌<◌, ◌≤◌, ◌==◌, true, false, cond, List, [], ◌∷◌, ◌++◌, Option, Some, None, refl, ap, ap₂, ◌∙◌, arith}
-use Rattle.std.specs.Prelude.{nat_le, ◌&&◌}
+use Rattle.std.specs.Prelude.{◌&&◌, not}
+use Rattle.std.proofs.lemmas.Bool.{le-leb}
 use Rattle.std.proofs.lemmas.Bool.Decides.{nat_tests}
 use Rattle.std.proofs.lemmas.Nat.{pow_pos, mod-mul-add, div-mul-add}
 use Rattle.std.proofs.Math.Nat.{mod-lt}
@@ -16,7 +17,7 @@ use Rattle.dma_engine.specs.declared.begun.BegunTransfer.{BegunTransfer}
 use Rattle.dma_engine.specs.Asks.{begun_with, asks, asks_at, asks_read, next_request, write_at, write_begun}
 use Rattle.dma_engine.specs.Channel.{with_trigger, with_abort, with_end, in_turn}
 use Rattle.dma_engine.specs.Choice.{is_ready, first_in_turn, choice_of}
-use Rattle.dma_engine.specs.Cycle.{want_of, after_ends, with_read, after_read_of, after_write_of, after_choice, after_transfers, next}
+use Rattle.dma_engine.specs.Cycle.{want_of, is_in_flight, after_ends, with_read, after_read_of, after_write_of, after_choice, after_transfers, next}
 use Rattle.dma_engine.specs.Timer.{gets_credit, after_timers}
 use Rattle.dma_engine.specs.Transfer.{advanced, moved, data_of, read_of, write_after, request_of}
 use Rattle.dma_engine.specs.State.{State}
@@ -69,18 +70,11 @@ goes s t begun choice ends is last =
     ∙ ap (λ ch. after_timers (gets_credit s) (after_choice ch (after_write_of begun (Done 0 ∷ Done 0 ∷ []) (after_read_of begun (Done 0 ∷ Done 0 ∷ []) s)))) is
     ∙ last
 
-ends_none : (m r w k : ℕ) → (k == 0) ≡ false → after_ends (busy m r w k None []) ≡ busy m r w k None []
+ends_later : (m r w k : ℕ) (chosen : Option ℕ) (waiting : List WaitingWrite) → (k == 0) ≡ false →
+    after_ends (busy m r w k chosen waiting) ≡ busy m r w k chosen waiting
 unfolding after_ends in_turn
-ends_none m r w k h = ap (λ b. cond (b && true) (with_end 0 (busy m r w k None [])) (busy m r w k None [])) h
-
-ends_read : (m r w k : ℕ) → (k == 0) ≡ false → after_ends (busy m r w k (Some 0) []) ≡ busy m r w k (Some 0) []
-unfolding after_ends in_turn
-ends_read m r w k h = ap (λ b. cond (b && false) (with_end 0 (busy m r w k (Some 0) [])) (busy m r w k (Some 0) [])) h
-
-ends_both : (m r w k x v : ℕ) → (k == 0) ≡ false → after_ends (busy m r w k (Some 0) (pending x v ∷ [])) ≡ busy m r w k (Some 0) (pending x v ∷ [])
-unfolding after_ends in_turn
-ends_both m r w k x v h =
-    ap (λ b. cond (b && false) (with_end 0 (busy m r w k (Some 0) (pending x v ∷ []))) (busy m r w k (Some 0) (pending x v ∷ []))) h
+ends_later m r w k chosen waiting h =
+    let s = busy m r w k chosen waiting in ap (λ b. cond (b && not (is_in_flight 0 s)) (with_end 0 s) s) h
 
 choice_is : (m r w k : ℕ) (chosen : Option ℕ) (waiting : List WaitingWrite) → (k == 0) ≡ false → choice_of 0 (busy m r w k chosen waiting) ≡ Some 0
 unfolding choice_of first_in_turn is_ready
@@ -163,12 +157,9 @@ record IsIn (a : ℕ) : Type 0 where
   first : 0x20000000 ≤ a
   last : a < 0x20040000
 
-le_true : (a b : ℕ) → a ≤ b → nat_le a b ≡ true
-le_true a b h = grind (arith, nat_tests)
-
 place : (a : ℕ) → IsIn a → place_of a ≡ spot.Ram ((a - 0x20000000) / 4) ((a - 0x20000000) / 4 % 4)
 unfolding place_of
-place a h = rw (le_true 0x20000000 a h.first, le_true a 0x2003FFFF (omega (arith, h.last))) refl
+place a h = rw (le-leb 0x20000000 a h.first, le-leb a 0x2003FFFF (omega (arith, h.last))) refl
 
 is_in : (n a : ℕ) → AreInSram (suc n) a → IsIn a
 is_in n a h = record { aligned = h.aligned; first = h.first; last = omega (arith, h.last) }
@@ -213,7 +204,7 @@ chooses : (memory : ℕ → ℕ) (m r w k : ℕ) → Steps memory (busy m r w (s
 chooses memory m r w k =
     steps memory _ _ (begun_with 0 access.Nothing access.Nothing) (begun_none memory m r w (suc k))
     (goes (busy m r w (suc k) None []) (busy m r w (suc k - 1) (Some 0) []) (begun_with 0 access.Nothing access.Nothing) (Some 0)
-    (ends_none m r w (suc k) (not_zero k)) (choice_is m r w (suc k) None [] (not_zero k)) (choose_last m r w (suc k))
+    (ends_later m r w (suc k) _ _ (not_zero k)) (choice_is m r w (suc k) None [] (not_zero k)) (choose_last m r w (suc k))
     ∙ ap (λ c. busy m r w c (Some 0) []) (one_less k))
 
 -- the first word is read
@@ -224,7 +215,7 @@ reads_first memory m r w k h g =
     steps memory _ _ (begun_with 0 (reading (r / 4 * 4) d) access.Nothing) (begun_read memory m r w (suc k) _ _ (placed r h))
     (goes (busy m r w (suc k) (Some 0) []) (busy m ((r + 4) % 2 ^ 32) ((w + 4) % 2 ^ 32) (suc k - 1) (Some 0) (pending (w / 4 * 4) d ∷ []))
     (begun_with 0 (reading (r / 4 * 4) d) access.Nothing) (Some 0)
-    (ends_read m r w (suc k) (not_zero k)) (choice_is m r w (suc k) (Some 0) [] (not_zero k)) (read_last m r w (suc k) (r / 4 * 4) d)
+    (ends_later m r w (suc k) _ _ (not_zero k)) (choice_is m r w (suc k) (Some 0) [] (not_zero k)) (read_last m r w (suc k) (r / 4 * 4) d)
     ∙ ap (λ c. busy m ((r + 4) % 2 ^ 32) ((w + 4) % 2 ^ 32) c (Some 0) (pending (w / 4 * 4) d ∷ [])) (one_less k)
     ∙ state_is m r w k 0 d (word memory r) (Some 0) h g (word_at memory r h))
 
@@ -243,7 +234,7 @@ does_both memory m r w k x v h g f =
     steps memory _ _ (begun_with 0 (reading (r / 4 * 4) d) (writing x v)) (begun_both memory m r w (suc k) _ _ _ _ x v (placed r h) (place x f))
     (goes (busy m r w (suc k) (Some 0) (pending x v ∷ [])) (busy m ((r + 4) % 2 ^ 32) ((w + 4) % 2 ^ 32) (suc k - 1) (Some 0) (pending (w / 4 * 4) d ∷ []))
     (begun_with 0 (reading (r / 4 * 4) d) (writing x v)) (Some 0)
-    (ends_both m r w (suc k) x v (not_zero k)) (choice_is m r w (suc k) (Some 0) (pending x v ∷ []) (not_zero k)) (both_last m r w (suc k) (r / 4 * 4) d x v)
+    (ends_later m r w (suc k) _ _ (not_zero k)) (choice_is m r w (suc k) (Some 0) (pending x v ∷ []) (not_zero k)) (both_last m r w (suc k) (r / 4 * 4) d x v)
     ∙ ap (λ c. busy m ((r + 4) % 2 ^ 32) ((w + 4) % 2 ^ 32) c (Some 0) (pending (w / 4 * 4) d ∷ [])) (one_less k)
     ∙ state_is m r w k 0 d (word memory r) (Some 0) h g (word_at memory r h))
 

@@ -1,8 +1,8 @@
 -- An engine that is quiet: nothing is begun, no timer gives a credit, and the timers alone step.
-use Rattle.std.proofs.Common.{◌≡◌, ℕ, zero, suc, ◌+◌, ◌-◌, ◌*◌, ◌/◌, ◌^◌, ◌<◌, ◌≤◌, min, Bool, true, false, not, ◌&&◌, ◌||◌, ◌==◌, nat_le, if◌then◌else◌, List, [], ◌∷◌, length, map, get_or, Option, Some, None, ◌⊎◌, inl, inr, refl, sym, ap, ◌∙◌, arith}
+use Rattle.std.proofs.Common.{◌≡◌, ℕ, zero, suc, ◌+◌, ◌-◌, ◌*◌, ◌/◌, ◌^◌, ◌<◌, ◌≤◌, min, Bool, true, false, not, ◌&&◌, ◌==◌, nat_le, cond, if◌then◌else◌, List, [], ◌∷◌, length, map, get_or, Option, Some, None, ◌⊎◌, inl, inr, refl, sym, ap, ◌∙◌, arith}
 use Rattle.std.specs.List.{list_all, list_any}
+use Rattle.std.proofs.lemmas.Bool.{and_parts, and_right, or_parts}
 use Rattle.std.proofs.lemmas.Bool.Decides.{nat_tests}
-use Rattle.std.proofs.lemmas.Grind.{common_steps}
 use Rattle.std.proofs.Math.Nat.{add-mul, one-mul, zero-mul, div-mul-le_self, mul-le-mul_right}
 use Rattle.rp_base.specs.declared.Request.{Request}
 use Rattle.rp_base.specs.declared.map.Spot.{Spot}
@@ -10,8 +10,6 @@ use Rattle.rp_base.specs.declared.map.Spot.TheVariants as spot
 use Rattle.rp_base.specs.Map.{place_of}
 use Rattle.lane_look.specs.declared.lane.Ask.{Ask}
 use Rattle.lane_look.specs.declared.lane.Ask.TheVariants.{Pacing}
-use Rattle.lane_look.specs.declared.lane.Turn.{Turn}
-use Rattle.lane_look.specs.declared.lane.Want.TheVariants as want
 use Rattle.lane_look.specs.Asking.{Asking, answered}
 use Rattle.lane_look.specs.Asking.Asking.{Question}
 use Rattle.lane_look.specs.Times.{times}
@@ -20,17 +18,12 @@ use Rattle.dma_engine.specs.declared.begun.Access.{Access}
 use Rattle.dma_engine.specs.declared.begun.Access.TheVariants as access
 use Rattle.dma_engine.specs.declared.begun.BegunTransfer.{BegunTransfer}
 use Rattle.dma_engine.specs.State.{State}
-use Rattle.dma_engine.specs.Timer.{runs, step_of, gives, stepped}
-use Rattle.dma_engine.specs.Asks.{asks, asks_read, asks_for, asks_at, idle_begun, waits_for_counts, may_ask_counts, write_begun, next_request}
+use Rattle.dma_engine.specs.Timer.{runs, step_of, sum_of, gives, accumulated, stepped}
+use Rattle.dma_engine.specs.Asks.{asks, asks_read, asks_for, asks_at, waits_for_counts, write_begun, next_request}
 use Rattle.dma_engine.specs.Cycle.{wanted, next}
-use Rattle.dma_engine.specs.Rest.{is_idle_timer, is_at_rest, is_still}
-use Rattle.dma_engine.specs.Paused.{is_paused}
-use Rattle.dma_engine.specs.Unmoved.{StaysBy}
+use Rattle.dma_engine.specs.Rest.{is_idle_timer, is_paused, StaysBy}
 use Rattle.dma_engine.specs.Quiet.{timer_after, engine_after, GivesNone, IsQuiet}
-use Rattle.dma_engine.proofs.AtRest.{rests_timers, stays_still}
-use Rattle.dma_engine.proofs.Passing.{sum-added}
-use Rattle.dma_engine.proofs.Paused.{asks-paused, next-passed}
-use Rattle.dma_engine.proofs.TimersAtRest.{both_left, both_right, not_is, idle_timer, runs_on}
+use Rattle.dma_engine.proofs.Rest.{idle_timer, gives_off, none_give, asks-paused, next-paused, unmoved_cycle}
 
 -- ---- one timer
 
@@ -41,108 +34,78 @@ one_more k step = ap (λ n. n * step) (omega arith) ∙ add-mul 1 k step ∙ ap 
 abbrev pub NoneOf : PacingTimer → ℕ → Type 0
 NoneOf t n = (k : ℕ) → k < n → gives (timer_after k t) ≡ false
 
-stepped_once : (t : PacingTimer) (a : ℕ) → gives (record t { accumulator = a }) ≡ false → stepped (record t { accumulator = a }) ≡ record t { accumulator = a + step_of t }
-stepped_once t a h = sum-added (record t { accumulator = a }) h
-
--- so it adds its step up
-pub added : (t : PacingTimer) (n k : ℕ) → NoneOf t n → k ≤ n → timer_after k t ≡ record t { accumulator = t.accumulator + k * step_of t }
-unfolding times
-added t n zero h le = ap (λ a. record t { accumulator = a }) (let none : 0 * step_of t ≡ 0 = zero-mul (step_of t) in omega (arith, none))
-added t n (suc k) h le =
-    let before = added t n k h (omega arith) in
-    let none = sym (ap gives before) ∙ h k (omega arith) in
-    let more = one_more k (step_of t) in
-    ap stepped before ∙ stepped_once t (t.accumulator + k * step_of t) none
-    ∙ ap (λ a. record t { accumulator = a }) (omega (arith, more))
-
--- where it runs, it stands below Y after it
-below_by : (r : Bool) (y sum : ℕ) → r ≡ true → (r && nat_le y sum) ≡ false → sum < y
-below_by true y sum e h = grind (arith, nat_tests)
-below_by false y sum e h = absurd (cc e)
-
-pub below : (t : PacingTimer) (n : ℕ) → NoneOf t (suc n) → runs t ≡ true → t.accumulator + suc n * step_of t < t.y
-below t n h on =
-    let none = sym (ap gives (added t (suc n) n h (omega arith))) ∙ h n (omega arith) in
-    let more = one_more n (step_of t) in
-    let low : t.accumulator + n * step_of t + step_of t < t.y = below_by (runs t) t.y (t.accumulator + n * step_of t + step_of t) on none in
-    omega (arith, more, low)
+-- its step was added up so many times
+abbrev summed : PacingTimer → ℕ → PacingTimer
+summed t k = record t { accumulator = t.accumulator + k * step_of t }
 
 -- one that stands still adds nothing
-no_step_by : (x y : ℕ) → (not (x == 0) && not (y == 0)) ≡ false → min x y ≡ 0
-no_step_by zero y h = omega arith
-no_step_by (suc x) zero h = omega arith
-no_step_by (suc x) (suc y) h = absurd (grind (arith, nat_tests, common_steps))
+no_sum : (t : PacingTimer) → runs t ≡ false → sum_of t ≡ t.accumulator
+no_sum t h = grind (arith, nat_tests, h)
 
-no_step : (t : PacingTimer) → runs t ≡ false → step_of t ≡ 0
-no_step t h = no_step_by t.x t.y h
+added_by : (t : PacingTimer) (r : Bool) → runs t ≡ r → (r && nat_le t.y (sum_of t)) ≡ false →
+    cond r (record t { accumulator = accumulated t }) t ≡ record t { accumulator = sum_of t }
+added_by t true e h = rw h refl
+added_by t false e h = sym (ap (λ a. record t { accumulator = a }) (no_sum t e))
 
-no_and : (b : Bool) → (b && false) ≡ false
-no_and true = refl
-no_and false = refl
+none_summed : (t : PacingTimer) → summed t 0 ≡ t
+none_summed t = ap (λ a. record t { accumulator = a }) (let none : 0 * step_of t ≡ 0 = zero-mul (step_of t) in omega (arith, none))
 
-runs_by : (x y : ℕ) → min x y ≡ 0 → (not (x == 0) && not (y == 0)) ≡ false
-runs_by zero y h = refl
-runs_by (suc x) zero h = no_and (not (suc x == 0))
-runs_by (suc x) (suc y) h = absurd (omega (arith, h))
+-- where it gives no credit it adds its step up
+goes : (t : PacingTimer) (n k : ℕ) → ((i : ℕ) → i < n → timer_after i t ≡ summed t i → gives (summed t i) ≡ false) → k ≤ n →
+    timer_after k t ≡ summed t k
+unfolding times
+goes t n zero h le = sym (none_summed t)
+goes t n (suc k) h le =
+    let before : timer_after k t ≡ summed t k = goes t n k h (omega arith) in
+    let more = one_more k (step_of t) in
+    ap stepped before ∙ added_by (summed t k) (runs t) refl (h k (omega arith) before)
+    ∙ ap (λ a. record t { accumulator = a }) (omega (arith, more))
 
-none_added : (n : ℕ) → n * 0 ≡ 0
-none_added zero = zero-mul 0
-none_added (suc n) = let more = one_more n 0 in let none = none_added n in omega (arith, more, none)
+added : (t : PacingTimer) (n k : ℕ) → NoneOf t n → k ≤ n → timer_after k t ≡ summed t k
+added t n k h le = goes t n k (λ i lt e. sym (ap gives e) ∙ h i lt) le
 
-fits_by : (r : Bool) (t : PacingTimer) (n : ℕ) → runs t ≡ r → NoneOf t n → t.accumulator < 2 ^ 16 → t.y < 2 ^ 16 → t.accumulator + n * step_of t < 2 ^ 16
-fits_by r t zero e h a y = let none : 0 * step_of t ≡ 0 = zero-mul (step_of t) in omega (arith, none)
-fits_by true t (suc n) e h a y = let low = below t n h e in omega (arith, low)
-fits_by false t (suc n) e h a y =
-    let none : suc n * step_of t ≡ 0 = ap (λ s. suc n * s) (no_step t e) ∙ none_added (suc n) in
-    omega (arith, none)
+small_by : (r : Bool) (t : PacingTimer) → runs t ≡ r → (r && nat_le t.y (sum_of t)) ≡ false → t.y < 2 ^ 16 → t.accumulator < 2 ^ 16 → sum_of t < 2 ^ 16
+small_by true t e h y a = grind (arith, nat_tests)
+small_by false t e h y a = let none = no_sum t e in omega (arith, none)
 
-pub fits : (t : PacingTimer) (n : ℕ) → NoneOf t n → t.accumulator < 2 ^ 16 → t.y < 2 ^ 16 → t.accumulator + n * step_of t < 2 ^ 16
-fits t n h a y = fits_by (runs t) t n refl h a y
-
-pub gone_on : (t : PacingTimer) (n a : ℕ) → NoneOf t n → a ≡ t.accumulator + n * step_of t → record t { accumulator = a } ≡ timer_after n t
-gone_on t n a h e = ap (λ x. record t { accumulator = x }) e ∙ sym (added t n n h (omega arith))
+fits : (t : PacingTimer) (n : ℕ) → NoneOf t n → t.accumulator < 2 ^ 16 → t.y < 2 ^ 16 → t.accumulator + n * step_of t < 2 ^ 16
+fits t zero h a y = let none : 0 * step_of t ≡ 0 = zero-mul (step_of t) in omega (arith, none)
+fits t (suc n) h a y =
+    let none : gives (summed t n) ≡ false = sym (ap gives (added t (suc n) n h (omega arith))) ∙ h n (omega arith) in
+    let low : t.accumulator + n * step_of t + step_of t < 2 ^ 16 =
+    small_by (runs t) (summed t n) refl none y (fits t n (λ k lt. h k (omega arith)) a y) in
+    let more = one_more n (step_of t) in omega (arith, low, more)
 
 -- ---- for how long
 
-pub stands_still : (t : PacingTimer) (n : ℕ) → runs t ≡ false → timer_after n t ≡ t
+stands_still : (t : PacingTimer) (n : ℕ) → is_idle_timer t ≡ true → timer_after n t ≡ t
 unfolding times
 stands_still t zero h = refl
-stands_still t (suc n) h = ap stepped (stands_still t n h) ∙ idle_timer t (ap not h)
+stands_still t (suc n) h = ap stepped (stands_still t n h) ∙ idle_timer t h
 
-gives_off : (t : PacingTimer) → runs t ≡ false → gives t ≡ false
-gives_off t h = rw h refl
+runs_by : (x y : ℕ) → min x y ≡ 0 → not (not (x == 0) && not (y == 0)) ≡ true
+runs_by zero y h = refl
+runs_by (suc x) zero h = ap not (and_right (not (suc x == 0)) false refl)
+runs_by (suc x) (suc y) h = absurd (omega (arith, h))
 
 pub none_still : (t : PacingTimer) (n : ℕ) → step_of t ≡ 0 → NoneOf t n
 none_still t n e k lt =
-    let off : runs t ≡ false = runs_by t.x t.y e in
+    let off : is_idle_timer t ≡ true = runs_by t.x t.y e in
     ap gives (stands_still t k off) ∙ gives_off t off
 
 none_by : (r : Bool) (y sum : ℕ) → sum < y → (r && nat_le y sum) ≡ false
 none_by true y sum lt = grind (arith, nat_tests)
 none_by false y sum lt = refl
 
-gives_low : (t : PacingTimer) (a : ℕ) → a + step_of t < t.y → gives (record t { accumulator = a }) ≡ false
-gives_low t a lt = none_by (runs t) t.y (a + step_of t) lt
-
 -- below so many steps the sum stays below Y
-room : (t : PacingTimer) (n k : ℕ) → t.accumulator + n * step_of t < t.y → k < n → t.accumulator + k * step_of t + step_of t < t.y
-room t n k lt l =
+gives_low : (t : PacingTimer) (n k : ℕ) → t.accumulator + n * step_of t < t.y → k < n → gives (summed t k) ≡ false
+gives_low t n k lt l =
     let le : suc k * step_of t ≤ n * step_of t = mul-le-mul_right (step_of t) l in
     let more = one_more k (step_of t) in
-    omega (arith, le, more, lt)
+    none_by (runs t) t.y (t.accumulator + k * step_of t + step_of t) (omega (arith, le, more, lt))
 
-adds : (t : PacingTimer) (n k : ℕ) → t.accumulator + n * step_of t < t.y → k ≤ n → timer_after k t ≡ record t { accumulator = t.accumulator + k * step_of t }
-unfolding times
-adds t n zero lt le = ap (λ a. record t { accumulator = a }) (let none : 0 * step_of t ≡ 0 = zero-mul (step_of t) in omega (arith, none))
-adds t n (suc k) lt le =
-    let more = one_more k (step_of t) in
-    ap stepped (adds t n k lt (omega arith))
-    ∙ stepped_once t (t.accumulator + k * step_of t) (gives_low t (t.accumulator + k * step_of t) (room t n k lt (omega arith)))
-    ∙ ap (λ a. record t { accumulator = a }) (omega (arith, more))
-
-pub none_below : (t : PacingTimer) (n : ℕ) → t.accumulator + n * step_of t < t.y → NoneOf t n
-none_below t n lt k l =
-    ap gives (adds t n k lt (omega arith)) ∙ gives_low t (t.accumulator + k * step_of t) (room t n k lt l)
+none_below : (t : PacingTimer) (n : ℕ) → t.accumulator + n * step_of t < t.y → NoneOf t n
+none_below t n lt k l = ap gives (goes t n k (λ i m e. gives_low t n i lt m) (omega arith)) ∙ gives_low t n k lt l
 
 -- so many steps as there is room for
 pub steps_fit : (t : PacingTimer) (left n : ℕ) → left ≡ t.y - 1 - t.accumulator → n ≡ left / step_of t → NoneOf t n
@@ -161,24 +124,15 @@ steps_fit t left n e q k lt =
 
 -- ---- four timers
 
-either_none : (a b : Bool) → (a || b) ≡ false → (a ≡ false) × (b ≡ false)
-either_none true b h = absurd (cc h)
-either_none false b h = (refl, h)
-
 pub none_all : (ts : List PacingTimer) (n i : ℕ) (d : PacingTimer) → ((k : ℕ) → k < n → list_any gives (map (timer_after k) ts) ≡ false) → i < length ts → NoneOf (get_or ts i d) n
 none_all [] n i d h lt k l = absurd (omega (arith, lt))
-none_all (t ∷ ts) n zero d h lt k l = (either_none (gives (timer_after k t)) _ (h k l)).0
-none_all (t ∷ ts) n (suc i) d h lt k l = none_all ts n i d (λ j m. (either_none (gives (timer_after j t)) _ (h j m)).1) (omega (arith, lt)) k l
+none_all (t ∷ ts) n zero d h lt k l = (or_parts (gives (timer_after k t)) _ (h k l)).0
+none_all (t ∷ ts) n (suc i) d h lt k l = none_all ts n i d (λ j m. (or_parts (gives (timer_after j t)) _ (h j m)).1) (omega (arith, lt)) k l
 
 all_still : (ts : List PacingTimer) (n : ℕ) → list_all is_idle_timer ts ≡ true → map (timer_after n) ts ≡ ts
 all_still [] n h = refl
 all_still (t ∷ ts) n h =
-    rw (stands_still t n (not_is (runs t) (both_left (is_idle_timer t) _ h)), all_still ts n (both_right (is_idle_timer t) _ h)) refl
-
-none_give : (ts : List PacingTimer) → list_all is_idle_timer ts ≡ true → list_any gives ts ≡ false
-none_give [] h = refl
-none_give (t ∷ ts) h =
-    rw (gives_off t (not_is (runs t) (both_left (is_idle_timer t) _ h)), none_give ts (both_right (is_idle_timer t) _ h)) refl
+    let both = and_parts (is_idle_timer t) _ h in rw (stands_still t n both.0, all_still ts n both.1) refl
 
 step_more : (ts : List PacingTimer) (k : ℕ) → map (timer_after (suc k)) ts ≡ map stepped (map (timer_after k) ts)
 unfolding times
@@ -187,40 +141,8 @@ step_more (t ∷ ts) k = ap (λ xs. timer_after (suc k) t ∷ xs) (step_more ts 
 
 -- ---- the engine, whose timers stand still
 
-pub engine_still : (s : State) (n : ℕ) → list_all is_idle_timer s.timers ≡ true → engine_after n s ≡ s
+engine_still : (s : State) (n : ℕ) → list_all is_idle_timer s.timers ≡ true → engine_after n s ≡ s
 engine_still s n h = ap (λ ts. record s { timers = ts }) (all_still s.timers n h)
-
-gives_none : (s : State) (n : ℕ) → list_all is_idle_timer s.timers ≡ true → GivesNone s n
-gives_none s n h = record { credits = λ k lt. ap (list_any gives) (all_still s.timers k h) ∙ none_give s.timers h }
-
--- what it begins and does in one cycle it does in each
-record StaysIn (counts : ℕ) (s : State) : Type 0 where
-  idle : list_all is_idle_timer s.timers ≡ true
-  wants : (answer : Ask → ℕ) → answer Pacing ≡ counts → wanted (answered answer (asks s)) ≡ want.Nothing ∷ want.Nothing ∷ []
-  stays : (answer : Ask → ℕ) → answer Pacing ≡ counts → (turns : List Turn) → next s (answered answer (asks s)) turns ≡ s
-
-stays_quiet : (counts : ℕ) (s : State) (n : ℕ) → StaysIn counts s → IsQuiet counts s n
-stays_quiet counts s n h = record {
-  credits = gives_none s n h.idle;
-  wants = λ k lt answer e. ap (λ x. wanted (answered answer (asks x))) (engine_still s k h.idle) ∙ h.wants answer e;
-  steps = λ k lt answer e turns.
-      ap (λ x. next x (answered answer (asks x)) turns) (engine_still s k h.idle) ∙ h.stays answer e turns ∙ sym (engine_still s (suc k) h.idle);
-}
-
-timers_at_rest : (s : State) → is_still s ≡ true → list_all is_idle_timer s.timers ≡ true
-timers_at_rest s h = rests_timers s (both_left (is_at_rest s) _ h)
-
-pub still_quiet : (counts : ℕ) (s : State) (n : ℕ) → is_still s ≡ true → IsQuiet counts s n
-still_quiet counts s n h =
-    let r = stays_still s h in
-    stays_quiet counts s n (record {
-      idle = timers_at_rest s h;
-      wants = λ answer e. rw r.asks_nothing refl;
-      stays = λ answer e turns. r.stays (answered answer (asks s)) turns;
-    })
-
-pub still_after : (s : State) (n : ℕ) → is_still s ≡ true → engine_after n s ≡ s
-still_after s n h = engine_still s n (timers_at_rest s h)
 
 -- ---- the engine that lacks credits
 
@@ -233,10 +155,8 @@ paused_quiet counts s n h none = record {
   credits = none;
   wants = λ k lt answer e. rw (asks-paused (engine_after k s) (paused_on s k h)) refl;
   steps = λ k lt answer e turns.
-      let begins = asks-paused (engine_after k s) (paused_on s k h) in
-      ap (λ (tree : Asking BegunTransfer). next (engine_after k s) (answered answer tree) turns) begins
-      ∙ sym (next-passed (engine_after k s) (engine_after k s) idle_begun turns (map (timer_after (suc k)) s.timers) refl (paused_on s k h) refl refl
-      (none.credits k lt) (step_more s.timers k));
+      next-paused (engine_after k s) (answered answer (asks (engine_after k s))) turns (paused_on s k h) (none.credits k lt)
+      ∙ ap (λ ts. record s { timers = ts }) (sym (step_more s.timers k));
 }
 
 -- ---- the engine that waits for a FIFO
@@ -244,10 +164,7 @@ paused_quiet counts s n h none = record {
 same_at : (f g : Ask → ℕ) (counts : ℕ) (write : Access) (request : Request) (at : Spot) → (answered f (asks_at counts write request at)).read ≡ access.Nothing
     → answered g (asks_at counts write request at) ≡ answered f (asks_at counts write request at)
 same_at f g counts write request (spot.Ram index bank) h = absurd (cc h)
-same_at f g counts write request (spot.Reg block offset alias) h = refl
-same_at f g counts write request (spot.Sio offset) h = refl
-same_at f g counts write request (spot.Ppb offset) h = refl
-same_at f g counts write request spot.Outside h = refl
+same_at f g counts write request _ h = refl
 
 same_for : (f g : Ask → ℕ) (counts : ℕ) (write : Access) (r : Option Request) → (answered f (asks_for counts write r)).read ≡ access.Nothing
     → answered g (asks_for counts write r) ≡ answered f (asks_for counts write r)
@@ -271,39 +188,21 @@ same_begun : (f g : Ask → ℕ) (s : State) → g Pacing ≡ f Pacing → (answ
 unfolding asks
 same_begun f g s e h = same_by (list_any waits_for_counts s.channels) f g s e h
 
-pub unmoved_quiet : (s : State) (begun : BegunTransfer) (counts n : ℕ) (f : Ask → ℕ) → begun ≡ answered f (asks s) → StaysBy counts s → begun.counts ≡ counts
+pub unmoved_quiet : (s : State) (begun : BegunTransfer) (n : ℕ) (f : Ask → ℕ) → begun ≡ answered f (asks s) → StaysBy begun.counts s
     → begun.read ≡ access.Nothing → begun.write ≡ access.Nothing → IsQuiet (f Pacing) s n
-unmoved_quiet s begun counts n f e by same read write =
+unmoved_quiet s begun n f e by read write =
     let begins : (g : Ask → ℕ) → g Pacing ≡ f Pacing → answered g (asks s) ≡ begun =
     λ g p. same_begun f g s p (sym (ap (λ (b : BegunTransfer). b.read) e) ∙ read) ∙ sym e in
-    stays_quiet (f Pacing) s n (record {
-      idle = by.timers;
-      wants = λ g p. ap wanted (begins g p) ∙ rw (read, write) refl;
-      stays = λ g p turns. ap (λ (b : BegunTransfer). next s b turns) (begins g p) ∙ by.stays begun same read write turns;
-    })
+    let same : (k : ℕ) → engine_after k s ≡ s = λ k. engine_still s k by.timers in
+    record {
+      credits = record { credits = λ k lt. ap (λ (x : State). list_any gives x.timers) (same k) ∙ none_give s.timers by.timers };
+      wants = λ k lt g p. ap (λ x. wanted (answered g (asks x))) (same k) ∙ ap wanted (begins g p) ∙ rw (read, write) refl;
+      steps = λ k lt g p turns.
+          ap (λ x. next x (answered g (asks x)) turns) (same k) ∙ ap (λ (b : BegunTransfer). next s b turns) (begins g p)
+          ∙ unmoved_cycle s begun turns by read write ∙ sym (same (suc k));
+    }
 
--- ---- what stays
-
-still_on : (t : PacingTimer) (n : ℕ) → is_idle_timer (timer_after n t) ≡ is_idle_timer t
-unfolding times
-still_on t zero = refl
-still_on t (suc n) = runs_on (timer_after n t) ∙ still_on t n
-
-all_on : (ts : List PacingTimer) (n : ℕ) → list_all is_idle_timer (map (timer_after n) ts) ≡ list_all is_idle_timer ts
-all_on [] n = refl
-all_on (t ∷ ts) n = rw (still_on t n, all_on ts n) refl
-
-pub rest_stays : (s : State) (n : ℕ) → is_still (engine_after n s) ≡ is_still s
-unfolding is_at_rest
-rest_stays s n = rw (all_on s.timers n) refl
-
-pub pause_stays : (s : State) (n : ℕ) → is_paused (engine_after n s) ≡ is_paused s
-unfolding is_paused
-pause_stays s n = refl
-
-pub counts_stay : (s : State) (n : ℕ) → may_ask_counts (engine_after n s) ≡ may_ask_counts s
-unfolding may_ask_counts
-counts_stay s n = refl
+-- ---- fewer cycles
 
 none_fewer : (s : State) (n k : ℕ) → GivesNone s n → k ≤ n → GivesNone s k
 none_fewer s n k h le = record { credits = λ i lt. h.credits i (omega arith) }
@@ -341,17 +240,8 @@ four_none _ k d h p q r s = absurd (omega arith)
 pub none_by_timers : (i s : State) (n : ℕ) → i ≡ s → ((k : ℕ) → k < n → list_any gives (map (timer_after k) i.timers) ≡ false) → GivesNone s n
 none_by_timers i s n e h = record { credits = λ k lt. ap (λ (x : State). list_any gives (map (timer_after k) x.timers)) (sym e) ∙ h k lt }
 
-pub stands_by : (i s : State) (n : ℕ) → i ≡ s → engine_after n i ≡ i → s ≡ engine_after n s
-stands_by i s n e h = sym (ap (engine_after n) (sym e) ∙ h ∙ e)
-
-pub rest_passed : (i s : State) (n : ℕ) (ts : List PacingTimer) → i ≡ s → ts ≡ map (timer_after n) i.timers → is_still (record i { timers = ts }) ≡ is_still s
-rest_passed i s n ts e passed = ap (λ xs. is_still (record i { timers = xs })) passed ∙ rest_stays i n ∙ ap is_still e
-
-pub pause_passed : (i s : State) (n : ℕ) (ts : List PacingTimer) → i ≡ s → ts ≡ map (timer_after n) i.timers → is_paused (record i { timers = ts }) ≡ is_paused s
-pause_passed i s n ts e passed = ap (λ xs. is_paused (record i { timers = xs })) passed ∙ pause_stays i n ∙ ap is_paused e
-
-pub counts_passed : (i s : State) (n : ℕ) (ts : List PacingTimer) → i ≡ s → ts ≡ map (timer_after n) i.timers → may_ask_counts (record i { timers = ts }) ≡ may_ask_counts s
-counts_passed i s n ts e passed = ap (λ xs. may_ask_counts (record i { timers = xs })) passed ∙ counts_stay i n ∙ ap may_ask_counts e
+pub stands_by : (i s : State) (n : ℕ) → i ≡ s → list_all is_idle_timer i.timers ≡ true → s ≡ engine_after n s
+stands_by i s n e h = sym (ap (engine_after n) (sym e) ∙ engine_still i n h ∙ e)
 
 -- what a call of one timer reckons, whose step and sum so far are these
 pub record Reckons (t : PacingTimer) (n step sum : ℕ) : Type 0 where
@@ -366,5 +256,5 @@ reckons t n step sum h y a e f =
     record {
       added = omega (arith, same, low);
       fits = omega (arith, same, low);
-      after = gone_on t n (sum + n * step) h same;
+      after = ap (λ a. record t { accumulator = a }) same ∙ sym (added t n n h (omega arith));
     }

@@ -1,6 +1,6 @@
 -- The rows of the channels, by numbers and indices, and those of the block.
-use Rattle.std.proofs.Common.{◌≡◌, refl, sym, ap, ◌∙◌, ℕ, ◌+◌, ◌*◌, ◌/◌, ◌%◌, ◌<◌, Bool, true, false, cond, Some, None, arith, rules}
-use Rattle.std.specs.Prelude.{◌≤◌, nat_lt, if◌then◌else◌, Option, is_some, ⊤}
+use Rattle.std.proofs.Common.{◌≡◌, refl, sym, ap, ◌∙◌, ℕ, ◌/◌, ◌%◌, ◌<◌, true, false, cond, Some, None, arith, rules}
+use Rattle.std.specs.Prelude.{◌≤◌, nat_lt, is_some, ⊤}
 use Rattle.std.proofs.lemmas.Grind.{common_steps}
 use Rattle.std.proofs.lemmas.Bool.Decides.{nat_tests}
 use Rattle.rp_base.specs.Rows.{Row, at_row, word_at, effect_at}

@@ -89,38 +89,40 @@ passing-none counts s = record {
   others = found_after-none (is_candidate false counts s) s.last_chosen;
 }
 
-pub passing-other : (counts : ℕ) (s : State) (other : Option ℕ) (p : ℕ) → IsPassing counts s other p → p < 12 →
-    is_candidate false counts s ((s.last_chosen + 1 + p) % 12) ≡ false → IsPassing counts s other (p + 1)
-passing-other counts s other p h low e = record {
-  high =
-      sym (found_after-passed (is_candidate true counts s) s.last_chosen p low (not_of counts s _ e)) ∙ h.high;
-  others =
-      ap (λ o. or_else other o) (sym (found_after-passed (is_candidate false counts s) s.last_chosen p low e)) ∙ h.others;
-}
+pub passing-other : (counts : ℕ) (s : State) (other : Option ℕ) (p n : ℕ) → n ≡ (s.last_chosen + 1 + p) % 12 →
+    IsPassing counts s other p → p < 12 → is_candidate false counts s n ≡ false → IsPassing counts s other (p + 1)
+passing-other counts s other p n is h low e =
+    let none : is_candidate false counts s ((s.last_chosen + 1 + p) % 12) ≡ false = subst (λ k. is_candidate false counts s k ≡ false) is e in
+    record {
+      high = sym (found_after-passed (is_candidate true counts s) s.last_chosen p low (not_of counts s _ none)) ∙ h.high;
+      others = ap (λ o. or_else other o) (sym (found_after-passed (is_candidate false counts s) s.last_chosen p low none)) ∙ h.others;
+    }
 
 or_else-some : (other : Option ℕ) (n : ℕ) (o : Option ℕ) → or_else (or_else other (Some n)) o ≡ or_else other (Some n)
 or_else-some None n o = refl
 or_else-some (Some m) n o = refl
 
-pub passing-candidate : (counts : ℕ) (s : State) (other : Option ℕ) (p : ℕ) → IsPassing counts s other p → p < 12 →
-    is_candidate false counts s ((s.last_chosen + 1 + p) % 12) ≡ true →
-    is_high (channel_at ((s.last_chosen + 1 + p) % 12) s) ≡ false →
-    IsPassing counts s (or_else other (Some ((s.last_chosen + 1 + p) % 12))) (p + 1)
-passing-candidate counts s other p h low e high = record {
-  high =
-      sym (found_after-passed (is_candidate true counts s) s.last_chosen p low (high_of counts s _ e ∙ high)) ∙ h.high;
-  others =
-      or_else-some other _ _
-      ∙ ap (λ o. or_else other o) (sym (found_after-found (is_candidate false counts s) s.last_chosen p low e)) ∙ h.others;
-}
+pub passing-candidate : (counts : ℕ) (s : State) (other : Option ℕ) (p n : ℕ) → n ≡ (s.last_chosen + 1 + p) % 12 →
+    IsPassing counts s other p → p < 12 → is_candidate false counts s n ≡ true → is_high (channel_at n s) ≡ false →
+    IsPassing counts s (or_else other (Some n)) (p + 1)
+passing-candidate counts s other p n is h low e high =
+    let here : is_candidate false counts s ((s.last_chosen + 1 + p) % 12) ≡ true = subst (λ k. is_candidate false counts s k ≡ true) is e in
+    record {
+      high =
+          sym (found_after-passed (is_candidate true counts s) s.last_chosen p low (subst (λ k. is_candidate true counts s k ≡ false) is (high_of counts s n e ∙ high)))
+          ∙ h.high;
+      others =
+          or_else-some other _ _ ∙ ap (λ k. or_else other (Some k)) is
+          ∙ ap (λ o. or_else other o) (sym (found_after-found (is_candidate false counts s) s.last_chosen p low here)) ∙ h.others;
+    }
 
-pub passing-high : (counts : ℕ) (s : State) (other : Option ℕ) (p : ℕ) → IsPassing counts s other p → p < 12 →
-    is_candidate false counts s ((s.last_chosen + 1 + p) % 12) ≡ true →
-    is_high (channel_at ((s.last_chosen + 1 + p) % 12) s) ≡ true → Some ((s.last_chosen + 1 + p) % 12) ≡ choice_of counts s
+pub passing-high : (counts : ℕ) (s : State) (other : Option ℕ) (p n : ℕ) → n ≡ (s.last_chosen + 1 + p) % 12 →
+    IsPassing counts s other p → p < 12 → is_candidate false counts s n ≡ true → is_high (channel_at n s) ≡ true → Some n ≡ choice_of counts s
 unfolding choice_of
-passing-high counts s other p h low e high =
-    let found : next_candidate true counts s ≡ Some ((s.last_chosen + 1 + p) % 12) =
-    sym h.high ∙ found_after-found (is_candidate true counts s) s.last_chosen p low (high_of counts s _ e ∙ high) in
+passing-high counts s other p n is h low e high =
+    let found : next_candidate true counts s ≡ Some n =
+    sym h.high ∙ found_after-found (is_candidate true counts s) s.last_chosen p low (subst (λ k. is_candidate true counts s k ≡ true) is (high_of counts s n e ∙ high))
+    ∙ ap Some (sym is) in
     ap (λ o. or_else o (next_candidate false counts s)) (sym found)
 
 or_else-none : (other : Option ℕ) → or_else other None ≡ other
@@ -137,18 +139,4 @@ passing-all counts s other p h low =
     ∙ h.others in
     others ∙ ap (λ o. or_else o (next_candidate false counts s)) (sym none)
 
--- the same for the number of that channel
-pub passing-other_at : (counts : ℕ) (s : State) (other : Option ℕ) (p n : ℕ) → n ≡ (s.last_chosen + 1 + p) % 12 →
-    IsPassing counts s other p → p < 12 → is_candidate false counts s n ≡ false → IsPassing counts s other (p + 1)
-passing-other_at counts s other p n is h low e =
-    passing-other counts s other p h low (subst (λ k. is_candidate false counts s k ≡ false) is e)
-
-pub passing-candidate_at : (counts : ℕ) (s : State) (other : Option ℕ) (p n : ℕ) → n ≡ (s.last_chosen + 1 + p) % 12 →
-    IsPassing counts s other p → p < 12 → is_candidate false counts s n ≡ true → is_high (channel_at n s) ≡ false →
-    IsPassing counts s (or_else other (Some n)) (p + 1)
-passing-candidate_at counts s other p n is h low e high =
-    subst (λ k. IsPassing counts s (or_else other (Some k)) (p + 1)) (sym is)
-    (passing-candidate counts s other p h low (subst (λ k. is_candidate false counts s k ≡ true) is e)
-    (subst (λ k. is_high (channel_at k s) ≡ false) is high))
-
-pub ruleset searching = (passing-high, passing-all)
+pub ruleset searching = (passing-all)

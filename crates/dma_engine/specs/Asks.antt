@@ -1,6 +1,6 @@
 -- What the engine asks in a cycle, and what it has begun then: the read of the chosen channel, and the write that has waited
 -- longest (RP2040 Datasheet, 2.5.1.1; the engine's view of the address map: 2.1.1 and 2.2).
-use Rattle.std.specs.Prelude.{◌≡◌, ℕ, ◌/◌, ◌%◌, ◌^◌, Bool, true, false, ◌==◌, ◌&&◌, ◌||◌, nat_lt, if◌then◌else◌, List, [], ◌∷◌, length, Option, Some, None}
+use Rattle.std.specs.Prelude.{ℕ, ◌/◌, ◌%◌, ◌^◌, Bool, ◌==◌, ◌&&◌, nat_lt, if◌then◌else◌, List, [], ◌∷◌, length, Option, Some, None}
 use Rattle.std.specs.List.{list_any}
 use Rattle.rp_base.specs.declared.Master.{Master}
 use Rattle.rp_base.specs.declared.Master.TheVariants.{DmaRead, DmaWrite}
@@ -9,7 +9,6 @@ use Rattle.rp_base.specs.declared.Why.TheVariants as why
 use Rattle.rp_base.specs.declared.map.Spot.{Spot}
 use Rattle.rp_base.specs.declared.map.Spot.TheVariants as spot
 use Rattle.rp_base.specs.Map.{place_of}
-use Rattle.lane_look.specs.declared.lane.Ask.{Ask}
 use Rattle.lane_look.specs.declared.lane.Ask.TheVariants.{Pacing, Word}
 use Rattle.lane_look.specs.Asking.{Asking}
 use Rattle.lane_look.specs.Asking.Asking.{Ready, Question}
@@ -18,7 +17,7 @@ use Rattle.dma_engine.specs.declared.waiting.WaitingWrite.{WaitingWrite}
 use Rattle.dma_engine.specs.declared.begun.Access.{Access}
 use Rattle.dma_engine.specs.declared.begun.Access.TheVariants as access
 use Rattle.dma_engine.specs.declared.begun.BegunTransfer.{BegunTransfer}
-use Rattle.dma_engine.specs.Control.{is_enabled, treq_of}
+use Rattle.dma_engine.specs.Control.{treq_of}
 use Rattle.dma_engine.specs.Transfer.{read_of, request_of}
 use Rattle.dma_engine.specs.State.{State, channel_at}
 
@@ -87,15 +86,6 @@ asks_read counts s = asks_for counts (write_begun s) (next_request s)
 abbrev pub waits_for_counts : Channel → Bool
 waits_for_counts c = c.busy && nat_lt (treq_of c) 0x3B
 
--- a channel that may be paced by a FIFO now, or before a register is written: a trigger by a chain begins the sequence of a channel
--- only where it is enabled (2.5.3.1, 2.5.7, CH0_CTRL_TRIG)
-abbrev pub may_wait : Channel → Bool
-may_wait c = (c.busy || is_enabled c) && nat_lt (treq_of c) 0x3B
-
--- some channel may be paced by a FIFO now, or in a later cycle
-unfoldable pub may_ask_counts : State → Bool
-may_ask_counts s = list_any may_wait s.channels
-
 abbrev pub idle_begun : BegunTransfer
 idle_begun = begun_with 0 access.Nothing access.Nothing
 
@@ -104,14 +94,3 @@ asks s =
     if list_any waits_for_counts s.channels
     then Question Pacing (λ counts. asks_read counts s)
     else asks_read 0 s
-
--- ---- questions for the counts
-
-abbrev pub is_pacing : Ask → Bool
-is_pacing Pacing = true
-is_pacing _ = false
-
--- none, whatever is answered
-abbrev pub AsksNoCounts : {B : Type 0} → Asking B → Type 0
-AsksNoCounts (Ready begun) = Unit {0}
-AsksNoCounts (Question ask next) = (is_pacing ask ≡ false) × ((x : ℕ) → AsksNoCounts (next x))

@@ -23,10 +23,7 @@ use Rattle.dma_engine.specs.Cycle.{want_of, wanted, word_of, word_read, is_writt
 
 few_at : (n counts : ℕ) (write : Access) (request : Request) (at : Spot) → Few (suc n) (asks_at counts write request at)
 few_at n counts write request (spot.Ram index bank) = few_ask n (Word request.address) _ (λ word. few_ready n _)
-few_at n counts write request (spot.Reg block offset alias) = few_ready _ _
-few_at n counts write request (spot.Sio offset) = few_ready _ _
-few_at n counts write request (spot.Ppb offset) = few_ready _ _
-few_at n counts write request spot.Outside = few_ready _ _
+few_at n counts write request _ = few_ready _ _
 
 few_for : (n counts : ℕ) (write : Access) (request : Option Request) → Few (suc n) (asks_for counts write request)
 few_for n counts write None = few_ready _ _
@@ -48,28 +45,20 @@ two_at_most s = (asks_few s).few
 
 read_alike : (a : Access) (wants : List Want) (turns : List Turn) → word_read a (word_of (slice_get (without_words (want_of a ∷ wants) turns) 0)) ≡ word_read a (word_of (slice_get turns 0))
 read_alike a wants [] = refl
-read_alike access.Nothing wants (t ∷ ts) = refl
-read_alike (access.Read request told) wants (turn.Nothing ∷ ts) = refl
-read_alike (access.Read request told) wants (turn.Wait ∷ ts) = refl
 read_alike (access.Read request told) wants (turn.Done word ∷ ts) = refl
-read_alike (access.Write request) wants (turn.Nothing ∷ ts) = refl
-read_alike (access.Write request) wants (turn.Wait ∷ ts) = refl
+read_alike (access.Read request told) wants (_ ∷ ts) = refl
 read_alike (access.Write request) wants (turn.Done word ∷ ts) = refl
-read_alike (access.Outward request) wants (t ∷ ts) = refl
-read_alike (access.Stopped cause) wants (t ∷ ts) = refl
+read_alike (access.Write request) wants (_ ∷ ts) = refl
+read_alike _ wants (t ∷ ts) = refl
 
 write_alike : (a : Access) (want : Want) (turns : List Turn) → is_written a (word_of (slice_get (without_words (want ∷ want_of a ∷ []) turns) 1)) ≡ is_written a (word_of (slice_get turns 1))
 write_alike a want [] = refl
 write_alike a want (t ∷ []) = refl
-write_alike access.Nothing want (t ∷ u ∷ us) = refl
-write_alike (access.Read request told) want (t ∷ turn.Nothing ∷ us) = refl
-write_alike (access.Read request told) want (t ∷ turn.Wait ∷ us) = refl
 write_alike (access.Read request told) want (t ∷ turn.Done word ∷ us) = refl
-write_alike (access.Write request) want (t ∷ turn.Nothing ∷ us) = refl
-write_alike (access.Write request) want (t ∷ turn.Wait ∷ us) = refl
+write_alike (access.Read request told) want (t ∷ _ ∷ us) = refl
 write_alike (access.Write request) want (t ∷ turn.Done word ∷ us) = refl
-write_alike (access.Outward request) want (t ∷ u ∷ us) = refl
-write_alike (access.Stopped cause) want (t ∷ u ∷ us) = refl
+write_alike (access.Write request) want (t ∷ _ ∷ us) = refl
+write_alike _ want (t ∷ u ∷ us) = refl
 
 -- an access to SRAM has told its word already
 pub reads_none : (s : State) (begun : BegunTransfer) (turns : List Turn) → next s begun (without_words (wanted begun) turns) ≡ next s begun turns

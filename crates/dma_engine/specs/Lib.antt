@@ -8,7 +8,6 @@ pub mod InterruptLaws
 pub mod Laws
 pub mod Pace
 pub mod PaceMeant
-pub mod Paused
 pub mod Quiet
 pub mod Requests
 pub mod Rest
@@ -16,5 +15,4 @@ pub mod State
 pub mod Timer
 pub mod TransferLaws
 pub mod Transfer
-pub mod Unmoved
 pub mod Words

@@ -6,7 +6,7 @@ ghost use Rattle.rp_base.specs.Map.{place_of};
 ghost use Rattle.lane_look.specs.Asking.{Runs};
 ghost use Rattle.lane_look.specs.Asking.Asking.{Ready};
 ghost use Rattle.dma_engine.specs.declared.begun.Access.TheVariants as Access;
-ghost use Rattle.dma_engine.specs.Asks.{may_be_device, elsewhere, write_for, write_begun, next_request, asks_for, asks_read, begun_with, waits_for_counts, may_wait, may_ask_counts, asks};
+ghost use Rattle.dma_engine.specs.Asks.{may_be_device, elsewhere, write_for, write_begun, next_request, asks_for, asks_read, begun_with, waits_for_counts, asks};
 
 use crate::begun::{Access, BegunTransfer};
 use crate::channel::Channel;
@@ -66,13 +66,6 @@ impl Channel {
     {
         self.busy && self.treq() < 0x3b
     }
-
-    /// The channel may be paced by a FIFO now, or in a later cycle.
-    fn may_wait(&self) -> bool
-        ensures { result ≡ may_wait self.now }
-    {
-        (self.busy || self.is_enabled()) && self.treq() < 0x3b
-    }
 }
 
 impl Engine {
@@ -84,14 +77,6 @@ impl Engine {
         self.channels
             .iter()
             .any(|channel| channel.waits_for_counts())
-    }
-
-    /// Some channel may be paced by a FIFO now, or in a later cycle.
-    #[tactic(auto, unfolding(crate::specs::Asks::may_ask_counts))]
-    pub(crate) fn may_ask_counts(&self) -> bool
-        ensures { result ≡ may_ask_counts self.now }
-    {
-        self.channels.iter().any(|channel| channel.may_wait())
     }
 
     /// The write that has waited longest.

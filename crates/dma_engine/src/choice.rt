@@ -1,6 +1,6 @@
 //! Which channel is chosen for the next transfer.
 
-ghost use Rattle.std.specs.Prelude.{◌≡◌, ◌<◌, ◌≤◌, ℕ, false, true, None, Some};
+ghost use Rattle.std.specs.Prelude.{◌≡◌, ◌<◌, ◌≤◌, ◌+◌, ◌%◌, false, Some};
 ghost use Rattle.dma_engine.specs.State.{channel_at};
 ghost use Rattle.dma_engine.specs.Control.{is_high};
 ghost use Rattle.dma_engine.specs.Pace.{count_at};
@@ -25,6 +25,19 @@ fn or_else(first: Option<u8>, number: u8) -> Option<u8>
     match first {
         Some(first) => Some(first),
         None => Some(number),
+    }
+}
+
+/// The number of the next channel in turn.
+#[inline(always)]
+fn next_number(number: u8) -> u8
+    requires { number < 12 }
+    ensures { result ≡ (number + 1) % 12 }
+{
+    if number == CHANNELS - 1 {
+        0
+    } else {
+        number + 1
     }
 }
 
@@ -101,67 +114,16 @@ impl Engine {
         self.channels[number as usize].is_high()
     }
 
-    /// The first channel by number that can be chosen.
-    fn first_candidate(&self, counts: u128) -> Option<u8>
-        ensures none { result ≡ None
-            → (k : ℕ) → k < 12 → is_candidate false counts self.now k ≡ false }
-        ensures number { (n : ℕ) → result ≡ Some n → n < 12 }
-        ensures some { (n : ℕ) → result ≡ Some n → is_candidate false counts self.now n ≡ true }
-        ensures first { (n : ℕ) → result ≡ Some n
-            → (k : ℕ) → k < n → is_candidate false counts self.now k ≡ false }
-    {
-        for number in 0..CHANNELS {
-            if self.channels[number as usize].busy {
-                if self.is_candidate(counts, number) {
-                    return Some(number);
-                }
-            }
-        }
-        None
-    }
-
-    /// Some channel of a higher number can be chosen.
-    fn has_later_candidate(&self, counts: u128, number: u8) -> bool
-        requires { number < 12 }
-        ensures { result ≡ false → (k : ℕ) → number < k → k < 12
-            → is_candidate false counts self.now k ≡ false }
-    {
-        for later in number + 1..CHANNELS {
-            if self.channels[later as usize].busy {
-                if self.is_candidate(counts, later) {
-                    return true;
-                }
-            }
-        }
-        false
-    }
-
     /// The choice: of the channels that can be chosen, the next one of high priority after the one that was chosen last, or
-    /// else the next one of all. In most cycles no channel can be chosen, or one alone.
-    #[tactic(auto, using(crate::proofs::Search::no_choice))]
+    /// else the next one of all.
+    #[tactic(auto, using(crate::proofs::Search::searching))]
     pub(crate) fn choice(&self, counts: u128) -> Option<u8>
         ensures { result ≡ choice_of counts self.now }
     {
-        match self.first_candidate(counts) {
-            None => None,
-            Some(number) => {
-                if self.has_later_candidate(counts, number) {
-                    self.choice_in_turn(counts)
-                } else {
-                    Some(number)
-                }
-            }
-        }
-    }
-
-    /// The choice, found by asking each channel in its turn.
-    #[tactic(auto, using(crate::proofs::Search::searching))]
-    fn choice_in_turn(&self, counts: u128) -> Option<u8>
-        ensures { result ≡ choice_of counts self.now }
-    {
         let mut other = None;
+        let mut number = self.last_chosen % 12;
         for passed in 0..CHANNELS {
-            let number = ((u16::from(self.last_chosen) + 1 + u16::from(passed)) % 12) as u8;
+            number = next_number(number);
             if self.is_candidate(counts, number) {
                 if self.is_high(number) {
                     return Some(number);

@@ -14,12 +14,10 @@ use std::marker::Model;
 #[derive(Drop)]
 pub struct Dma {
     pub(crate) engine: Engine,
-    /// `is_still` of the engine: nothing is at work, and no interrupt is raised or forced.
+    /// The engine is paused and no timer runs, so that no cycle changes it; it may be false where that is so.
     pub(crate) at_rest: bool,
     /// `is_paused` of the engine: nothing moves until a register is written or a pacing timer gives a credit.
     pub(crate) paused: bool,
-    /// False only where `may_ask_counts` of the engine is false: cycles leave it.
-    pub(crate) counts: bool,
     /// `is_silent` of the engine: no interrupt is raised or forced.
     pub(crate) silent: bool,
     /// The counts with which a cycle in which nothing is begun changes nothing, where they were found.
@@ -27,32 +25,25 @@ pub struct Dma {
 }
 
 impl Model for Dma {
-    ghost use Rattle.std.specs.Prelude.{◌≡◌, false, IfSome};
+    ghost use Rattle.std.specs.Prelude.{◌≡◌, true, IfSome};
     ghost use Rattle.dma_engine.specs.State.{State};
-    ghost use Rattle.dma_engine.specs.Unmoved.{StaysBy};
-    ghost use Rattle.dma_engine.specs.Rest.{is_still};
-    ghost use Rattle.dma_engine.specs.Paused.{is_paused};
-    ghost use Rattle.dma_engine.specs.Asks.{may_ask_counts};
+    ghost use Rattle.dma_engine.specs.Rest.{is_paused, Stays, StaysBy};
     ghost use Rattle.dma_engine.specs.Words.{is_silent};
 
     ghost Value = { State };
 
     ghost view = { λ d. d.engine };
 
-    ghost invariant = { λ d. (d.at_rest ≡ is_still d.engine) × (d.paused ≡ is_paused d.engine)
-        × (d.counts ≡ false → may_ask_counts d.engine ≡ false) × (d.silent ≡ is_silent d.engine)
+    ghost invariant = { λ d. (d.at_rest ≡ true → Stays d.engine) × (d.paused ≡ is_paused d.engine)
+        × (d.silent ≡ is_silent d.engine)
         × IfSome d.unmoved_by (λ counts. StaysBy counts d.engine) };
 }
 
 impl Dma {
-    ghost use Rattle.std.specs.Prelude.{List, Decides, ◌||◌, false, true, ◌∷◌, []};
-    ghost use Rattle.lane_look.specs.declared.lane.Turn.{Turn};
-    ghost use Rattle.dma_engine.specs.declared.begun.BegunTransfer.{BegunTransfer};
-    ghost use Rattle.lane_look.specs.Asking.Asking.{Ready};
-    ghost use Rattle.dma_engine.specs.Asks.{asks, idle_begun, may_ask_counts, AsksNoCounts};
+    ghost use Rattle.std.specs.Prelude.{Decides, false, true, ◌∷◌, []};
+    ghost use Rattle.dma_engine.specs.declared.begun.Access.TheVariants as Access;
     ghost use Rattle.dma_engine.specs.Cycle.{next};
-    ghost use Rattle.dma_engine.specs.Paused.{is_paused};
-    ghost use Rattle.dma_engine.specs.Rest.{is_still, StaysAtRest};
+    ghost use Rattle.dma_engine.specs.Rest.{StaysBy};
     ghost use Rattle.dma_engine.specs.State.{at_reset};
     ghost use Rattle.dma_engine.specs.Words.{word_of, is_word, effect_of, is_silent, lines_of};
 
@@ -61,15 +52,13 @@ impl Dma {
         ensures { result ≡ at_reset }
     {
         let engine = Engine::new();
-        let at_rest = engine.is_still();
+        let at_rest = engine.stays();
         let paused = engine.is_paused();
-        let counts = engine.may_ask_counts();
         let silent = engine.is_silent();
         Dma {
             engine,
             at_rest,
             paused,
-            counts,
             silent,
             unmoved_by: None,
         }
@@ -89,9 +78,8 @@ impl Dma {
         ensures allowed { result ≡ is_word offset }
     {
         let allowed = self.engine.effect(offset, write);
-        self.at_rest = self.engine.is_still();
+        self.at_rest = self.engine.stays();
         self.paused = self.engine.is_paused();
-        self.counts = self.engine.may_ask_counts();
         self.silent = self.engine.is_silent();
         self.unmoved_by = None;
         allowed
@@ -104,46 +92,12 @@ impl Dma {
         self.engine.allows(offset)
     }
 
-    /// The engine is at rest: no channel is busy or chosen, no write waits, no timer runs, and no interrupt is raised or forced.
-    /// Until a register is written it then asks nothing, wants nothing and stays as it is, and both interrupt lines are low.
-    #[inline(always)]
-    pub fn is_at_rest(&self) -> bool
-        ensures value { result ≡ is_still self.now }
-        ensures rests { result ≡ true → StaysAtRest self.now }
-        ensures lines { result ≡ true → lines_of self.now ≡ false ∷ false ∷ [] }
-    {
-        self.at_rest
-    }
-
-    /// False only where no channel may be paced by a FIFO now, or in a later cycle before a register is written: none that is busy
-    /// or enabled has a data request (TREQ_SEL) other than that of a pacing timer or the permanent one (RP2040 Datasheet, 2.5.3.1 and
-    /// 2.5.7, CH0_CTRL_TRIG). The engine does not ask for the counts until then. It may be true longer than a channel may wait.
-    #[inline(always)]
-    #[tactic(auto, using(crate::proofs::Counts::counts_told))]
-    pub fn may_ask_counts(&self) -> bool
-        ensures value { result ≡ false → may_ask_counts self.now ≡ false }
-        ensures asks { result ≡ false → AsksNoCounts (asks self.now) }
-        ensures later { result ≡ false → (begun : BegunTransfer) → (turns : List Turn)
-            → may_ask_counts (next self.now begun turns) ≡ false }
-    {
-        self.counts
-    }
-
-    /// The engine is at rest or paused, so that it asks nothing.
-    #[inline(always)]
-    #[tactic(auto, using(crate::proofs::AtRest::at_rest, crate::proofs::Paused::paused))]
-    pub(crate) fn asks_nothing(&self) -> bool
-        ensures value { result ≡ (is_still self.now || is_paused self.now) }
-        ensures asks { result ≡ true → asks self.now ≡ Ready idle_begun }
-    {
-        self.at_rest | self.paused
-    }
-
     /// Nothing was begun, and the counts are those with which that changes nothing: a channel that waits for a FIFO goes on to wait.
     #[inline(always)]
-    #[tactic(auto, using(crate::proofs::Unmoved::unmoved))]
     pub(crate) fn is_unmoved_by(&self, begun: &BegunTransfer) -> bool
-        ensures { result ≡ true → (turns : List Turn) → next self.now begun.now turns ≡ self.now }
+        ensures stays { result ≡ true → StaysBy begun.now.counts self.now }
+        ensures read { result ≡ true → begun.now.read ≡ Access.Nothing }
+        ensures write { result ≡ true → begun.now.write ≡ Access.Nothing }
     {
         match self.unmoved_by {
             Some(counts) if counts == begun.counts => {
@@ -154,21 +108,19 @@ impl Dma {
     }
 
     /// The cycle, where this was begun and these turns were given. Whether the engine rests or is paused is found again where
-    /// something moved, and whether it is silent; where only timers stepped all three are as before.
+    /// something moved, and whether it is silent; where only timers stepped it does not rest, and the others are as before.
     #[inline(never)]
-    #[tactic(auto, using(crate::proofs::Counts::counts))]
     pub(crate) fn move_on(&mut self, begun: &BegunTransfer, turns: &[Turn; 2])
         ensures { self.new ≡ next self.old begun.now turns.now }
     {
         if self.engine.finish(begun, turns) {
-            self.at_rest = self.engine.is_still();
+            self.at_rest = self.engine.stays();
             self.paused = self.engine.is_paused();
             self.silent = self.engine.is_silent();
             self.unmoved_by = None;
-        } else if self.engine.stays_by(begun.counts) {
-            self.unmoved_by = Some(begun.counts);
         } else {
-            self.unmoved_by = None;
+            self.at_rest = false;
+            self.unmoved_by = self.engine.stays_by(begun.counts);
         }
     }
 

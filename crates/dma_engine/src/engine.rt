@@ -1,6 +1,6 @@
 //! The engine: its state, a reset, and its interrupt lines.
 
-ghost use Rattle.std.specs.Prelude.{◌≡◌, ◌∷◌, [], true, false, Decides};
+ghost use Rattle.std.specs.Prelude.{◌≡◌, Decides};
 
 use crate::channel::Channel;
 use crate::line::InterruptLine;
@@ -65,8 +65,7 @@ impl Engine {
     /// No interrupt is raised or forced.
     #[inline(always)]
     pub(crate) fn is_silent(&self) -> bool
-        ensures value { result ≡ is_silent self.now }
-        ensures lines { result ≡ true → lines_of self.now ≡ false ∷ false ∷ [] }
+        ensures { result ≡ is_silent self.now }
     {
         self.raised == 0 && self.line_0.force == 0 && self.line_1.force == 0
     }

@@ -1,7 +1,7 @@
 //! How a cycle ends: sequences end, the read and the write are done or wait, the next channel is chosen, and the pacing
 //! timers give their credits.
 
-ghost use Rattle.std.specs.Prelude.{◌≡◌, ◌<◌, ℕ, false, true, length, map, slice_index_or, is_none, Some};
+ghost use Rattle.std.specs.Prelude.{◌≡◌, ◌<◌, ℕ, false, true, length, map, slice_index_or, IfSome, Some};
 ghost use Rattle.std.specs.List.{list_all, list_any};
 ghost use Rattle.lane_look.specs.declared.lane.Turn.{Turn};
 ghost use Rattle.dma_engine.specs.Control.{treq_of};
@@ -10,9 +10,7 @@ ghost use Rattle.dma_engine.specs.Requests.{pace_of};
 ghost use Rattle.dma_engine.specs.declared.begun.Access.TheVariants as Access;
 ghost use Rattle.dma_engine.specs.State.{channel_at};
 ghost use Rattle.dma_engine.specs.Timer.{gives, stepped, given_by, is_given, gets_credit, credited, with_credit, with_stepped_timers, after_timers};
-ghost use Rattle.dma_engine.specs.Rest.{is_idle_channel, is_idle_timer, is_at_rest, is_still};
-ghost use Rattle.dma_engine.specs.Paused.{is_paused};
-ghost use Rattle.dma_engine.specs.Unmoved.{StaysBy};
+ghost use Rattle.dma_engine.specs.Rest.{is_idle_timer, is_paused, AreIdle, StaysBy};
 ghost use Rattle.dma_engine.specs.Words.{is_silent};
 ghost use Rattle.dma_engine.specs.Cycle.{want_of, word_of, word_read, with_data, with_read, after_read, is_written, after_write, credits_left, counted, after_choice, is_over, after_transfers, next};
 ghost use Rattle.dma_engine.specs.Channel.{in_turn};
@@ -57,20 +55,6 @@ fn is_written(access: &Access, turn: Turn) -> bool
     )
 }
 
-/// No channel is busy.
-fn are_idle(channels: &[Channel; 12]) -> bool
-    ensures { result ≡ list_all is_idle_channel channels.now }
-{
-    channels.iter().all(|channel| !channel.busy)
-}
-
-/// No timer runs.
-pub(crate) fn are_idle_timers(timers: &[PacingTimer; 4]) -> bool
-    ensures { result ≡ list_all is_idle_timer timers.now }
-{
-    timers.iter().all(|timer| !timer.runs())
-}
-
 /// Which timers give a credit.
 #[tactic(auto, using(crate::proofs::Four::four))]
 fn given_by(timers: &[PacingTimer; 4]) -> [bool; 4]
@@ -86,10 +70,10 @@ fn given_by(timers: &[PacingTimer; 4]) -> [bool; 4]
 
 /// Some timer gives a credit.
 #[inline(always)]
-fn some_given(given: &[bool; 4]) -> bool
-    ensures { result ≡ list_any (λ b. b) given.now }
+fn some_gives(timers: &[PacingTimer; 4]) -> bool
+    ensures { result ≡ list_any gives timers.now }
 {
-    given.iter().any(|gives| *gives)
+    timers.iter().any(|timer| timer.gives())
 }
 
 /// A cycle of the timers.
@@ -256,9 +240,7 @@ impl Engine {
     /// Some channel can be chosen, or is over.
     #[inline(always)]
     fn has_work(&self, counts: u128) -> bool
-        ensures choice { result ≡ false
-            → (k : ℕ) → k < 12 → is_candidate false counts self.now k ≡ false }
-        ensures ends { result ≡ false → (k : ℕ) → k < 12 → is_over self.now k ≡ false }
+        ensures { result ≡ false → AreIdle counts self.now 12 }
     {
         for number in 0..CHANNELS {
             if self.channels[number as usize].busy {
@@ -270,15 +252,22 @@ impl Engine {
         false
     }
 
+    /// No timer runs.
+    pub(crate) fn are_timers_idle(&self) -> bool
+        ensures { result ≡ list_all is_idle_timer self.now.timers }
+    {
+        self.timers.iter().all(|timer| !timer.runs())
+    }
+
     /// No pacing timer runs, and with these counts no channel can be chosen or is over, so that a cycle in which nothing is begun changes
     /// nothing.
-    pub(crate) fn stays_by(&self, counts: u128) -> bool
-        ensures { result ≡ true → StaysBy counts self.now }
+    pub(crate) fn stays_by(&self, counts: u128) -> Option<u128>
+        ensures { IfSome result (λ counts. StaysBy counts self.now) }
     {
-        if !are_idle_timers(&self.timers) {
-            return false;
+        if !self.are_timers_idle() || self.has_work(counts) {
+            return None;
         }
-        !self.has_work(counts)
+        Some(counts)
     }
 
     /// A channel takes a credit.
@@ -293,11 +282,10 @@ impl Engine {
     /// The cycle, in which some timer gives a credit.
     #[inline(never)]
     #[tactic(auto, unfolding(crate::specs::Cycle::next))]
-    fn finish_with_credits(&mut self, begun: &BegunTransfer, turns: &[Turn; 2], given: &[bool; 4])
-        requires { given.now ≡ given_by self.old.timers }
+    fn finish_with_credits(&mut self, begun: &BegunTransfer, turns: &[Turn; 2])
         ensures { self.new ≡ next self.old begun.now turns.now }
     {
-        let credited = self.credited(given);
+        let credited = self.credited(&given_by(&self.timers));
         let _ = self.transfer(begun, turns);
         self.step_timers(&credited);
     }
@@ -332,35 +320,22 @@ impl Engine {
         self.take_credits(credited);
     }
 
-    /// The choice of a cycle with that read; any where a channel is chosen that was not read.
-    #[inline(always)]
-    fn choice_after(&self, read: Option<u32>, counts: u128) -> Option<u8>
-        ensures none { is_none self.now.chosen ≡ true → result ≡ choice_of counts self.now }
-        ensures read { is_none read ≡ false → result ≡ choice_of counts self.now }
-    {
-        if self.chosen.is_some() && read.is_none() {
-            return None;
-        }
-        self.choice(counts)
-    }
-
     /// The transfers have their cycle.
     #[inline(never)]
     #[tactic(auto, unfolding(crate::specs::Cycle::after_transfers))]
     fn move_on(&mut self, begun: &BegunTransfer, turns: &[Turn; 2])
         ensures { self.new ≡ after_transfers self.old begun.now turns.now }
     {
-        let read = word_read(&begun.read, turns[0]);
-        let choice = self.choice_after(read, begun.counts);
+        let choice = self.choice(begun.counts);
         self.end_sequences();
-        self.end_reading(read);
+        self.end_reading(word_read(&begun.read, turns[0]));
         self.end_write(is_written(&begun.write, turns[1]));
         self.take_choice(choice);
     }
 
     /// The transfers have their cycle. In most cycles nothing was begun, and no sequence ends or can go on: false then.
     #[inline(always)]
-    #[tactic(auto, using(crate::proofs::Idle::nothing_moves))]
+    #[tactic(auto, using(crate::proofs::Rest::nothing_moves))]
     fn transfer(&mut self, begun: &BegunTransfer, turns: &[Turn; 2]) -> bool
         ensures after { self.new ≡ after_transfers self.old begun.now turns.now }
         ensures stays { result ≡ false → self.new ≡ self.old }
@@ -372,42 +347,21 @@ impl Engine {
         true
     }
 
-    /// The cycle, where this was begun and these turns were given; false where only timers stepped, so that the engine rests or
-    /// is paused as before.
+    /// The cycle, where this was begun and these turns were given; false where only timers stepped, so that the engine is paused as
+    /// before.
     #[inline(always)]
-    #[tactic(auto, unfolding(crate::specs::Cycle::next), using(crate::proofs::TimersAtRest::stepping))]
+    #[tactic(auto, using(crate::proofs::Rest::stepping))]
     pub(crate) fn finish(&mut self, begun: &BegunTransfer, turns: &[Turn; 2]) -> bool
         ensures after { self.new ≡ next self.old begun.now turns.now }
-        ensures still { result ≡ false → is_still self.new ≡ is_still self.old }
         ensures paused { result ≡ false → is_paused self.new ≡ is_paused self.old }
         ensures silent { result ≡ false → is_silent self.new ≡ is_silent self.old }
     {
-        let given = given_by(&self.timers);
-        if some_given(&given) {
-            self.finish_with_credits(begun, turns, &given);
+        if some_gives(&self.timers) {
+            self.finish_with_credits(begun, turns);
             return true;
         }
         let moved = self.transfer(begun, turns);
         self.advance_timers();
         moved
-    }
-
-    /// Nothing can happen by itself.
-    #[tactic(auto, unfolding(crate::specs::Rest::is_at_rest))]
-    pub(crate) fn is_at_rest(&self) -> bool
-        ensures { result ≡ is_at_rest self.now }
-    {
-        if self.chosen.is_some() || !self.waiting.is_empty() {
-            return false;
-        }
-        are_idle(&self.channels) && are_idle_timers(&self.timers)
-    }
-
-    /// Nothing can happen by itself, and both interrupt lines are low.
-    #[inline(always)]
-    pub(crate) fn is_still(&self) -> bool
-        ensures { result ≡ is_still self.now }
-    {
-        self.is_at_rest() && self.is_silent()
     }
 }

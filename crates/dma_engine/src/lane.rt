@@ -13,10 +13,11 @@ impl Dma {
 
     /// Asks, and begins a cycle in the place of what was begun before.
     #[inline(always)]
+    #[tactic(auto, using(crate::proofs::Rest::paused))]
     pub fn begin_into<K: Look>(&self, look: &mut K, begun: &mut BegunTransfer)
         ensures { Runs K.answers look.old (asks self.now) begun.new look.new }
     {
-        if self.asks_nothing() {
+        if self.paused {
             begun.read = Access::Nothing;
             begun.write = Access::Nothing;
             begun.counts = 0;
@@ -56,13 +57,9 @@ impl Lane<()> for Dma {
     }
 
     #[inline(always)]
-    #[tactic(auto, using(crate::proofs::AtRest::at_rest, crate::proofs::Paused::paused, crate::proofs::Counts::counts))]
+    #[tactic(auto, using(crate::proofs::Rest::unmoved))]
     fn finish(&mut self, _env: &(), begun: &BegunTransfer, turns: [Turn; 2], _marks: &mut Marks) {
         if self.at_rest || self.is_unmoved_by(begun) {
-            return;
-        }
-        if self.paused && self.engine.pass(begun, &turns) {
-            self.unmoved_by = None;
             return;
         }
         self.move_on(begun, &turns);
@@ -72,7 +69,6 @@ impl Lane<()> for Dma {
         self.engine.copy_from(&other.engine);
         self.at_rest = other.at_rest;
         self.paused = other.paused;
-        self.counts = other.counts;
         self.silent = other.silent;
         self.unmoved_by = other.unmoved_by;
     }

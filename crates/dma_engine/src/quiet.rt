@@ -8,7 +8,6 @@ ghost use Rattle.dma_engine.specs.Quiet.{timer_after};
 use crate::begun::BegunTransfer;
 use crate::dma::Dma;
 use crate::engine::Engine;
-use crate::finish::{are_idle_timers, is_nothing};
 use crate::timer::PacingTimer;
 
 impl PacingTimer {
@@ -73,19 +72,10 @@ fn fits(_y: u16, _accumulator: u16)
 {}
 
 impl Engine {
-    ghost use Rattle.std.specs.Prelude.{◌≡◌, ℕ, true};
-    ghost use Rattle.dma_engine.specs.Asks.{may_ask_counts};
-    ghost use Rattle.dma_engine.specs.Rest.{is_still};
-    ghost use Rattle.dma_engine.specs.Paused.{is_paused};
+    ghost use Rattle.std.specs.Prelude.{◌≡◌};
+    ghost use Rattle.dma_engine.specs.Rest.{is_paused};
     ghost use Rattle.dma_engine.specs.Words.{is_silent};
     ghost use Rattle.dma_engine.specs.Quiet.{GivesNone, engine_after};
-
-    /// No timer runs, so that none steps.
-    fn are_timers_idle(&self) -> bool
-        ensures { result ≡ true → (n : ℕ) → engine_after n self.now ≡ self.now }
-    {
-        are_idle_timers(&self.timers)
-    }
 
     /// In so many cycles from now on no timer gives a credit.
     fn quiet_timers(&self) -> u64
@@ -98,9 +88,7 @@ impl Engine {
     fn pass_timers(&mut self, n: u64)
         requires { GivesNone self.old n }
         ensures after { self.new ≡ engine_after n self.old }
-        ensures still { is_still self.new ≡ is_still self.old }
         ensures paused { is_paused self.new ≡ is_paused self.old }
-        ensures counts { may_ask_counts self.new ≡ may_ask_counts self.old }
         ensures silent { is_silent self.new ≡ is_silent self.old }
     {
         let timers = all_passed(&self.timers, n);
@@ -122,18 +110,13 @@ impl Dma {
         ensures { (answer : Ask → ℕ) → begun.now ≡ answered answer (asks self.now)
             → IsQuiet (answer Pacing) self.now result }
     {
-        if self.at_rest {
+        if self.is_unmoved_by(begun) {
             return u64::MAX;
         }
         if self.paused {
             return self.engine.quiet_timers();
         }
-        match self.unmoved_by {
-            Some(counts)
-                if counts == begun.counts && is_nothing(&begun.read) && is_nothing(&begun.write) =>
-                { u64::MAX }
-            _ => 0,
-        }
+        0
     }
 
     /// So many cycles at once, in which the engine is quiet.
@@ -145,6 +128,7 @@ impl Dma {
             return;
         }
         self.engine.pass_timers(n);
+        self.at_rest = false;
         self.unmoved_by = None;
     }
 }

@@ -1,7 +1,7 @@
 //! A pacing timer.
 
-ghost use Rattle.std.specs.Prelude.{◌≡◌, ◌≤◌, false, if◌then◌else◌, Some, None};
-ghost use Rattle.dma_engine.specs.Timer.{runs, step_of, sum_of, gives, accumulated, stepped};
+ghost use Rattle.std.specs.Prelude.{◌≡◌, ◌≤◌};
+ghost use Rattle.dma_engine.specs.Timer.{runs, step_of, gives, accumulated, stepped};
 
 /// One pacing timer (RP2040 Datasheet, 2.5.7, TIMER0): it gives a credit in X of each Y cycles.
 #[derive(Clone, Copy, PartialEq, Eq)]
@@ -64,32 +64,5 @@ impl PacingTimer {
         if self.runs() {
             self.accumulator = self.accumulated();
         }
-    }
-
-    /// What the accumulator comes to in a cycle in which the timer gives no credit; none where it gives one.
-    #[inline(always)]
-    #[tactic(auto, using(crate::proofs::Passing::passing))]
-    pub(crate) fn passed(&self) -> Option<u16>
-        ensures { result ≡ (if gives self.now then None else Some (sum_of self.now)) }
-    {
-        if self.x == 0 {
-            return Some(self.accumulator);
-        }
-        let sum = u32::from(self.accumulator) + u32::from(self.step());
-        if u32::from(self.y) <= sum && self.y != 0 {
-            return None;
-        }
-        Some(sum as u16)
-    }
-
-    /// A cycle of a timer that gives no credit in it, and whose accumulator comes to that.
-    #[inline(always)]
-    #[tactic(auto, using(crate::proofs::Passing::passing))]
-    pub(crate) fn pass(&mut self, sum: u16)
-        requires { (if gives self.old then None else Some (sum_of self.old)) ≡ Some sum }
-        ensures after { self.new ≡ stepped self.old }
-        ensures none { gives self.old ≡ false }
-    {
-        self.accumulator = sum;
     }
 }

@@ -76,88 +76,51 @@ chain mask bit before after c =
 
 -- ---- the four machines
 
-four_levels : (pin : ℕ) (seen : Seen) (a b c d : Machine1) (before : ℕ) → pin < 32
-    → Chain (λ k. bit_at (own k seen (a ∷ b ∷ c ∷ d ∷ [])).level_mask pin) (λ k. bit_at (own k seen (a ∷ b ∷ c ∷ d ∷ [])).levels pin) (bit_at before pin)
-    (decided (bit_at (written_from 0 seen (a ∷ b ∷ c ∷ d ∷ []) nothing_done).level_mask pin) (bit_at (written_from 0 seen (a ∷ b ∷ c ∷ d ∷ []) nothing_done).levels pin) (bit_at before pin))
-four_levels pin seen a b c d before low =
+-- in a cycle of a machine its own mask decides of a pin, for the mask and for the bits
+abbrev IsDeciding : ℕ → Seen → (Done → ℕ) → (Done → ℕ) → Type 0
+IsDeciding pin seen mask bits =
+    (number : ℕ) (m : Machine1) (d : Done)
+    → (bit_at (mask (written_in_cycle number seen m d)) pin
+    ≡ decided (bit_at (mask (written_in_cycle number seen m nothing_done)) pin) 1 (bit_at (mask d) pin))
+    × (bit_at (bits (written_in_cycle number seen m d)) pin
+    ≡ decided (bit_at (mask (written_in_cycle number seen m nothing_done)) pin) (bit_at (bits (written_in_cycle number seen m nothing_done)) pin) (bit_at (bits d) pin))
+
+four_decide : (pin : ℕ) (seen : Seen) (mask bits : Done → ℕ) → IsDeciding pin seen mask bits → (a b c d : Machine1) (before : ℕ)
+    → Chain (λ k. bit_at (mask (own k seen (a ∷ b ∷ c ∷ d ∷ []))) pin) (λ k. bit_at (bits (own k seen (a ∷ b ∷ c ∷ d ∷ []))) pin) before
+    (decided (bit_at (mask (written_from 0 seen (a ∷ b ∷ c ∷ d ∷ []) nothing_done)) pin) (bit_at (bits (written_from 0 seen (a ∷ b ∷ c ∷ d ∷ []) nothing_done)) pin) before)
+four_decide pin seen mask bits h a b c d before =
     let d1 = written_in_cycle 0 seen a nothing_done in
     let d2 = written_in_cycle 1 seen b d1 in
     let d3 = written_in_cycle 2 seen c d2 in
     let d4 = written_in_cycle 3 seen d d3 in
-    let second = the_later_machine_decides 1 pin seen b d1 low in
-    let third = the_later_machine_decides 2 pin seen c d2 low in
-    let fourth = the_later_machine_decides 3 pin seen d d3 low in
     record {
-      m2 = bit_at d2.level_mask pin;
-      m3 = bit_at d3.level_mask pin;
-      m4 = bit_at d4.level_mask pin;
-      x2 = bit_at d2.levels pin;
-      x3 = bit_at d3.levels pin;
-      x4 = bit_at d4.levels pin;
-      second_mask = second.level_mask;
-      second_bit = second.level;
-      third_mask = third.level_mask;
-      third_bit = third.level;
-      fourth_mask = fourth.level_mask;
-      fourth_bit = fourth.level;
+      m2 = bit_at (mask d2) pin;
+      m3 = bit_at (mask d3) pin;
+      m4 = bit_at (mask d4) pin;
+      x2 = bit_at (bits d2) pin;
+      x3 = bit_at (bits d3) pin;
+      x4 = bit_at (bits d4) pin;
+      second_mask = (h 1 b d1).0;
+      second_bit = (h 1 b d1).1;
+      third_mask = (h 2 c d2).0;
+      third_bit = (h 2 c d2).1;
+      fourth_mask = (h 3 d d3).0;
+      fourth_bit = (h 3 d d3).1;
       end = refl;
     }
-
-four_enables : (pin : ℕ) (seen : Seen) (a b c d : Machine1) (before : ℕ) → pin < 32
-    → Chain (λ k. bit_at (own k seen (a ∷ b ∷ c ∷ d ∷ [])).enable_mask pin) (λ k. bit_at (own k seen (a ∷ b ∷ c ∷ d ∷ [])).enables pin) (bit_at before pin)
-    (decided (bit_at (written_from 0 seen (a ∷ b ∷ c ∷ d ∷ []) nothing_done).enable_mask pin) (bit_at (written_from 0 seen (a ∷ b ∷ c ∷ d ∷ []) nothing_done).enables pin) (bit_at before pin))
-four_enables pin seen a b c d before low =
-    let d1 = written_in_cycle 0 seen a nothing_done in
-    let d2 = written_in_cycle 1 seen b d1 in
-    let d3 = written_in_cycle 2 seen c d2 in
-    let d4 = written_in_cycle 3 seen d d3 in
-    let second = the_later_machine_decides 1 pin seen b d1 low in
-    let third = the_later_machine_decides 2 pin seen c d2 low in
-    let fourth = the_later_machine_decides 3 pin seen d d3 low in
-    record {
-      m2 = bit_at d2.enable_mask pin;
-      m3 = bit_at d3.enable_mask pin;
-      m4 = bit_at d4.enable_mask pin;
-      x2 = bit_at d2.enables pin;
-      x3 = bit_at d3.enables pin;
-      x4 = bit_at d4.enables pin;
-      second_mask = second.enable_mask;
-      second_bit = second.enable;
-      third_mask = third.enable_mask;
-      third_bit = third.enable;
-      fourth_mask = fourth.enable_mask;
-      fourth_bit = fourth.enable;
-      end = refl;
-    }
-
-all_fit : (number : ℕ) (seen : Seen) (ms : List Machine1) (d : Done) → d.level_mask < 2 ^ 32 → (written_from number seen ms d).level_mask < 2 ^ 32
-all_fit number seen [] d h = h
-all_fit number seen (m ∷ ms) d h = all_fit (number + 1) seen ms (written_in_cycle number seen m d) (mask_fits number seen m d h)
-
-all_enables_fit : (number : ℕ) (seen : Seen) (ms : List Machine1) (d : Done) → d.enable_mask < 2 ^ 32 → (written_from number seen ms d).enable_mask < 2 ^ 32
-all_enables_fit number seen [] d h = h
-all_enables_fit number seen (m ∷ ms) d h = all_enables_fit (number + 1) seen ms (written_in_cycle number seen m d) (enable_mask_fits number seen m d h)
 
 -- a pin is decided as this list of machines says
-levels_of_four : (pin : ℕ) (seen : Seen) (ms : List Machine1) (before : ℕ) → length ms ≡ 4 → pin < 32
-    → IsOfTheHighest (λ k. bit_at (own k seen ms).level_mask pin) (λ k. bit_at (own k seen ms).levels pin) (bit_at before pin)
-    (decided (bit_at (written_from 0 seen ms nothing_done).level_mask pin) (bit_at (written_from 0 seen ms nothing_done).levels pin) (bit_at before pin))
-levels_of_four pin seen [] before h low = absurd (omega (arith, h))
-levels_of_four pin seen (a ∷ []) before h low = absurd (omega (arith, h))
-levels_of_four pin seen (a ∷ b ∷ []) before h low = absurd (omega (arith, h))
-levels_of_four pin seen (a ∷ b ∷ c ∷ []) before h low = absurd (omega (arith, h))
-levels_of_four pin seen (a ∷ b ∷ c ∷ d ∷ []) before h low = chain _ _ _ _ (four_levels pin seen a b c d before low)
-levels_of_four pin seen (a ∷ b ∷ c ∷ d ∷ e ∷ rest) before h low = absurd (omega (arith, h))
+of_four : (pin : ℕ) (seen : Seen) (mask bits : Done → ℕ) → IsDeciding pin seen mask bits → (ms : List Machine1) (before : ℕ) → length ms ≡ 4
+    → IsOfTheHighest (λ k. bit_at (mask (own k seen ms)) pin) (λ k. bit_at (bits (own k seen ms)) pin) before
+    (decided (bit_at (mask (written_from 0 seen ms nothing_done)) pin) (bit_at (bits (written_from 0 seen ms nothing_done)) pin) before)
+of_four pin seen mask bits h (a ∷ b ∷ c ∷ d ∷ []) before four = chain _ _ _ _ (four_decide pin seen mask bits h a b c d before)
+of_four pin seen mask bits h _ before four = absurd (omega (arith, four))
 
-enables_of_four : (pin : ℕ) (seen : Seen) (ms : List Machine1) (before : ℕ) → length ms ≡ 4 → pin < 32
-    → IsOfTheHighest (λ k. bit_at (own k seen ms).enable_mask pin) (λ k. bit_at (own k seen ms).enables pin) (bit_at before pin)
-    (decided (bit_at (written_from 0 seen ms nothing_done).enable_mask pin) (bit_at (written_from 0 seen ms nothing_done).enables pin) (bit_at before pin))
-enables_of_four pin seen [] before h low = absurd (omega (arith, h))
-enables_of_four pin seen (a ∷ []) before h low = absurd (omega (arith, h))
-enables_of_four pin seen (a ∷ b ∷ []) before h low = absurd (omega (arith, h))
-enables_of_four pin seen (a ∷ b ∷ c ∷ []) before h low = absurd (omega (arith, h))
-enables_of_four pin seen (a ∷ b ∷ c ∷ d ∷ []) before h low = chain _ _ _ _ (four_enables pin seen a b c d before low)
-enables_of_four pin seen (a ∷ b ∷ c ∷ d ∷ e ∷ rest) before h low = absurd (omega (arith, h))
+all_fit : (mask : Done → ℕ) (seen : Seen) → ((number : ℕ) (m : Machine1) (d : Done) → mask d < 2 ^ 32 → mask (written_in_cycle number seen m d) < 2 ^ 32)
+    → (number : ℕ) (ms : List Machine1) (d : Done) → mask d < 2 ^ 32 → mask (written_from number seen ms d) < 2 ^ 32
+all_fit mask seen keeps number [] d h = h
+all_fit mask seen keeps number (m ∷ ms) d h =
+    all_fit mask seen keeps (number + 1) ms (written_in_cycle number seen m d) (keeps number m d h)
 
 -- what holds of the decided bit holds of the one that is left
 of_the_same : (mask bit : ℕ → ℕ) (before after other : ℕ) → other ≡ after → IsOfTheHighest mask bit before after → IsOfTheHighest mask bit before other
@@ -169,9 +132,15 @@ unfolding after_cycle all_written joined
 the_highest_machine_decides now second pin s four low =
     let seen = seen_by now second s in
     let d = written_from 0 seen s.machines nothing_done in
+    let levels : IsDeciding pin seen (λ e. e.level_mask) (λ e. e.levels) =
+    λ number m e. let o = the_later_machine_decides number pin seen m e low in (o.level_mask, o.level) in
+    let enables : IsDeciding pin seen (λ e. e.enable_mask) (λ e. e.enables) =
+    λ number m e. let o = the_later_machine_decides number pin seen m e low in (o.enable_mask, o.enable) in
+    let level_fits = all_fit (λ e. e.level_mask) seen (λ number m e h. mask_fits number seen m e h) 0 s.machines nothing_done (omega arith) in
+    let enable_fits = all_fit (λ e. e.enable_mask) seen (λ number m e h. enable_mask_fits number seen m e h) 0 s.machines nothing_done (omega arith) in
     record {
-      level = of_the_same _ _ _ _ _ (bit_overlaid d.level_mask d.levels s.levels pin (all_fit 0 seen s.machines nothing_done (omega arith)) low)
-          (levels_of_four pin seen s.machines s.levels four low);
-      enable = of_the_same _ _ _ _ _ (bit_overlaid d.enable_mask d.enables s.enables pin (all_enables_fit 0 seen s.machines nothing_done (omega arith)) low)
-          (enables_of_four pin seen s.machines s.enables four low);
+      level = of_the_same _ _ _ _ _ (bit_overlaid d.level_mask d.levels s.levels pin level_fits low)
+          (of_four pin seen (λ e. e.level_mask) (λ e. e.levels) levels s.machines (bit_at s.levels pin) four);
+      enable = of_the_same _ _ _ _ _ (bit_overlaid d.enable_mask d.enables s.enables pin enable_fits low)
+          (of_four pin seen (λ e. e.enable_mask) (λ e. e.enables) enables s.machines (bit_at s.enables pin) four);
     }

@@ -1,4 +1,3 @@
-pub mod AtRest
 pub mod Between
 pub mod Depths
 pub mod Highest

@@ -1,7 +1,8 @@
 -- The rows of a block in their six parts, and those of the machines by numbers and offsets.
-use Rattle.std.proofs.Common.{◌≡◌, refl, sym, ap, ◌∙◌, ℕ, zero, suc, ◌+◌, ◌-◌, ◌/◌, ◌%◌, ◌<◌, Bool, true, false, ◌&&◌, cond, List, [], ◌∷◌, ◌++◌, Some, None, true≢false, arith, rules}
+use Rattle.std.proofs.Common.{◌≡◌, refl, sym, ap, ◌∙◌, ℕ, zero, suc, ◌+◌, ◌-◌, ◌/◌, ◌%◌, ◌<◌, Bool, true, false, ◌&&◌, cond, List, [], ◌∷◌, ◌++◌, Some, None, true≢false, arith, rules, lt-ltb, le-ltb}
 use Rattle.std.specs.Prelude.{◌==◌, ◌≢◌, ◌≤◌, nat_eq, nat_lt, if◌then◌else◌, map, ⊤}
 use Rattle.std.proofs.lemmas.Grind.{common_steps}
+use Rattle.std.proofs.lemmas.Bool.{and_parts, cond-true, cond-false}
 use Rattle.std.proofs.lemmas.Bool.Decides.{nat_tests}
 use Rattle.rp_base.specs.Rows.{Place, At, Each, first_of, is_at, number_at, Row, at_row, word_at, effect_at}
 use Rattle.rp_base.proofs.Rows.{cut, told, in_stride, strided, still, either-way}
@@ -43,14 +44,6 @@ abbrev are_single : List (Row (List ℕ) Machine1) → Bool
 are_single [] = true
 are_single (row ∷ rows) = is_single row.place && are_single rows
 
-first_of_both : (b c : Bool) → (b && c) ≡ true → b ≡ true
-first_of_both true c e = refl
-first_of_both false c e = absurd (true≢false (sym e))
-
-last_of_both : (b c : Bool) → (b && c) ≡ true → c ≡ true
-last_of_both true c e = e
-last_of_both false c e = absurd (true≢false (sym e))
-
 single : (p : Place) (at : ℕ) → is_single p ≡ true → (is_at p at ≡ (at == first_of p)) × (number_at p at ≡ 0)
 single (At offset) at e = (refl, refl)
 single (Each first count stride) at e = absurd (true≢false (sym e))
@@ -60,10 +53,10 @@ word-of_machine : (rows : List (Row (List ℕ) Machine1)) (index number : ℕ) (
     ≡ word_at rows s.memory (0x0c8 + index) (machine_of number s.machines)
 word-of_machine [] index number s e = refl
 word-of_machine (row ∷ rows) index number s e =
-    let one = single row.place (0x0c8 + index) (first_of_both (is_single row.place) (are_single rows) e) in
+    let one = single row.place (0x0c8 + index) ((and_parts (is_single row.place) (are_single rows) e).0) in
     rw (one.0, one.1)
     (ap (λ x. cond (0x0c8 + index == first_of row.place) (Some (row.reads 0 s.memory (machine_of number s.machines))) x)
-    (word-of_machine rows index number s (last_of_both (is_single row.place) (are_single rows) e)))
+    (word-of_machine rows index number s ((and_parts (is_single row.place) (are_single rows) e).1)))
 
 written-row : (b : Bool) (f g : Machine1 → Machine1) (number : ℕ) (s rest : State) → rest ≡ with_machines (changed number g s.machines) s
     → cond b (with_machines (changed number f s.machines) s) rest ≡ with_machines (changed number (λ m. cond b (f m) (g m)) s.machines) s
@@ -75,54 +68,40 @@ written-of_machine : (rows : List (Row (List ℕ) Machine1)) (index number w : �
     ≡ with_machines (changed number (λ m. effect_at rows (0x0c8 + index) (Some w) m) s.machines) s
 written-of_machine [] index number w s e = ap (λ ms. with_machines ms s) (sym (unchanged number s.machines))
 written-of_machine (row ∷ rows) index number w s e =
-    let one = single row.place (0x0c8 + index) (first_of_both (is_single row.place) (are_single rows) e) in
+    let one = single row.place (0x0c8 + index) ((and_parts (is_single row.place) (are_single rows) e).0) in
     rw (one.0, one.1)
     (written-row (0x0c8 + index == first_of row.place) (row.write_does 0 w) (λ m. effect_at rows (0x0c8 + index) (Some w) m) number s _
-    (written-of_machine rows index number w s (last_of_both (is_single row.place) (are_single rows) e)))
+    (written-of_machine rows index number w s ((and_parts (is_single row.place) (are_single rows) e).1)))
 
 -- ---- by the part in which an offset is
 
-then-side : {A : Type 0} (b : Bool) (x y : A) → b ≡ true → cond b x y ≡ x
-then-side true x y e = refl
-then-side false x y e = absurd (true≢false (sym e))
-
-else-side : {A : Type 0} (b : Bool) (x y : A) → b ≡ false → cond b x y ≡ y
-else-side true x y e = absurd (true≢false e)
-else-side false x y e = refl
-
-below : (at bound : ℕ) → at < bound → nat_lt at bound ≡ true
-below at bound h = grind (arith, nat_tests, common_steps)
-
-above : (at bound : ℕ) → bound ≤ at → nat_lt at bound ≡ false
-above at bound h = grind (arith, nat_tests, common_steps)
-
 at_control : {A : Type 0} (none : A) (found : Row ⊤ State → ℕ → A) (at : ℕ) → at < 0x010
     → at_row none found pio_rows at ≡ at_row none found control_rows at
-at_control none found at h = parts none found at ∙ rw (below at 0x010 h) refl
+at_control none found at h = parts none found at ∙ rw (lt-ltb at 0x010 h) refl
 
 at_fifo : {A : Type 0} (none : A) (found : Row ⊤ State → ℕ → A) (at : ℕ) → 0x010 ≤ at → at < 0x030
     → at_row none found pio_rows at ≡ at_row none found fifo_rows at
-at_fifo none found at g h = parts none found at ∙ rw (above at 0x010 g, below at 0x030 h) refl
+at_fifo none found at g h = parts none found at ∙ rw (le-ltb at 0x010 g, lt-ltb at 0x030 h) refl
 
 at_pin : {A : Type 0} (none : A) (found : Row ⊤ State → ℕ → A) (at : ℕ) → 0x030 ≤ at → at < 0x048
     → at_row none found pio_rows at ≡ at_row none found pin_rows at
-at_pin none found at g h = parts none found at ∙ rw (above at 0x010 (omega (arith, g)), above at 0x030 g, below at 0x048 h) refl
+at_pin none found at g h = parts none found at ∙ rw (le-ltb at 0x010 (omega (arith, g)), le-ltb at 0x030 g, lt-ltb at 0x048 h) refl
 
 at_memory : {A : Type 0} (none : A) (found : Row ⊤ State → ℕ → A) (at : ℕ) → 0x048 ≤ at → at < 0x0c8
     → at_row none found pio_rows at ≡ at_row none found memory_rows at
 at_memory none found at g h =
-    parts none found at ∙ rw (above at 0x010 (omega (arith, g)), above at 0x030 (omega (arith, g)), above at 0x048 g, below at 0x0c8 h) refl
+    parts none found at ∙ rw (le-ltb at 0x010 (omega (arith, g)), le-ltb at 0x030 (omega (arith, g)), le-ltb at 0x048 g, lt-ltb at 0x0c8 h) refl
 
 at_machine : {A : Type 0} (none : A) (found : Row ⊤ State → ℕ → A) (at : ℕ) → 0x0c8 ≤ at → at < 0x128
     → at_row none found pio_rows at
     ≡ in_stride 0x0c8 none (λ row. found row ((at - 0x0c8) / 24)) (map of_machines machine_rows) ((at - 0x0c8) % 24)
 at_machine none found at g h =
     parts none found at
-    ∙ else-side (nat_lt at 0x010) _ _ (above at 0x010 (omega (arith, g)))
-    ∙ else-side (nat_lt at 0x030) _ _ (above at 0x030 (omega (arith, g)))
-    ∙ else-side (nat_lt at 0x048) _ _ (above at 0x048 (omega (arith, g)))
-    ∙ else-side (nat_lt at 0x0c8) _ _ (above at 0x0c8 g)
-    ∙ then-side (nat_lt at 0x128) _ _ (below at 0x128 h)
+    ∙ cond-false (nat_lt at 0x010) _ _ (le-ltb at 0x010 (omega (arith, g)))
+    ∙ cond-false (nat_lt at 0x030) _ _ (le-ltb at 0x030 (omega (arith, g)))
+    ∙ cond-false (nat_lt at 0x048) _ _ (le-ltb at 0x048 (omega (arith, g)))
+    ∙ cond-false (nat_lt at 0x0c8) _ _ (le-ltb at 0x0c8 g)
+    ∙ cond-true (nat_lt at 0x128) _ _ (lt-ltb at 0x128 h)
     ∙ strided none found 0x0c8 4 24 (map of_machines machine_rows) ((at - 0x0c8) / 24) ((at - 0x0c8) % 24) at refl
     (omega (arith, g, h)) (omega arith) (omega (arith, g))
 
@@ -131,11 +110,11 @@ at_interrupt : {A : Type 0} (none : A) (found : Row ⊤ State → ℕ → A) (at
 at_interrupt none found at g =
     parts none found at
     ∙ rw (
-      above at 0x010 (omega (arith, g)),
-      above at 0x030 (omega (arith, g)),
-      above at 0x048 (omega (arith, g)),
-      above at 0x0c8 (omega (arith, g)),
-      above at 0x128 g,
+      le-ltb at 0x010 (omega (arith, g)),
+      le-ltb at 0x030 (omega (arith, g)),
+      le-ltb at 0x048 (omega (arith, g)),
+      le-ltb at 0x0c8 (omega (arith, g)),
+      le-ltb at 0x128 g,
     ) refl
 
 -- ---- reads and writes
@@ -201,8 +180,8 @@ unfolding after_any
 rx_read at s h =
     let from : nat_lt at 0x010 ≡ false = grind (arith, nat_tests, common_steps) in
     let to : nat_lt at 0x030 ≡ true = grind (arith, nat_tests, common_steps) in
-    parts s (λ row n. row.read_does n s) at ∙ else-side (nat_lt at 0x010) _ _ from ∙ then-side (nat_lt at 0x030) _ _ to
-    ∙ else-side (is_at (Each 0x010 4 4) at) _ _ (not_both at h) ∙ then-side (is_at (Each 0x020 4 4) at) _ _ h
+    parts s (λ row n. row.read_does n s) at ∙ cond-false (nat_lt at 0x010) _ _ from ∙ cond-true (nat_lt at 0x030) _ _ to
+    ∙ cond-false (is_at (Each 0x010 4 4) at) _ _ (not_both at h) ∙ cond-true (is_at (Each 0x020 4 4) at) _ _ h
 
 pub no_read : (at : ℕ) (s : State) → is_at (Each 0x020 4 4) at ≡ false → after_any at None s ≡ s
 unfolding after_any
@@ -210,7 +189,7 @@ no_read at s h =
     parts s (λ row n. row.read_does n s) at
     ∙ either-way (λ x. x ≡ s) (nat_lt at 0x010) (still (control_rows {V = ⊤}) at s (search rules))
     (either-way (λ x. x ≡ s) (nat_lt at 0x030)
-    (either-way (λ x. x ≡ s) (is_at (Each 0x010 4 4) at) refl (else-side (is_at (Each 0x020 4 4) at) (taken (number_at (Each 0x020 4 4) at) s) s h))
+    (either-way (λ x. x ≡ s) (is_at (Each 0x010 4 4) at) refl (cond-false (is_at (Each 0x020 4 4) at) (taken (number_at (Each 0x020 4 4) at) s) s h))
     (either-way (λ x. x ≡ s) (nat_lt at 0x048) (still (pin_rows {V = ⊤}) at s (search rules))
     (either-way (λ x. x ≡ s) (nat_lt at 0x0c8) (still (memory_rows {V = ⊤}) at s (search rules))
     (either-way (λ x. x ≡ s) (nat_lt at 0x128) (still (map (of_machines {V = ⊤}) machine_rows) at s (search rules))

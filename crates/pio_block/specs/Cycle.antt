@@ -1,6 +1,6 @@
 -- A cycle of a block (RP2040 Datasheet, 3.2 and 3.5.6): its machines step side by side, and what they write to pins and flags
 -- is joined.
-use Rattle.std.specs.Prelude.{◌≡◌, ℕ, ◌+◌, ◌/◌, ◌%◌, ◌^◌, if◌then◌else◌, List, [], ◌∷◌, Option, Some, None, bit_or}
+use Rattle.std.specs.Prelude.{ℕ, ◌+◌, ◌/◌, ◌%◌, ◌^◌, if◌then◌else◌, List, [], ◌∷◌, Option, Some, None, bit_or}
 use Rattle.lane_look.specs.declared.lane.Want.{Want}
 use Rattle.lane_look.specs.declared.lane.Want.TheVariants as want
 use Rattle.lane_look.specs.Asking.{Asking}
@@ -61,8 +61,3 @@ wanted = want.Nothing ∷ want.Nothing ∷ []
 unfoldable pub next : Option Inputs → State → State
 next None s = s
 next (Some inputs) s = after_cycle inputs.now inputs.second s
-
--- the block is idle: it asks nothing in a cycle, wants nothing, and stays as it is
-pub record Rests (s : State) : Type 0 where
-  pub asks_nothing : asks s ≡ Ready None
-  pub stays : next None s ≡ s

@@ -5,7 +5,7 @@ use Rattle.rp_base.specs.Word.{has_bit}
 use Rattle.pio_machine.specs.Fields.{is_tx_full, tx_depth}
 use Rattle.pio_machine.specs.declared.machine.Machine1.{Machine1}
 use Rattle.pio_machine.specs.Operation.{with_pc}
-use Rattle.pio_block.specs.State.{State, machine_of, changed, with_machines, without, is_busy}
+use Rattle.pio_block.specs.State.{State, machine_of, changed, with_machines, without}
 use Rattle.pio_block.specs.Control.{ctrl_of, control_written}
 use Rattle.pio_block.specs.Queues.{bits_of, fstat_of, fdebug_of, flevel_of, is_rx_empty, first_of as first_word, debug_written, sent, taken}
 use Rattle.pio_block.specs.Registers.{machine_rows}
@@ -141,10 +141,6 @@ lines_of s = not (ints0_of s == 0) ∷ not (ints1_of s == 0) ∷ []
 -- nothing is enabled and nothing forced
 abbrev pub is_silent : State → Bool
 is_silent s = s.inte0 == 0 && s.intf0 == 0 && s.inte1 == 0 && s.intf1 == 0
-
--- no machine is enabled, no written word waits, and no interrupt is enabled or forced
-abbrev pub is_at_rest : State → Bool
-is_at_rest s = not (is_busy s) && is_silent s
 
 -- the word at the new PC was not tried yet
 abbrev pub counter_set : ℕ → ℕ → State → State

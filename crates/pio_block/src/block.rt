@@ -13,8 +13,8 @@ use std::marker::Model;
 #[derive(Drop)]
 pub struct PioBlock {
     pub(crate) state: State,
-    /// No machine is enabled, no written word waits, and no interrupt is enabled or forced.
-    pub(crate) at_rest: bool,
+    /// A machine is enabled, or a written word waits.
+    pub(crate) busy: bool,
     /// No interrupt is enabled or forced.
     silent: bool,
 }
@@ -27,14 +27,14 @@ impl Model for PioBlock {
 
     ghost view = { λ b. b.state };
 
-    ghost invariant = { λ b. AreTold b.at_rest b.silent b.state };
+    ghost invariant = { λ b. AreTold b.busy b.silent b.state };
 }
 
 impl PioBlock {
-    ghost use Rattle.std.specs.Prelude.{◌≡◌, ◌<◌, Decides, IsTrue, true, false, ◌∷◌, []};
+    ghost use Rattle.std.specs.Prelude.{◌≡◌, ◌<◌, Decides, true, false, ◌∷◌, []};
     ghost use Rattle.pio_block.specs.State.{at_reset, machine_of, is_busy};
-    ghost use Rattle.pio_block.specs.Cycle.{after_cycle, Rests};
-    ghost use Rattle.pio_block.specs.Words.{word_of, effect_of, is_allowed, pacing_of, register_list, counter_set, outs_of, is_silent, is_at_rest, lines_of};
+    ghost use Rattle.pio_block.specs.Cycle.{after_cycle};
+    ghost use Rattle.pio_block.specs.Words.{word_of, effect_of, is_allowed, pacing_of, register_list, counter_set, outs_of, is_silent, lines_of};
 
     /// The reset state: no machine is enabled, and all FIFOs are empty.
     pub fn new() -> PioBlock
@@ -42,7 +42,7 @@ impl PioBlock {
     {
         PioBlock {
             state: State::new(),
-            at_rest: true,
+            busy: false,
             silent: true,
         }
     }
@@ -67,7 +67,7 @@ impl PioBlock {
         ensures allowed { result ≡ is_allowed offset write }
     {
         let allowed = self.state.effect(offset, write);
-        self.at_rest = self.state.is_at_rest();
+        self.busy = self.state.is_busy();
         self.silent = self.state.is_silent();
         allowed
     }
@@ -94,7 +94,7 @@ impl PioBlock {
         ensures { self.new ≡ counter_set machine address self.old }
     {
         self.state.set_counter(machine, address);
-        self.at_rest = self.state.is_at_rest();
+        self.busy = self.state.is_busy();
         self.silent = self.state.is_silent();
     }
 
@@ -128,7 +128,7 @@ impl PioBlock {
         ensures { self.new ≡ after_cycle inputs.now inputs.second self.old }
     {
         self.state.step(inputs);
-        self.at_rest = self.silent && !self.state.is_busy();
+        self.busy = self.state.is_busy();
     }
 
     /// A machine is enabled, or a written word waits.
@@ -136,19 +136,7 @@ impl PioBlock {
     pub(crate) fn is_busy(&self) -> bool
         ensures { result ≡ is_busy self.now }
     {
-        self.state.is_busy()
-    }
-
-    /// No machine is enabled, no written word waits, and no interrupt is enabled or forced: in a cycle the block asks and
-    /// wants nothing, and stays as it is, and both lines are low.
-    #[inline(always)]
-    #[tactic(auto, using(crate::proofs::AtRest::at_rest))]
-    pub fn is_at_rest(&self) -> bool
-        ensures value { result ≡ is_at_rest self.now }
-        ensures rests { IsTrue result → Rests self.now }
-        ensures lines { result ≡ true → lines_of self.now ≡ false ∷ false ∷ [] }
-    {
-        self.at_rest
+        self.busy
     }
 
     /// Both are in the same state.
@@ -163,7 +151,7 @@ impl PioBlock {
         ensures { self.new ≡ other.now }
     {
         self.state.copy_from(&other.state);
-        self.at_rest = other.at_rest;
+        self.busy = other.busy;
         self.silent = other.silent;
     }
 }

@@ -1,8 +1,9 @@
 //! A machine with what its registers say.
 
-use crate::machine::{clear_stalls, control, pass, quiet, send, take, write_register};
+use crate::machine::{control, pass, quiet, write_register};
 use pio_machine::settings::Settings;
 use pio_machine::{Done, Machine1, Seen, tick};
+use rp_base::bits::has_bit;
 use std::marker::Model;
 
 /// A machine, seen as its state. Beside it stands what its registers say.
@@ -102,21 +103,24 @@ impl Kept {
         requires { number < 4 }
         ensures { self.new ≡ with_stalls_cleared word number self.old }
     {
-        clear_stalls(&mut self.machine, number, word);
+        self.machine.tx_stall = self.machine.tx_stall && !has_bit(word, 24 + number);
+        self.machine.rx_stall = self.machine.rx_stall && !has_bit(word, number);
     }
 
     /// A write of TXF.
     pub(crate) fn send(&mut self, word: u32)
         ensures { self.new ≡ with_sent word self.old }
     {
-        send(&mut self.machine, word);
+        if !self.machine.is_tx_full() {
+            self.machine.tx.push(word);
+        }
     }
 
     /// A read of RXF takes a word away.
     pub(crate) fn take(&mut self)
         ensures { self.new ≡ with_taken self.old }
     {
-        take(&mut self.machine);
+        let _ = self.machine.rx.pull();
     }
 
     /// A write of a register of the machine.

@@ -37,10 +37,10 @@ impl Lane<()> for PioBlock {
 
     #[tactic(auto, unfolding(crate::specs::Cycle::asks))]
     fn begin<K: Look>(&self, _env: &(), _cycle: u64, look: &mut K) -> Option<Inputs> {
-        if self.is_at_rest() || !self.is_busy() {
-            None
-        } else {
+        if self.is_busy() {
             Some(inputs_of(look.ask(Ask::Inputs)))
+        } else {
+            None
         }
     }
 

@@ -5,7 +5,6 @@ ghost use Rattle.pio_machine.specs.Ready.{settings_of};
 ghost use Rattle.pio_block.specs.State.{is_running, is_written};
 ghost use Rattle.pio_block.specs.Quiet.{IsBetweenTicks, divider_after};
 ghost use Rattle.pio_block.specs.Control.{restarted_if, with_divider_restarted, controlled};
-ghost use Rattle.pio_block.specs.Queues.{with_stalls_cleared, with_sent, with_taken};
 ghost use Rattle.pio_block.specs.Registers.{execctrl_of, register_of, joined, register_written};
 
 use crate::registers::{SM_ADDR, SM_CLKDIV, SM_EXECCTRL, SM_INSTR, SM_PINCTRL, SM_SHIFTCTRL};
@@ -81,32 +80,6 @@ fn restart_divider_if(machine: &mut Machine1, asked: bool)
     if asked {
         machine.acc = 0;
     }
-}
-
-/// A write of FDEBUG, to the machine of that number.
-pub(crate) fn clear_stalls(machine: &mut Machine1, number: u32, word: u32)
-    requires { number < 4 }
-    ensures { machine.new ≡ with_stalls_cleared word number machine.old }
-{
-    machine.tx_stall = machine.tx_stall && !has_bit(word, 24 + number);
-    machine.rx_stall = machine.rx_stall && !has_bit(word, number);
-}
-
-/// A write of TXF.
-pub(crate) fn send(machine: &mut Machine1, word: u32)
-    ensures machine { machine.new ≡ with_sent word machine.old }
-    ensures settings { settings_of machine.new ≡ settings_of machine.old }
-{
-    if !machine.is_tx_full() {
-        machine.tx.push(word);
-    }
-}
-
-/// A read of RXF takes a word away.
-pub(crate) fn take(machine: &mut Machine1)
-    ensures { machine.new ≡ with_taken machine.old }
-{
-    let _ = machine.rx.pull();
 }
 
 /// EXECCTRL with EXEC_STALLED.

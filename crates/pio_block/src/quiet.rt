@@ -6,7 +6,7 @@ use crate::state::State;
 impl State {
     ghost use Rattle.std.specs.Prelude.{◌≡◌};
     ghost use Rattle.pio_block.specs.Quiet.{HasWords, IsQuiet, block_after};
-    ghost use Rattle.pio_block.specs.Words.{is_silent, is_at_rest};
+    ghost use Rattle.pio_block.specs.Words.{is_silent};
 
     /// The flags are a byte, and the levels and enables words. It costs nothing.
     #[inline(always)]
@@ -28,7 +28,6 @@ impl State {
     fn pass(&mut self, n: u64)
         requires { IsQuiet self.old n }
         ensures after { self.new ≡ block_after n self.old }
-        ensures rest { is_at_rest self.new ≡ is_at_rest self.old }
         ensures silent { is_silent self.new ≡ is_silent self.old }
     {
         self.machines.pass(n);
@@ -45,11 +44,11 @@ impl PioBlock {
     pub fn quiet(&self) -> u64
         ensures { IsQuiet self.now result }
     {
-        if self.at_rest {
+        if self.busy {
+            self.state.quiet()
+        } else {
             self.state.has_words();
             u64::MAX
-        } else {
-            self.state.quiet()
         }
     }
 
@@ -59,8 +58,9 @@ impl PioBlock {
         requires { IsQuiet self.old n }
         ensures { self.new ≡ block_after n self.old }
     {
-        if !self.at_rest {
+        if self.busy {
             self.state.pass(n);
+            self.busy = self.state.is_busy();
         }
     }
 }

@@ -21,7 +21,7 @@ impl State {
     ghost use Rattle.rp_base.specs.Rows.{word_at, effect_at};
     ghost use Rattle.pio_block.specs.Control.{control_written};
     ghost use Rattle.pio_block.specs.Queues.{fdebug_of, debug_written, sent, taken, first_of, is_rx_empty};
-    ghost use Rattle.pio_block.specs.Words.{control_rows, fifo_rows, pin_rows, memory_rows, interrupt_rows, intr_of, ints_of, ints0_of, ints1_of, word_of, after_any, effect_of, is_allowed, is_silent, is_at_rest, lines_of};
+    ghost use Rattle.pio_block.specs.Words.{control_rows, fifo_rows, pin_rows, memory_rows, interrupt_rows, intr_of, ints_of, ints0_of, ints1_of, word_of, after_any, effect_of, is_allowed, is_silent, lines_of};
 
     /// FDEBUG.
     #[tactic(auto, unfolding(crate::specs::Queues::fdebug_of))]
@@ -206,20 +206,10 @@ impl State {
 
     /// No interrupt of a line is enabled or forced.
     #[inline(always)]
-    #[tactic(auto, using(crate::proofs::Masks::none_enabled))]
     pub(crate) fn is_silent(&self) -> bool
-        ensures value { result ≡ is_silent self.now }
-        ensures lines { result ≡ true → lines_of self.now ≡ false ∷ false ∷ [] }
+        ensures { result ≡ is_silent self.now }
     {
         self.inte0 == 0 && self.intf0 == 0 && self.inte1 == 0 && self.intf1 == 0
-    }
-
-    /// Nothing happens in the block by itself, and both lines are low.
-    #[inline(always)]
-    pub(crate) fn is_at_rest(&self) -> bool
-        ensures { result ≡ is_at_rest self.now }
-    {
-        !self.is_busy() && self.is_silent()
     }
 
     /// Both interrupt lines.

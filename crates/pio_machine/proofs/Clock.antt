@@ -1,6 +1,6 @@
 -- How often a machine ticks, and that its FIFOs stay within their depths.
 use Rattle.std.proofs.Common.{◌≡◌, ◌∙◌, ap, sym, subst, ℕ, zero, suc, ◌+◌, ◌-◌, ◌*◌, ◌/◌, ◌%◌, ◌^◌, ◌<◌, ◌≤◌, max, Bool, true, false, ◌&&◌, ◌==◌, nat_lt, if◌then◌else◌, List, [], ◌∷◌, length, Option, Some, None, refl, arith}
-use Rattle.std.proofs.lemmas.Bool.Decides.{nat_tests}
+use Rattle.std.proofs.lemmas.Bool.{cond_both, ltb-true, ltb-false}
 use Rattle.std.proofs.lemmas.Nat.{div-mul-add}
 use Rattle.std.proofs.Math.Nat.{add-mul, one-mul, zero-add}
 use Rattle.pio_machine.specs.declared.machine.Machine1.{Machine1}
@@ -40,25 +40,12 @@ divided-low m h = ap (λ b. if b then m.acc + divider m - 256 else m.acc - 256) 
 divided-high : (m : Machine1) → nat_lt m.acc 256 ≡ false → divided m ≡ m.acc - 256
 divided-high m h = ap (λ b. if b then m.acc + divider m - 256 else m.acc - 256) h
 
-pub enabled-kept : (b : Bool) (m : Machine1) (a : ℕ) → (if b then record m { acc = a } else m).enabled ≡ m.enabled
-enabled-kept true m a = refl
-enabled-kept false m a = refl
+-- what does not look at what the divider has left
+abbrev pub LooksBeside : {A : Type 0} → (Machine1 → A) → Type 0
+LooksBeside f = (m : Machine1) (a : ℕ) → f (record m { acc = a }) ≡ f m
 
-pub clkdiv-kept : (b : Bool) (m : Machine1) (a : ℕ) → (if b then record m { acc = a } else m).clkdiv ≡ m.clkdiv
-clkdiv-kept true m a = refl
-clkdiv-kept false m a = refl
-
-pub shiftctrl-kept : (b : Bool) (m : Machine1) (a : ℕ) → (if b then record m { acc = a } else m).shiftctrl ≡ m.shiftctrl
-shiftctrl-kept true m a = refl
-shiftctrl-kept false m a = refl
-
-tx-kept : (b : Bool) (m : Machine1) (a : ℕ) → (if b then record m { acc = a } else m).tx ≡ m.tx
-tx-kept true m a = refl
-tx-kept false m a = refl
-
-rx-kept : (b : Bool) (m : Machine1) (a : ℕ) → (if b then record m { acc = a } else m).rx ≡ m.rx
-rx-kept true m a = refl
-rx-kept false m a = refl
+pub advanced-keeps : {A : Type 0} (f : Machine1 → A) → LooksBeside f → (m : Machine1) → f (advanced m) ≡ f m
+advanced-keeps f h m = cond_both m.enabled (record m { acc = divided m }) m (λ x. f x ≡ f m) (λ e. h m (divided m)) (λ e. refl)
 
 acc-moved : (m : Machine1) → m.enabled ≡ true → (advanced m).acc ≡ divided m
 acc-moved m h = ap (λ b. (if b then record m { acc = divided m } else m).acc) h
@@ -80,15 +67,9 @@ with_tick n p acc next period least low e h = record { low = omega (arith, h.low
 without_tick : (n p acc next period : ℕ) → 256 ≤ acc → next ≡ acc - 256 → IsBetween n p next period → IsBetween (suc n) p acc period
 without_tick n p acc next period high e h = record { low = omega (arith, h.low); high = omega (arith, h.high) }
 
-is_low : (a : ℕ) → nat_lt a 256 ≡ true → a < 256
-is_low a h = grind (arith, nat_tests)
-
-is_high : (a : ℕ) → nat_lt a 256 ≡ false → 256 ≤ a
-is_high a h = grind (arith, nat_tests)
-
 below-by : (b : Bool) (acc period next : ℕ) → nat_lt acc 256 ≡ b → 256 ≤ period → acc < period → next ≡ (if b then acc + period - 256 else acc - 256) → next < period
-below-by true acc period next h least l e = omega (arith, is_low acc h)
-below-by false acc period next h least l e = omega (arith, is_high acc h)
+below-by true acc period next h least l e = omega (arith, ltb-true acc 256 h)
+below-by false acc period next h least l e = omega (arith, ltb-false acc 256 h)
 
 time_of-tick : (t : ℕ) (m : Machine1) → m.enabled ≡ true → nat_lt m.acc 256 ≡ true
     → ((if m.enabled && nat_lt m.acc 256 then 1 else 0) + t) * divider m ≡ divider m + t * divider m
@@ -103,10 +84,10 @@ step-by : (b : Bool) (n t : ℕ) (m : Machine1) (next : ℕ) → m.enabled ≡ t
     → IsBetween (suc n) (((if m.enabled && nat_lt m.acc 256 then 1 else 0) + t) * divider m) m.acc (divider m)
 step-by true n t m next on h e i =
     subst (λ (p : ℕ). IsBetween (suc n) p m.acc (divider m)) (sym (time_of-tick t m on h))
-    (with_tick n (t * divider m) m.acc next (divider m) (at_least m) (is_low m.acc h) (e ∙ divided-low m h) i)
+    (with_tick n (t * divider m) m.acc next (divider m) (at_least m) (ltb-true m.acc 256 h) (e ∙ divided-low m h) i)
 step-by false n t m next on h e i =
     subst (λ (p : ℕ). IsBetween (suc n) p m.acc (divider m)) (sym (time_of-other t m on h))
-    (without_tick n (t * divider m) m.acc next (divider m) (is_high m.acc h) (e ∙ divided-high m h) i)
+    (without_tick n (t * divider m) m.acc next (divider m) (ltb-false m.acc 256 h) (e ∙ divided-high m h) i)
 
 periods : (number : ℕ) (seens : List Seen) (m : Machine1) → m.enabled ≡ true → m.acc < divider m
     → IsBetween (length seens) (ticks_over number seens m * divider m) m.acc (divider m)
@@ -114,8 +95,8 @@ periods number [] m on low = record { low = omega arith; high = omega (arith, lo
 periods number (seen ∷ seens) m on low =
     let next = after_cycle number seen m in
     let g = goes-cycle number seen m in
-    let next_on : next.enabled ≡ true = g.enabled ∙ enabled-kept m.enabled m (divided m) ∙ on in
-    let same : divider next ≡ divider m = same_divider m next (g.clkdiv ∙ clkdiv-kept m.enabled m (divided m)) in
+    let next_on : next.enabled ≡ true = g.enabled ∙ advanced-keeps (λ x. x.enabled) (λ x a. refl) m ∙ on in
+    let same : divider next ≡ divider m = same_divider m next (g.clkdiv ∙ advanced-keeps (λ x. x.clkdiv) (λ x a. refl) m) in
     let acc : next.acc ≡ divided m = g.acc ∙ acc-moved m on in
     let next_low : next.acc < divider m = below-by (nat_lt m.acc 256) m.acc (divider m) next.acc refl (at_least m) low acc in
     let rest = periods number seens next next_on (subst (λ (p : ℕ). next.acc < p) (sym same) next_low) in
@@ -154,9 +135,9 @@ pub a_cycle_keeps_the_fifos_within : ACycleKeepsTheFifosWithin
 a_cycle_keeps_the_fifos_within number seen m w =
     let g = goes-cycle number seen m in
     let next = after_cycle number seen m in
-    let first : (advanced m).shiftctrl ≡ m.shiftctrl = shiftctrl-kept m.enabled m (divided m) in
-    let tx : length (advanced m).tx ≤ tx_depth m = subst (λ (ws : List ℕ). length ws ≤ tx_depth m) (sym (tx-kept m.enabled m (divided m))) w.tx in
-    let rx : length (advanced m).rx ≤ rx_depth m = subst (λ (ws : List ℕ). length ws ≤ rx_depth m) (sym (rx-kept m.enabled m (divided m))) w.rx in
+    let first : (advanced m).shiftctrl ≡ m.shiftctrl = advanced-keeps (λ x. x.shiftctrl) (λ x a. refl) m in
+    let tx : length (advanced m).tx ≤ tx_depth m = subst (λ (ws : List ℕ). length ws ≤ tx_depth m) (sym (advanced-keeps (λ x. x.tx) (λ x a. refl) m)) w.tx in
+    let rx : length (advanced m).rx ≤ rx_depth m = subst (λ (ws : List ℕ). length ws ≤ rx_depth m) (sym (advanced-keeps (λ x. x.rx) (λ x a. refl) m)) w.rx in
     record {
       tx = within (length (advanced m).tx) (length next.tx) (tx_depth m) (tx_depth next) g.tx tx (same_tx_depth m next (g.shiftctrl ∙ first));
       rx = within_both (length (advanced m).rx) (length next.rx) (rx_depth m) (rx_depth next) (rx_depth (advanced m)) g.rx rx

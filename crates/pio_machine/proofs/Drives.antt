@@ -5,7 +5,7 @@ use Rattle.std.proofs.lemmas.Nat.{or_lt}
 use Rattle.std.proofs.Math.Nat.{pow-le-pow_right, div-le_self, zero-div}
 use Rattle.std.proofs.lemmas.Nat.Bits.{bit_at_and, bit_at_or, bit_at_not, bit_at-lt}
 use Rattle.pio_words.specs.declared.op.PioOp.{PioOp}
-use Rattle.pio_words.specs.declared.op.PioOp.TheVariants.{Jmp, Wait, In, Out, Push, Pull, Mov, Irq, Set, Reserved}
+use Rattle.pio_words.specs.declared.op.PioOp.TheVariants.{Wait, Out, Mov, Irq, Set}
 use Rattle.pio_words.specs.declared.op.WaitSource.{WaitSource}
 use Rattle.pio_words.specs.declared.op.WaitSource.TheVariants as wait
 use Rattle.pio_words.specs.declared.op.OutDestination.{OutDestination}
@@ -165,9 +165,8 @@ writes-clear : (pin flag : ℕ) → Writes pin (with_clear flag)
 writes-clear pin flag = leaves pin (with_clear flag) (λ d. refl) (λ d. refl) (λ d. refl) (λ d. refl)
 
 writes-source : (pin : ℕ) (source : WaitSource) (number : ℕ) → Writes pin (cleared_by source number)
-writes-source pin (wait.Gpio n) number = same pin
-writes-source pin (wait.Pin n) number = same pin
 writes-source pin (wait.Irq index) number = writes-clear pin (flag_of index number)
+writes-source pin _ number = same pin
 
 writes-wait-by : (polarity high : Bool) (pin : ℕ) (source : WaitSource) (number : ℕ)
     → Writes pin (λ d. if polarity then (if high then cleared_by source number d else d) else d)
@@ -184,13 +183,8 @@ writes-irq-by false false raised pin flag = writes-flag pin flag
 
 writes-out-pins : (pin : ℕ) → pin < 32 → (destination : OutDestination) (value : ℕ) (m : Machine1) → Writes pin (out_pins destination value m)
 writes-out-pins pin low out.Pins value m = writes-levels pin (out_base m) (out_count m) value low (at_most _ 32 (omega arith))
-writes-out-pins pin low out.X value m = same pin
-writes-out-pins pin low out.Y value m = same pin
-writes-out-pins pin low out.Null value m = same pin
 writes-out-pins pin low out.Pindirs value m = writes-enables pin (out_base m) (out_count m) value low (at_most _ 32 (omega arith))
-writes-out-pins pin low out.Pc value m = same pin
-writes-out-pins pin low out.Isr value m = same pin
-writes-out-pins pin low out.Exec value m = same pin
+writes-out-pins pin low _ value m = same pin
 
 writes-out-by : (stalls : Bool) (pin : ℕ) → pin < 32 → (destination : OutDestination) (value : ℕ) (m : Machine1)
     → Writes pin (λ d. if stalls then d else out_pins destination value m d)
@@ -203,30 +197,20 @@ writes-out pin low destination count m = writes-out-by (out_stalls m) pin low de
 
 writes-set : (pin : ℕ) → pin < 32 → (destination : SetDestination) (value : ℕ) (m : Machine1) → Writes pin (written_by_set destination value m)
 writes-set pin low set.Pins value m = writes-levels pin (set_base m) (set_count m) value low (at_most _ 5 (omega arith))
-writes-set pin low set.X value m = same pin
-writes-set pin low set.Y value m = same pin
 writes-set pin low set.Pindirs value m = writes-enables pin (set_base m) (set_count m) value low (at_most _ 5 (omega arith))
+writes-set pin low _ value m = same pin
 
 writes-mov : (pin : ℕ) → pin < 32 → (destination : MovDestination) (value : ℕ) (m : Machine1) → Writes pin (written_by_mov destination value m)
 writes-mov pin low moved.Pins value m = writes-levels pin (out_base m) (out_count m) value low (at_most _ 32 (omega arith))
-writes-mov pin low moved.X value m = same pin
-writes-mov pin low moved.Y value m = same pin
-writes-mov pin low moved.Exec value m = same pin
-writes-mov pin low moved.Pc value m = same pin
-writes-mov pin low moved.Isr value m = same pin
-writes-mov pin low moved.Osr value m = same pin
+writes-mov pin low _ value m = same pin
 
 writes-op : (pin : ℕ) → pin < 32 → (op : PioOp) (number : ℕ) (seen : Seen) (m : Machine1) → Writes pin (written op number seen m)
-writes-op pin low (Jmp condition address) number seen m = same pin
 writes-op pin low (Wait polarity source) number seen m = writes-wait-by polarity (is_high source number seen m) pin source number
-writes-op pin low (In source count) number seen m = same pin
 writes-op pin low (Out destination count) number seen m = writes-out pin low destination count m
-writes-op pin low (Push if_full block) number seen m = same pin
-writes-op pin low (Pull if_empty block) number seen m = same pin
 writes-op pin low (Mov destination operation source) number seen m = writes-mov pin low destination (mov_value operation source seen m) m
 writes-op pin low (Irq clear waits index) number seen m = writes-irq-by clear waits (progress_of m).raised pin (flag_of index number)
 writes-op pin low (Set destination value) number seen m = writes-set pin low destination value m
-writes-op pin low Reserved number seen m = same pin
+writes-op pin low _ number seen m = same pin
 
 -- ---- a try and a cycle
 

@@ -1,9 +1,10 @@
 -- What no try of a word changes: the divider and the registers; and how far it changes the FIFOs.
 use Rattle.std.proofs.Common.{◌≡◌, ◌∙◌, ap, ℕ, ◌+◌, ◌≤◌, max, Bool, true, false, ◌&&◌, nat_lt, nat_le, if◌then◌else◌, List, [], ◌∷◌, ◌++◌, length, length-append, Option, Some, None, refl, arith}
 use Rattle.std.proofs.lemmas.Grind.{common_steps}
+use Rattle.std.proofs.lemmas.Bool.{cond_both}
 use Rattle.std.proofs.lemmas.Bool.Decides.{nat_tests}
 use Rattle.pio_words.specs.declared.op.PioOp.{PioOp}
-use Rattle.pio_words.specs.declared.op.PioOp.TheVariants.{Jmp, Wait, In, Out, Push, Pull, Mov, Irq, Set, Reserved}
+use Rattle.pio_words.specs.declared.op.PioOp.TheVariants.{Jmp, In, Out, Push, Pull, Mov, Irq, Set}
 use Rattle.pio_words.specs.declared.op.JmpCondition.{JmpCondition}
 use Rattle.pio_words.specs.declared.op.JmpCondition.TheVariants as jump
 use Rattle.pio_words.specs.declared.op.InSource.{InSource}
@@ -87,14 +88,11 @@ goes-load [] m h = stays m
 goes-load (w ∷ rest) m h =
     record { enabled = refl; clkdiv = refl; execctrl = refl; shiftctrl = refl; pinctrl = refl; acc = refl; tx = shorter w rest m.tx h; rx = below_both m.rx m.rx (rx_depth m) refl }
 
-goes-refill-by : (b c : Bool) (m : Machine1) → Goes m (if b then (if c then loaded m else m) else m)
-goes-refill-by true true m = goes-load m.tx m refl
-goes-refill-by true false m = stays m
-goes-refill-by false c m = stays m
-
 pub goes-refill : (m : Machine1) → Goes m (refilled m)
 unfolding refilled
-goes-refill m = goes-refill-by (autopull m) (is_spent m) m
+goes-refill m =
+    cond_both (autopull m) (if is_spent m then loaded m else m) m (Goes m)
+    (λ e. cond_both (is_spent m) (loaded m) m (Goes m) (λ i. goes-load m.tx m refl) (λ i. stays m)) (λ e. stays m)
 
 grown : (ws : List ℕ) (w : ℕ) → length (ws ++ w ∷ []) ≡ length ws + 1
 grown ws w = length-append ws (w ∷ [])
@@ -122,14 +120,9 @@ goes-keep (Some w) p m = goes m _ refl refl refl refl refl refl refl refl
 -- ---- the operations
 
 goes-jmp : (condition : JmpCondition) (m : Machine1) → Goes m (after_jmp condition m)
-goes-jmp jump.Always m = stays m
-goes-jmp jump.XZero m = stays m
 goes-jmp jump.XDecrement m = goes m _ refl refl refl refl refl refl refl refl
-goes-jmp jump.YZero m = stays m
 goes-jmp jump.YDecrement m = goes m _ refl refl refl refl refl refl refl refl
-goes-jmp jump.XNotY m = stays m
-goes-jmp jump.Pin m = stays m
-goes-jmp jump.OsrNotEmpty m = stays m
+goes-jmp _ m = stays m
 
 goes-shift : (before : Bool) (value count : ℕ) (m : Machine1) → Goes m (if before then m else shifted_in value count m)
 goes-shift true v c m = stays m
@@ -151,28 +144,21 @@ goes-starve [] m h = goes m _ refl refl refl refl refl refl refl refl
 goes-starve (w ∷ rest) m h = goes-load m.tx m refl
 
 goes-put : (destination : OutDestination) (value count : ℕ) (m : Machine1) → Goes m (with_out destination value count m)
-goes-put out.Pins v c m = stays m
 goes-put out.X v c m = goes m _ refl refl refl refl refl refl refl refl
 goes-put out.Y v c m = goes m _ refl refl refl refl refl refl refl refl
-goes-put out.Null v c m = stays m
-goes-put out.Pindirs v c m = stays m
-goes-put out.Pc v c m = stays m
 goes-put out.Isr v c m = goes m _ refl refl refl refl refl refl refl refl
-goes-put out.Exec v c m = stays m
+goes-put _ v c m = stays m
 
 goes-out-done : (destination : OutDestination) (count : ℕ) (m : Machine1) → Goes m (out_done destination count m).machine
 goes-out-done destination count m =
     next_goes (next_goes (goes m (shifted_out count m) refl refl refl refl refl refl refl refl) (goes-put destination (out_value count m) count (shifted_out count m)))
     (goes-refill (with_out destination (out_value count m) count (shifted_out count m)))
 
-goes-out-by : (b : Bool) (destination : OutDestination) (count : ℕ) (m : Machine1)
-    → Goes m (if b then stalled (starved m.tx m) else out_done destination count m).machine
-goes-out-by true destination count m = goes-starve m.tx m refl
-goes-out-by false destination count m = goes-out-done destination count m
-
 goes-out : (destination : OutDestination) (count : ℕ) (m : Machine1) → Goes m (try_out destination count m).machine
 unfolding try_out
-goes-out destination count m = goes-out-by (out_stalls m) destination _ m
+goes-out destination count m =
+    cond_both (out_stalls m) (stalled (starved m.tx m)) (out_done destination _ m) (λ t. Goes m t.machine) (λ e. goes-starve m.tx m refl)
+    (λ e. goes-out-done destination _ m)
 
 goes-push-now : (full block : Bool) (m : Machine1) → is_rx_full m ≡ full
     → Goes m (if full then (if block then stalled (with_rx_stall m) else completed (with_isr_cleared (with_rx_stall m))) else completed (pushed m)).machine
@@ -180,63 +166,48 @@ goes-push-now true true m h = goes m _ refl refl refl refl refl refl refl refl
 goes-push-now true false m h = goes m _ refl refl refl refl refl refl refl refl
 goes-push-now false block m h = goes-push m h
 
-goes-push-by : (b block : Bool) (m : Machine1) → Goes m (if b then completed m else try_push_now block m).machine
-goes-push-by true block m = stays m
-goes-push-by false block m = goes-push-now (is_rx_full m) block m refl
-
 goes-try-push : (if_full block : Bool) (m : Machine1) → Goes m (try_push if_full block m).machine
 unfolding try_push
-goes-try-push if_full block m = goes-push-by (if_full && nat_lt m.isr_count (push_threshold m)) block m
+goes-try-push if_full block m =
+    cond_both (if_full && nat_lt m.isr_count (push_threshold m)) (completed m) (try_push_now block m) (λ t. Goes m t.machine) (λ e. stays m)
+    (λ e. goes-push-now (is_rx_full m) block m refl)
 
 goes-pull-from : (ws : List ℕ) (block : Bool) (m : Machine1) → m.tx ≡ ws → Goes m (pulled_from ws block m).machine
 goes-pull-from [] true m h = goes m _ refl refl refl refl refl refl refl refl
 goes-pull-from [] false m h = goes m _ refl refl refl refl refl refl refl refl
 goes-pull-from (w ∷ rest) block m h = goes-load m.tx m refl
 
-goes-pull-by : (b block : Bool) (m : Machine1) → Goes m (if b then completed m else pulled_from m.tx block m).machine
-goes-pull-by true block m = stays m
-goes-pull-by false block m = goes-pull-from m.tx block m refl
-
 goes-pull : (if_empty block : Bool) (m : Machine1) → Goes m (try_pull if_empty block m).machine
 unfolding try_pull
-goes-pull if_empty block m = goes-pull-by (is_pull_void if_empty m) block m
+goes-pull if_empty block m =
+    cond_both (is_pull_void if_empty m) (completed m) (pulled_from m.tx block m) (λ t. Goes m t.machine) (λ e. stays m)
+    (λ e. goes-pull-from m.tx block m refl)
 
 goes-mov : (destination : MovDestination) (value : ℕ) (m : Machine1) → Goes m (with_moved destination value m)
-goes-mov moved.Pins v m = stays m
 goes-mov moved.X v m = goes m _ refl refl refl refl refl refl refl refl
 goes-mov moved.Y v m = goes m _ refl refl refl refl refl refl refl refl
-goes-mov moved.Exec v m = stays m
-goes-mov moved.Pc v m = stays m
 goes-mov moved.Isr v m = goes m _ refl refl refl refl refl refl refl refl
 goes-mov moved.Osr v m = goes m _ refl refl refl refl refl refl refl refl
-
-goes-irq : (waits : Bool) (m : Machine1) → Goes m (if waits then with_raised m else m)
-goes-irq true m = goes-keep m.waiting _ m
-goes-irq false m = stays m
+goes-mov _ v m = stays m
 
 goes-set : (destination : SetDestination) (value : ℕ) (m : Machine1) → Goes m (after_set destination value m)
-goes-set set.Pins v m = stays m
 goes-set set.X v m = goes m _ refl refl refl refl refl refl refl refl
 goes-set set.Y v m = goes m _ refl refl refl refl refl refl refl refl
-goes-set set.Pindirs v m = stays m
+goes-set _ v m = stays m
 
 pub goes-op : (op : PioOp) (number : ℕ) (seen : Seen) (m : Machine1) → Goes m (tried op number seen m).machine
 goes-op (Jmp condition address) number seen m = goes-jmp condition m
-goes-op (Wait polarity source) number seen m = stays m
 goes-op (In source count) number seen m = goes-in source count seen m
 goes-op (Out destination count) number seen m = goes-out destination count m
 goes-op (Push if_full block) number seen m = goes-try-push if_full block m
 goes-op (Pull if_empty block) number seen m = goes-pull if_empty block m
 goes-op (Mov destination operation source) number seen m = goes-mov destination (mov_value operation source seen m) m
-goes-op (Irq clear wait index) number seen m = goes-irq (waits_for_clear clear wait (flag_of index number) seen m) m
+goes-op (Irq clear wait index) number seen m =
+    cond_both (waits_for_clear clear wait (flag_of index number) seen m) (with_raised m) m (Goes m) (λ e. goes-keep m.waiting _ m) (λ e. stays m)
 goes-op (Set destination value) number seen m = goes-set destination value m
-goes-op Reserved number seen m = stays m
+goes-op _ number seen m = stays m
 
 -- ---- the end of a try
-
-goes-autopull-by : (loads : Bool) (m : Machine1) → Goes m (if loads then m else refilled m)
-goes-autopull-by true m = stays m
-goes-autopull-by false m = goes-refill m
 
 goes-past : (w : Option Waiting) (m : Machine1) → Goes m (stepped_past w m)
 goes-past None m = goes m _ refl refl refl refl refl refl refl refl
@@ -250,7 +221,9 @@ goes-end delay (Jumped address) m = goes m _ refl refl refl refl refl refl refl 
 goes-end delay (Executes word) m = next_goes (goes-past m.waiting m) (goes (stepped m) _ refl refl refl refl refl refl refl refl)
 
 pub goes-worked : (op : PioOp) (number : ℕ) (seen : Seen) (m : Machine1) → Goes m (worked op number seen m)
-goes-worked op number seen m = next_goes (goes-op op number seen m) (goes-autopull-by (loads_osr op) (tried op number seen m).machine)
+goes-worked op number seen m =
+    let t = (tried op number seen m).machine in
+    next_goes (goes-op op number seen m) (cond_both (loads_osr op) t (refilled t) (Goes t) (λ e. stays t) (λ e. goes-refill t))
 
 goes-after-op : (word : ℕ) (op : PioOp) (number : ℕ) (seen : Seen) (m : Machine1) → Goes m (after_op word op number seen m)
 goes-after-op word op number seen m = next_goes (goes-worked op number seen m) (goes-end _ _ (worked op number seen m))

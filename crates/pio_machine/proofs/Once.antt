@@ -39,14 +39,12 @@ completed_leaves true true m h = absurd (cc)
 completed_leaves true false m h = refl
 completed_leaves false full m h = refl
 
-isr-ignored : Ignores (λ m. m.isr)
-isr-ignored = record { load = λ m w r. refl; pc = λ m p q. refl; waiting = λ m w. refl; delay = λ m d. refl }
+-- what an IN changes besides its memory
+abbrev told : Machine1 → ℕ × (ℕ × List ℕ)
+told m = (m.isr, (m.isr_count, m.rx))
 
-isr_count-ignored : Ignores (λ m. m.isr_count)
-isr_count-ignored = record { load = λ m w r. refl; pc = λ m p q. refl; waiting = λ m w. refl; delay = λ m d. refl }
-
-rx-ignored : Ignores (λ m. m.rx)
-rx-ignored = record { load = λ m w r. refl; pc = λ m p q. refl; waiting = λ m w. refl; delay = λ m d. refl }
+told-ignored : Ignores told
+told-ignored = record { load = λ m w r. refl; pc = λ m p q. refl; waiting = λ m w. refl; delay = λ m d. refl }
 
 -- the machine whose bits have entered, by whether they had before
 abbrev entered_by : Bool → ℕ → ℕ → Machine1 → Machine1
@@ -60,13 +58,9 @@ entered-rx : (b : Bool) (v c : ℕ) (m : Machine1) → (entered_by b v c m).rx �
 entered-rx true v c m = refl
 entered-rx false v c m = refl
 
-kept-isr : (w : Option Waiting) (p : Progress) (m : Machine1) → (kept_in w p m).isr ≡ m.isr
-kept-isr None p m = refl
-kept-isr (Some w) p m = refl
-
-kept-isr_count : (w : Option Waiting) (p : Progress) (m : Machine1) → (kept_in w p m).isr_count ≡ m.isr_count
-kept-isr_count None p m = refl
-kept-isr_count (Some w) p m = refl
+kept-told : (w : Option Waiting) (p : Progress) (m : Machine1) → told (kept_in w p m) ≡ told m
+kept-told None p m = refl
+kept-told (Some w) p m = refl
 
 -- the memory of the word that is tried stays where both memories do
 same-progress : (w : Option Waiting) (m n : Machine1) → n.progress ≡ m.progress → progress_in w n ≡ progress_in w m
@@ -98,9 +92,10 @@ stalled_in source count word number seen m h =
     let tried_machine : (try_in source count seen m).machine ≡ with_rx_stall (with_shifted s) = stalled_leaves (reaches s.isr_count s) (is_rx_full s) s h in
     let stays : after_op word (In source count) number seen m ≡ refilled (try_in source count seen m).machine = ended-stalled _ _ _ h in
     let is : after_op word (In source count) number seen m ≡ refilled (with_rx_stall (with_shifted s)) = stays ∙ ap refilled tried_machine in
+    let kept = ap told is ∙ refilled-keeps told told-ignored.load (with_rx_stall (with_shifted s)) ∙ kept-told s.waiting _ s in
     record {
-      isr = ap (λ x. x.isr) is ∙ refilled-keeps (λ x. x.isr) (λ x w r. refl) _ ∙ kept-isr s.waiting _ s;
-      isr_count = ap (λ x. x.isr_count) is ∙ refilled-keeps (λ x. x.isr_count) (λ x w r. refl) _ ∙ kept-isr_count s.waiting _ s;
+      isr = ap (λ (p : ℕ × (ℕ × List ℕ)). p.0) kept;
+      isr_count = ap (λ (p : ℕ × (ℕ × List ℕ)). p.1.0) kept;
       shifted = ap (λ x. (progress_of x).shifted) is
           ∙ refilled-keeps (λ x. (progress_of x).shifted) (λ x w r. ap (λ p. p.shifted) (same-progress x.waiting x _ refl)) (with_rx_stall (with_shifted s))
           ∙ stall-progress s;
@@ -119,17 +114,9 @@ completed_in f i source count word number seen m h =
     ended-completed f i _ _ _ h ∙ refilled-keeps f i.load _ ∙ ap f tried_machine
 
 -- where it is pushed and where it is not
-pushed-isr : (b : Bool) (s : Machine1) → (if b then pushed s else s).isr ≡ (if b then 0 else s.isr)
-pushed-isr true s = refl
-pushed-isr false s = refl
-
-pushed-isr_count : (b : Bool) (s : Machine1) → (if b then pushed s else s).isr_count ≡ (if b then 0 else s.isr_count)
-pushed-isr_count true s = refl
-pushed-isr_count false s = refl
-
-pushed-rx : (b : Bool) (s : Machine1) → (if b then pushed s else s).rx ≡ (if b then s.rx ++ s.isr ∷ [] else s.rx)
-pushed-rx true s = refl
-pushed-rx false s = refl
+pushed-told : (b : Bool) (s : Machine1) → told (if b then pushed s else s) ≡ (if b then 0 else s.isr, (if b then 0 else s.isr_count, if b then s.rx ++ s.isr ∷ [] else s.rx))
+pushed-told true s = refl
+pushed-told false s = refl
 
 -- a machine with the same SHIFTCTRL reaches its threshold at the same counts
 same_reach : (s m : Machine1) (count : ℕ) → s.shiftctrl ≡ m.shiftctrl → reaches count s ≡ reaches count m
@@ -142,10 +129,11 @@ ends_once source count word number seen m h =
     let s = shifted_once source count seen m in
     let same : reaches s.isr_count s ≡ reaches s.isr_count m = same_reach s m s.isr_count (entered-shiftctrl (progress_of m).shifted (in_value source seen m) (min count 32) m) in
     let rx : s.rx ≡ m.rx = entered-rx (progress_of m).shifted (in_value source seen m) (min count 32) m in
+    let all = completed_in told told-ignored source count word number seen m h ∙ pushed-told _ s in
     record {
-      isr = completed_in (λ x. x.isr) isr-ignored source count word number seen m h ∙ pushed-isr _ s ∙ ap (λ b. if b then 0 else s.isr) same;
-      isr_count = completed_in (λ x. x.isr_count) isr_count-ignored source count word number seen m h ∙ pushed-isr_count _ s ∙ ap (λ b. if b then 0 else s.isr_count) same;
-      rx = completed_in (λ x. x.rx) rx-ignored source count word number seen m h ∙ pushed-rx _ s
+      isr = ap (λ (p : ℕ × (ℕ × List ℕ)). p.0) all ∙ ap (λ b. if b then 0 else s.isr) same;
+      isr_count = ap (λ (p : ℕ × (ℕ × List ℕ)). p.1.0) all ∙ ap (λ b. if b then 0 else s.isr_count) same;
+      rx = ap (λ (p : ℕ × (ℕ × List ℕ)). p.1.1) all
           ∙ ap (λ b. if b then s.rx ++ s.isr ∷ [] else s.rx) same ∙ ap (λ r. if reaches s.isr_count m then r ++ s.isr ∷ [] else r) rx;
     }
 

@@ -2,6 +2,7 @@
 use Rattle.std.proofs.Common.{◌≡◌, ◌∙◌, ap, sym, ℕ, zero, suc, ◌+◌, ◌-◌, ◌*◌, ◌/◌, ◌%◌, ◌^◌, ◌<◌, ◌≤◌, min, Bool, true, false, not, ◌&&◌, nat_le, if◌then◌else◌, List, [], ◌∷◌, ◌++◌, Option, Some, None, refl, arith}
 use Rattle.std.specs.Int.{bit_at}
 use Rattle.std.specs.List.{flat_map}
+use Rattle.std.proofs.lemmas.Bool.{cond_both}
 use Rattle.std.proofs.lemmas.Bool.Decides.{nat_tests}
 use Rattle.std.proofs.lemmas.Grind.{flat_map-append}
 use Rattle.std.proofs.lemmas.List.{append_assoc, append-nil}
@@ -9,7 +10,7 @@ use Rattle.std.proofs.lemmas.Nat.{pow-add, pow_pos, mod-pow-add, div-mul-add}
 use Rattle.std.proofs.Math.Nat.{div-div-eq-div-mul, mul-div_cancel, mod-lt, zero-add, sub-zero}
 use Rattle.std.proofs.Math.Pow.{mod-mod-pow}
 use Rattle.pio_words.specs.declared.op.PioOp.{PioOp}
-use Rattle.pio_words.specs.declared.op.PioOp.TheVariants.{Jmp, Wait, In, Out, Push, Pull, Mov, Irq, Set, Reserved}
+use Rattle.pio_words.specs.declared.op.PioOp.TheVariants.{Jmp, In, Out, Push, Pull, Mov, Irq, Set}
 use Rattle.pio_words.specs.declared.op.JmpCondition.{JmpCondition}
 use Rattle.pio_words.specs.declared.op.JmpCondition.TheVariants as jump
 use Rattle.pio_words.specs.declared.op.InSource.{InSource}
@@ -38,7 +39,7 @@ use Rattle.pio_machine.specs.Move.{mov_value, with_moved}
 use Rattle.pio_machine.specs.Operation.{tried, is_osr, loads_osr, stepped_past, stepped, ended}
 use Rattle.pio_machine.specs.Cycle.{worked, after_op, after_try, ticks, divided, advanced, word_tried, passed, after_word, after_cycle}
 use Rattle.pio_machine.specs.Stream.{listed, bit_index, leading, bits_of_word, bits_waiting, bits_of_out, given_by, given_by_word, given_in_cycle, replaces_osr, word_replaces_osr, Feeds, end_of, given_over, sent_over, TheBitsOutAreThoseSent}
-use Rattle.pio_machine.proofs.Clock.{shiftctrl-kept, goes-cycle}
+use Rattle.pio_machine.proofs.Clock.{advanced-keeps, goes-cycle}
 
 -- ---- lists of bits
 
@@ -177,14 +178,10 @@ shift-bits count m h =
     ∙ ap (λ bs. bs ++ flat_map (bits_of_word m) m.tx) (parted (out_right m) count left m.osr h (omega (arith, threshold-fits m)))
 
 agrees-put : (destination : OutDestination) (value count : ℕ) (m : Machine1) → Agrees m (with_out destination value count m)
-agrees-put out.Pins v c m = itself m
 agrees-put out.X v c m = agrees m _ refl refl refl refl
 agrees-put out.Y v c m = agrees m _ refl refl refl refl
-agrees-put out.Null v c m = itself m
-agrees-put out.Pindirs v c m = itself m
-agrees-put out.Pc v c m = itself m
 agrees-put out.Isr v c m = agrees m _ refl refl refl refl
-agrees-put out.Exec v c m = itself m
+agrees-put _ v c m = itself m
 
 done-bits : (destination : OutDestination) (count : ℕ) (m : Machine1) → count ≤ 32
     → bits_of_out count m ++ bits_waiting (out_done destination count m).machine ≡ bits_waiting m
@@ -215,14 +212,9 @@ out-bits destination count m = out-by (out_stalls m) destination (min count 32) 
 -- ---- the other operations
 
 agrees-jmp : (condition : JmpCondition) (m : Machine1) → Agrees m (after_jmp condition m)
-agrees-jmp jump.Always m = itself m
-agrees-jmp jump.XZero m = itself m
 agrees-jmp jump.XDecrement m = agrees m _ refl refl refl refl
-agrees-jmp jump.YZero m = itself m
 agrees-jmp jump.YDecrement m = agrees m _ refl refl refl refl
-agrees-jmp jump.XNotY m = itself m
-agrees-jmp jump.Pin m = itself m
-agrees-jmp jump.OsrNotEmpty m = itself m
+agrees-jmp _ m = itself m
 
 agrees-keep : (w : Option Waiting) (p : Progress) (m : Machine1) → Agrees m (kept_in w p m)
 agrees-keep None p m = agrees m _ refl refl refl refl
@@ -249,13 +241,10 @@ agrees-push-now true true m = agrees m _ refl refl refl refl
 agrees-push-now true false m = agrees m _ refl refl refl refl
 agrees-push-now false block m = agrees m _ refl refl refl refl
 
-agrees-push-by : (b block : Bool) (m : Machine1) → Agrees m (if b then completed m else try_push_now block m).machine
-agrees-push-by true block m = itself m
-agrees-push-by false block m = agrees-push-now (is_rx_full m) block m
-
 agrees-push : (if_full block : Bool) (m : Machine1) → Agrees m (try_push if_full block m).machine
 unfolding try_push
-agrees-push if_full block m = agrees-push-by _ block m
+agrees-push if_full block m =
+    cond_both _ (completed m) (try_push_now block m) (λ t. Agrees m t.machine) (λ e. itself m) (λ e. agrees-push-now (is_rx_full m) block m)
 
 agrees-pull-by : (b block : Bool) (m : Machine1) → not b ≡ false → Agrees m (if b then completed m else pulled_from m.tx block m).machine
 agrees-pull-by true block m h = itself m
@@ -266,42 +255,31 @@ unfolding try_pull
 agrees-pull if_empty block m h = agrees-pull-by (is_pull_void if_empty m) block m h
 
 agrees-mov : (destination : MovDestination) (value : ℕ) (m : Machine1) → is_osr destination ≡ false → Agrees m (with_moved destination value m)
-agrees-mov moved.Pins v m h = itself m
 agrees-mov moved.X v m h = agrees m _ refl refl refl refl
 agrees-mov moved.Y v m h = agrees m _ refl refl refl refl
-agrees-mov moved.Exec v m h = itself m
-agrees-mov moved.Pc v m h = itself m
 agrees-mov moved.Isr v m h = agrees m _ refl refl refl refl
 agrees-mov moved.Osr v m h = absurd (cc)
-
-agrees-irq : (waits : Bool) (m : Machine1) → Agrees m (if waits then with_raised m else m)
-agrees-irq true m = agrees-keep m.waiting _ m
-agrees-irq false m = itself m
+agrees-mov _ v m h = itself m
 
 agrees-set : (destination : SetDestination) (value : ℕ) (m : Machine1) → Agrees m (after_set destination value m)
-agrees-set set.Pins v m = itself m
 agrees-set set.X v m = agrees m _ refl refl refl refl
 agrees-set set.Y v m = agrees m _ refl refl refl refl
-agrees-set set.Pindirs v m = itself m
+agrees-set _ v m = itself m
 
 op-bits : (op : PioOp) (number : ℕ) (seen : Seen) (m : Machine1) → replaces_osr op m ≡ false
     → given_by op m ++ bits_waiting (tried op number seen m).machine ≡ bits_waiting m
 op-bits (Jmp condition address) number seen m h = same_bits m _ (agrees-jmp condition m)
-op-bits (Wait polarity source) number seen m h = refl
 op-bits (In source count) number seen m h = same_bits m _ (agrees-in source count seen m)
 op-bits (Out destination count) number seen m h = out-bits destination count m
 op-bits (Push if_full block) number seen m h = same_bits m _ (agrees-push if_full block m)
 op-bits (Pull if_empty block) number seen m h = same_bits m _ (agrees-pull if_empty block m h)
 op-bits (Mov destination operation source) number seen m h = same_bits m _ (agrees-mov destination (mov_value operation source seen m) m h)
-op-bits (Irq clear wait index) number seen m h = same_bits m _ (agrees-irq (waits_for_clear clear wait (flag_of index number) seen m) m)
+op-bits (Irq clear wait index) number seen m h = same_bits m _
+    (cond_both (waits_for_clear clear wait (flag_of index number) seen m) (with_raised m) m (Agrees m) (λ e. agrees-keep m.waiting _ m) (λ e. itself m))
 op-bits (Set destination value) number seen m h = same_bits m _ (agrees-set destination value m)
-op-bits Reserved number seen m h = refl
+op-bits _ number seen m h = refl
 
 -- ---- a cycle
-
-autopull-by : (loads : Bool) (m : Machine1) → bits_waiting (if loads then m else refilled m) ≡ bits_waiting m
-autopull-by true m = refl
-autopull-by false m = refilled-bits m
 
 agrees-past : (w : Option Waiting) (m : Machine1) → Agrees m (stepped_past w m)
 agrees-past None m = agrees m _ refl refl refl refl
@@ -317,9 +295,10 @@ agrees-end delay (Executes word) m = and_then (agrees-past m.waiting m) (agrees 
 try-bits-of : (word : ℕ) (op : PioOp) (number : ℕ) (seen : Seen) (m : Machine1) → replaces_osr op m ≡ false
     → given_by op m ++ bits_waiting (after_op word op number seen m) ≡ bits_waiting m
 try-bits-of word op number seen m h =
+    let t = (tried op number seen m).machine in
     ap (λ bs. given_by op m ++ bs)
     (same_bits (worked op number seen m) _ (agrees-end _ (tried op number seen m).ending (worked op number seen m))
-    ∙ autopull-by (loads_osr op) (tried op number seen m).machine)
+    ∙ cond_both (loads_osr op) t (refilled t) (λ x. bits_waiting x ≡ bits_waiting t) (λ e. refl) (λ e. refilled-bits t))
     ∙ op-bits op number seen m h
 
 try-bits : (word number : ℕ) (seen : Seen) (m : Machine1) → replaces_osr (operation_of word) m ≡ false
@@ -357,7 +336,7 @@ fed-bits words m next g =
     ∙ sym (append_assoc rest (flat_map (bits_of_word m) m.tx) (flat_map (bits_of_word m) words))
 
 same_shiftctrl : (number : ℕ) (seen : Seen) (m : Machine1) → (after_cycle number seen m).shiftctrl ≡ m.shiftctrl
-same_shiftctrl number seen m = (goes-cycle number seen m).shiftctrl ∙ shiftctrl-kept m.enabled m (divided m)
+same_shiftctrl number seen m = (goes-cycle number seen m).shiftctrl ∙ advanced-keeps (λ x. x.shiftctrl) (λ x a. refl) m
 
 -- in five pieces: what is given now and later, what waits at the end, what was sent now and later
 in_turn : (given later end next before now after : List ℕ) → later ++ end ≡ next ++ after → given ++ next ≡ before ++ now

@@ -1,10 +1,11 @@
 -- A word from its first try to its last.
 use Rattle.std.proofs.Common.{◌≡◌, ◌∙◌, ap, sym, ℕ, ◌+◌, ◌-◌, ◌*◌, ◌/◌, ◌%◌, ◌^◌, ◌<◌, ◌≤◌, Bool, true, false, ◌&&◌, if◌then◌else◌, nat_lt, List, [], ◌∷◌, Option, Some, None, refl, arith}
 use Rattle.std.proofs.Common.{subst, add_comm}
+use Rattle.std.proofs.lemmas.Bool.{cond_both}
 use Rattle.std.proofs.lemmas.Nat.{pow-add, pow_pos, mod-pow-add, mod-mul-add, div-mul-add}
 use Rattle.std.proofs.Math.Nat.{mod-lt, mul_comm, mul-div-le, lt_of_mul-lt-mul_left}
 use Rattle.pio_words.specs.declared.op.PioOp.{PioOp}
-use Rattle.pio_words.specs.declared.op.PioOp.TheVariants.{Jmp, Wait, In, Out, Push, Pull, Mov, Irq, Set, Reserved}
+use Rattle.pio_words.specs.declared.op.PioOp.TheVariants.{Jmp, Wait, In, Out, Push, Pull, Mov, Irq}
 use Rattle.pio_words.specs.declared.op.InSource.{InSource}
 use Rattle.pio_words.specs.declared.op.OutDestination.{OutDestination}
 use Rattle.pio_words.specs.declared.op.OutDestination.TheVariants as out
@@ -25,7 +26,7 @@ use Rattle.pio_machine.specs.Queue.{Try, completed, stalled, loaded_from, refill
 use Rattle.pio_machine.specs.Output.{out_value, out_stalls, starved, out_done, ending_of_out, try_out}
 use Rattle.pio_machine.specs.Move.{mov_value, ending_of_mov}
 use Rattle.pio_machine.specs.Operation.{tried, loads_osr, delay_of, stepped_past, ended}
-use Rattle.pio_machine.specs.Cycle.{worked, word_tried, after_op}
+use Rattle.pio_machine.specs.Cycle.{worked, word_tried}
 use Rattle.pio_machine.specs.WordLaws.{IsUntried, AWordBeginsUntried, AWrittenWordComesNext, TheBitsInStandAtTheirEnd, IsKept, AStallKeepsTheRest}
 use Rattle.pio_machine.proofs.Refills.{refilled-keeps, ended-stalled}
 
@@ -113,22 +114,13 @@ kept-starve (w ∷ rest) m = kept-load m.tx m
 
 ends_out : (destination : OutDestination) (value : ℕ) → ending_of_out destination value ≡ Stalled → ⊥
 ends_out out.Pins v h = cc
-ends_out out.X v h = cc
-ends_out out.Y v h = cc
-ends_out out.Null v h = cc
-ends_out out.Pindirs v h = cc
-ends_out out.Pc v h = cc
-ends_out out.Isr v h = cc
-ends_out out.Exec v h = cc
-
-kept-out-by : (b : Bool) (destination : OutDestination) (count : ℕ) (m : Machine1) →
-    StallsKept m (if b then stalled (starved m.tx m) else out_done destination count m)
-kept-out-by true destination count m h = kept-starve m.tx m
-kept-out-by false destination count m h = absurd (ends_out destination (out_value count m) h)
+ends_out _ v h = cc
 
 kept-out : (destination : OutDestination) (count : ℕ) (m : Machine1) → StallsKept m (try_out destination count m)
 unfolding try_out
-kept-out destination count m h = kept-out-by (out_stalls m) destination _ m h
+kept-out destination count m =
+    cond_both (out_stalls m) (stalled (starved m.tx m)) (out_done destination _ m) (StallsKept m) (λ e h. kept-starve m.tx m)
+    (λ e h. absurd (ends_out destination (out_value _ m) h))
 
 kept-push-now : (full block : Bool) (m : Machine1) →
     StallsKept m (if full then (if block then stalled (with_rx_stall m) else completed (with_isr_cleared (with_rx_stall m))) else completed (pushed m))
@@ -136,39 +128,25 @@ kept-push-now true true m h = kept m _ refl refl refl refl refl
 kept-push-now true false m h = absurd (cc)
 kept-push-now false block m h = absurd (cc)
 
-kept-push-by : (b block : Bool) (m : Machine1) → StallsKept m (if b then completed m else try_push_now block m)
-kept-push-by true block m h = stays m
-kept-push-by false block m h = kept-push-now (is_rx_full m) block m h
-
 kept-push : (if_full block : Bool) (m : Machine1) → StallsKept m (try_push if_full block m)
 unfolding try_push
-kept-push if_full block m h = kept-push-by (if_full && nat_lt m.isr_count (push_threshold m)) block m h
+kept-push if_full block m =
+    cond_both (if_full && nat_lt m.isr_count (push_threshold m)) (completed m) (try_push_now block m) (StallsKept m) (λ e h. stays m)
+    (λ e. kept-push-now (is_rx_full m) block m)
 
 kept-pull-from : (ws : List ℕ) (block : Bool) (m : Machine1) → StallsKept m (pulled_from ws block m)
 kept-pull-from [] true m h = kept m _ refl refl refl refl refl
 kept-pull-from [] false m h = absurd (cc)
 kept-pull-from (w ∷ rest) block m h = absurd (cc)
 
-kept-pull-by : (b block : Bool) (m : Machine1) → StallsKept m (if b then completed m else pulled_from m.tx block m)
-kept-pull-by true block m h = stays m
-kept-pull-by false block m h = kept-pull-from m.tx block m h
-
 kept-pull : (if_empty block : Bool) (m : Machine1) → StallsKept m (try_pull if_empty block m)
 unfolding try_pull
-kept-pull if_empty block m h = kept-pull-by (is_pull_void if_empty m) block m h
+kept-pull if_empty block m =
+    cond_both (is_pull_void if_empty m) (completed m) (pulled_from m.tx block m) (StallsKept m) (λ e h. stays m) (λ e. kept-pull-from m.tx block m)
 
 ends_mov : (destination : MovDestination) (value : ℕ) → ending_of_mov destination value ≡ Stalled → ⊥
 ends_mov moved.Pins v h = cc
-ends_mov moved.X v h = cc
-ends_mov moved.Y v h = cc
-ends_mov moved.Exec v h = cc
-ends_mov moved.Pc v h = cc
-ends_mov moved.Isr v h = cc
-ends_mov moved.Osr v h = cc
-
-kept-irq : (waits : Bool) (m : Machine1) → IsKept m (if waits then with_raised m else m)
-kept-irq true m = kept-keep m.waiting _ m
-kept-irq false m = stays m
+ends_mov _ v h = cc
 
 kept-op : (op : PioOp) (number : ℕ) (seen : Seen) (m : Machine1) → StallsKept m (tried op number seen m)
 kept-op (Jmp condition address) number seen m h = kept-jmp (is_taken condition seen m) address m _ h
@@ -178,22 +156,16 @@ kept-op (Out destination count) number seen m h = kept-out destination count m h
 kept-op (Push if_full block) number seen m h = kept-push if_full block m h
 kept-op (Pull if_empty block) number seen m h = kept-pull if_empty block m h
 kept-op (Mov destination operation source) number seen m h = absurd (ends_mov destination (mov_value operation source seen m) h)
-kept-op (Irq clear wait index) number seen m h = kept-irq (waits_for_clear clear wait (flag_of index number) seen m) m
-kept-op (Set destination value) number seen m h = absurd (cc)
-kept-op Reserved number seen m h = absurd (cc)
-
-kept-autopull : (loads : Bool) (m : Machine1) → IsKept m (if loads then m else refilled m)
-kept-autopull true m = stays m
-kept-autopull false m = kept-refill m
-
-same_kept : (m t u : Machine1) → u ≡ t → IsKept m t → IsKept m u
-same_kept m t u e h = kept m u (ap (λ x. x.pc) e ∙ h.pc) (ap (λ x. x.delay) e ∙ h.delay) (ap (λ x. x.x) e ∙ h.x) (ap (λ x. x.y) e ∙ h.y) (ap (λ x. x.rx) e ∙ h.rx)
+kept-op (Irq clear wait index) number seen m h =
+    cond_both (waits_for_clear clear wait (flag_of index number) seen m) (with_raised m) m (IsKept m) (λ e. kept-keep m.waiting _ m) (λ e. stays m)
+kept-op _ number seen m h = absurd (cc)
 
 pub stall_keeps : AStallKeepsTheRest
 stall_keeps word op number seen m h =
-    same_kept m (worked op number seen m) (after_op word op number seen m)
-    (ended-stalled (delay_of word (worked op number seen m)) (tried op number seen m).ending (worked op number seen m) h)
-    (then_kept (kept-op op number seen m h) (kept-autopull (loads_osr op) (tried op number seen m).machine))
+    let t = (tried op number seen m).machine in
+    subst (IsKept m)
+    (sym (ended-stalled (delay_of word (worked op number seen m)) (tried op number seen m).ending (worked op number seen m) h))
+    (then_kept (kept-op op number seen m h) (cond_both (loads_osr op) t (refilled t) (IsKept t) (λ e. stays t) (λ e. kept-refill t)))
 
 -- ---- the bits of an IN
 

@@ -1,7 +1,7 @@
 use Rattle.std.proofs.Common.{ap, sym, ◌∙◌, length, nat_eq}
 use Rattle.std.specs.Prelude.{is_some}
 use Rattle.dma_engine.specs.State.{State}
-use Rattle.dma_engine.proofs.Paused.{begins_nothing}
+use Rattle.dma_engine.proofs.Rest.{begins_nothing}
 use Rattle.dma_engine.proofs.engine.Engine.begins_nothing.Goals as goal
 
 pub returns-then-is_none : goal.returns-then-is_none

@@ -1,4 +1,4 @@
-use Rattle.dma_engine.proofs.Idle.{AreIdle}
+use Rattle.dma_engine.specs.Rest.{AreIdle}
 use Rattle.dma_engine.proofs.engine.Engine.has_work.Given as goal
 
 abbrev pub invariant-loop-number : goal.invariant-loop-number

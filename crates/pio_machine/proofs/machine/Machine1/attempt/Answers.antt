@@ -1,6 +1,6 @@
 use Rattle.std.proofs.Common.{◌∙◌, ap, sym}
 use Rattle.pio_machine.specs.Ready.{settings_of}
-use Rattle.pio_machine.proofs.Ready.{settings_tried, settings_worked}
+use Rattle.pio_machine.proofs.Ready.{settings_tried}
 use Rattle.pio_machine.proofs.machine.Machine1.attempt.Goals as goal
 
 pub refill_for-requires : goal.refill_for-requires
