@@ -34,11 +34,11 @@ use Rattle.rp_machine.specs.Copies.{Agree, CopiesAgree}
 use Rattle.rp_machine.specs.Cycle.{begun, wanted, cause_in, stop, with_turns, with_sio, with_offer, with_pins, pins_of, launched_where, ended, next, mark}
 use Rattle.rp_machine.specs.Deeds.{cause_of}
 use Rattle.rp_machine.specs.Events.{events}
-use Rattle.rp_machine.specs.BusRest.{no_turns, core1_at_rest, rest_next}
+use Rattle.rp_machine.specs.Wantless.{no_turns, core1_launched, wantless_next}
 use Rattle.rp_machine.specs.Run.{states}
 use Rattle.rp_machine.specs.Quiet.{IsQuiet}
-use Rattle.quiet_run.specs.Parts.{ArePartsQuiet, ArePartsAtRest, passed, QuietPartsGoTheirOwnWay}
-use Rattle.rp_machine.proofs.BusRest.{rest_four}
+use Rattle.quiet_run.specs.Parts.{ArePartsQuiet, ArePartsQuiet, passed, QuietPartsGoTheirOwnWay}
+use Rattle.rp_machine.proofs.Wantless.{wantless_four}
 use Rattle.rp_machine.proofs.Going.{none_after, fewer_cycles}
 use Rattle.rp_machine.proofs.Inward.{TellOn, tell_on, lines_on, pacing_on, outs_on}
 use Rattle.rp_machine.proofs.OneCore.{first_want, second_want}
@@ -112,10 +112,10 @@ goes_on w s n k q lt =
     let no_limit : (s.cycle + k == w.limit) ≡ false = below (s.cycle + k) w.limit (omega arith) in
     rw no_limit (no_cause w s n k q lt)
 
-rests : (w : Setting) (s : State) (n k : ℕ) → ArePartsQuiet w s n → k < n → next w (passed w s k) ≡ rest_next w (begun (passed w s k)) (passed w s k)
+rests : (w : Setting) (s : State) (n k : ℕ) → ArePartsQuiet w s n → k < n → next w (passed w s k) ≡ wantless_next w (begun (passed w s k)) (passed w s k)
 unfolding next wanted
 rests w s n k q lt =
-    rest_four w (begun (passed w s k)) _ _ _ _ (passed w s k) (wants_core0 w s n k q lt) (wants_core1 w s n k q lt) (wants_read w s n k q lt) (wants_write w s n k q lt) q.fabric
+    wantless_four w (begun (passed w s k)) _ _ _ _ (passed w s k) (wants_core0 w s n k q lt) (wants_core1 w s n k q lt) (wants_read w s n k q lt) (wants_write w s n k q lt) q.fabric
 
 -- ---- the steps
 
@@ -158,8 +158,8 @@ waits_by true true t e = absurd (cc e)
 waits_by true false t e = refl
 waits_by false offered t e = refl
 
-launcher_waits : (offered : Bool) (t : State) → offered ≡ false → core1_at_rest offered t ≡ t
-unfolding core1_at_rest
+launcher_waits : (offered : Bool) (t : State) → offered ≡ false → core1_launched offered t ≡ t
+unfolding core1_launched
 launcher_waits offered t e = waits_by t.core1.asleep offered t e
 
 same_offer : (c : Core) (offer : Bool) → c.offer ≡ offer → with_offer offer c ≡ c
@@ -184,13 +184,13 @@ numbered : (t : State) (m n : ℕ) → m ≡ n → record t { cycle = m } ≡ re
 numbered t m n e = rw e refl
 
 pub next_passed : (w : Setting) (s : State) (n k : ℕ) → CopiesAgree s → ArePartsQuiet w s n → k < n → next w (passed w s k) ≡ passed w s (suc k)
-unfolding rest_next
+unfolding wantless_next
 next_passed w s n k agree q lt =
     let p = passed w s k in
     let t = lanes_passed w s k in
     let more : s.cycle + k + 1 ≡ s.cycle + suc k = omega arith in
     rests w s n k q lt
-    ∙ ap (λ (x : State). record (ended (core1_at_rest (offers_of s.sio) x)) { cycle = s.cycle + k + 1 }) (lanes_step w s n k q lt)
+    ∙ ap (λ (x : State). record (ended (core1_launched (offers_of s.sio) x)) { cycle = s.cycle + k + 1 }) (lanes_step w s n k q lt)
     ∙ ap (λ (x : State). record (ended x) { cycle = s.cycle + k + 1 }) (launcher_waits (offers_of s.sio) t q.launcher)
     ∙ ap (λ (x : State). record x { cycle = s.cycle + k + 1 })
     (sio_ends t q.sio (q.core1.offer (suc k) (omega arith) ∙ agree.offer) (q.peripherals.sio (suc k) (omega arith) ∙ agree.pins))
@@ -290,7 +290,7 @@ core_fewer lines c cycle n m q le = record {
 }
 
 -- the same where the fields are these
-pub parts_by : (w : Setting) (i s : State) (lines0 lines1 a b c d n at to : ℕ) (seen : SeenOutputs) → i ≡ s → ArePartsAtRest s → at ≡ s.cycle → lines0 ≡ lines_of 0 s → lines1 ≡ lines_of 1 s → seen ≡ (begun s).outer → core_quiet.IsQuiet lines0 i.core0 at a → core_quiet.IsQuiet lines1 i.core1 at b → outer_quiet.IsQuiet w seen i.outer c → AreBlocksQuiet s d → n ≤ a → n ≤ b → n ≤ c → n ≤ d → at + n ≤ to → to ≤ w.limit → ArePartsQuiet w s n
+pub parts_by : (w : Setting) (i s : State) (lines0 lines1 a b c d n at to : ℕ) (seen : SeenOutputs) → i ≡ s → ArePartsQuiet s → at ≡ s.cycle → lines0 ≡ lines_of 0 s → lines1 ≡ lines_of 1 s → seen ≡ (begun s).outer → core_quiet.IsQuiet lines0 i.core0 at a → core_quiet.IsQuiet lines1 i.core1 at b → outer_quiet.IsQuiet w seen i.outer c → AreBlocksQuiet s d → n ≤ a → n ≤ b → n ≤ c → n ≤ d → at + n ≤ to → to ≤ w.limit → ArePartsQuiet w s n
 parts_by w i s lines0 lines1 a b c d n at to seen same rest ea e0 e1 es q0 q1 qo blocks la lb lc ld lt ll =
     let h0 : core_quiet.IsQuiet lines0 s.core0 at a = subst (λ (x : State). core_quiet.IsQuiet lines0 x.core0 at a) same q0 in
     let h1 : core_quiet.IsQuiet lines1 s.core1 at b = subst (λ (x : State). core_quiet.IsQuiet lines1 x.core1 at b) same q1 in

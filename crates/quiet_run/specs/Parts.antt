@@ -17,7 +17,7 @@ use Rattle.rp_machine.specs.Cycle.{begun}
 use Rattle.rp_machine.specs.Run.{states}
 use Rattle.rp_machine.specs.Quiet.{IsQuiet}
 
--- each core waits, and the DMA engine, PIO and the peripherals are quiet for so many cycles, SIO is at rest, and no access lasts
+-- each core waits, and the DMA engine, PIO and the peripherals are quiet for so many cycles, SIO is quiet, and no access lasts
 pub record ArePartsQuiet (w : Setting) (s : State) (n : ℕ) : Type 0 where
   pub core0 : core.IsQuiet (lines_of 0 s) s.core0 s.cycle n
   pub core1 : core.IsQuiet (lines_of 1 s) s.core1 s.cycle n
@@ -29,7 +29,7 @@ pub record ArePartsQuiet (w : Setting) (s : State) (n : ℕ) : Type 0 where
   pub limit : s.cycle + n ≤ w.limit
 
 -- of these, what is not counted in cycles
-pub record ArePartsAtRest (s : State) : Type 0 where
+pub record ArePartsQuiet (s : State) : Type 0 where
   pub sio : after_cycle s.sio ≡ s.sio
   pub launcher : offers_of s.sio ≡ false
   pub fabric : has_hold s.fabric ≡ false

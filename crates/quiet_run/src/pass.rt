@@ -6,18 +6,18 @@ ghost use Rattle.rp_machine.specs.Alone.{AreBlocksQuiet};
 ghost use Rattle.rp_machine.specs.Cycle.{begun};
 ghost use Rattle.rp_machine.specs.Quiet.{IsQuiet};
 ghost use Rattle.rp_machine.specs.Run.{states};
-ghost use Rattle.quiet_run.specs.Parts.{ArePartsQuiet, ArePartsAtRest, IsIdle};
+ghost use Rattle.quiet_run.specs.Parts.{ArePartsQuiet, ArePartsQuiet, IsIdle};
 
 use lane_look::Device;
 use outer_lane::SeenOutputs;
 use rp_machine::{Machine, Steps, World};
 use std::sync::ledger::Ledger;
 
-/// SIO is at rest, and no access lasts.
-fn are_parts_at_rest(machine: &Machine) -> bool
-    ensures { result ≡ true → ArePartsAtRest machine.now }
+/// SIO is quiet, and no access lasts.
+fn are_parts_quiet(machine: &Machine) -> bool
+    ensures { result ≡ true → ArePartsQuiet machine.now }
 {
-    machine.sio.is_at_rest() && !machine.sio.offers() && !machine.fabric.holds()
+    machine.sio.is_quiet() && !machine.sio.offers() && !machine.fabric.holds()
 }
 
 /// For so many cycles nobody has anything to do, where there are any; at most up to a cycle.
@@ -28,7 +28,7 @@ fn quiet<X: Device>(machine: &Machine, world: &World<'_, X>, to: u64) -> u64
     ensures within { 0 < result → machine.now.cycle + result ≤ to }
 {
     let at = machine.number();
-    if to <= at || !are_parts_at_rest(machine) {
+    if to <= at || !are_parts_quiet(machine) {
         return 0;
     }
     let blocks = machine.quiet_blocks();
@@ -38,7 +38,7 @@ fn quiet<X: Device>(machine: &Machine, world: &World<'_, X>, to: u64) -> u64
     least_quiet(machine, world, blocks, at, to)
 }
 
-/// The least end of all, at most up to a cycle, where SIO is at rest and the DMA engine and PIO are quiet for so many cycles.
+/// The least end of all, at most up to a cycle, where SIO is quiet and the DMA engine and PIO are quiet for so many cycles.
 fn least_quiet<X: Device>(
     machine: &Machine,
     world: &World<'_, X>,
@@ -49,7 +49,7 @@ fn least_quiet<X: Device>(
     requires at { at ≡ machine.now.cycle }
     requires room { at ≤ to }
     requires limit { to ≤ world.now.limit }
-    requires rest { ArePartsAtRest machine.now }
+    requires rest { ArePartsQuiet machine.now }
     requires blocks { AreBlocksQuiet machine.now blocks }
     ensures parts { ArePartsQuiet (setting X.meaning world.now) machine.now result }
     ensures within { machine.now.cycle + result ≤ to }

@@ -42,9 +42,9 @@ use Rattle.rp_machine.specs.Deeds.{word_for, opens, is_open, asked_of, is_done_a
 use Rattle.rp_machine.specs.Registers.{Part, part_of, part_word}
 use Rattle.rp_machine.specs.Registers.Part.{Resets, Fabric, Dma, Pio0, Pio1, Outer}
 use Rattle.rp_machine.specs.Cycle.{begun, wanted, wanted_by, cause_in, pins_of, with_sio, ended, after_deed, mark, stop, next}
-use Rattle.rp_machine.specs.BusRest.{core1_at_rest}
+use Rattle.rp_machine.specs.Wantless.{core1_launched}
 use Rattle.rp_machine.specs.Alone.{Blocks, AreBlocksQuiet, blocks_after, with_blocks, IsAlone, alone_next, granted_alone, with_grant, with_store}
-use Rattle.rp_machine.specs.Inward.{with_beside, is_theirs, is_peripheral, is_inward, core0_want, goes_inward, inward_turn, inward_deed, core0_stepped, inward_rest, inward_next, TellsSame, GoesAlone, GoesOn, inward_cycle, inward_after, StaysInward, onward_after, GoesOnward, Core0GoesOnAlone}
+use Rattle.rp_machine.specs.Inward.{with_beside, is_theirs, is_peripheral, is_inward, core0_want, goes_inward, inward_turn, inward_deed, core0_stepped, inward_wantless, inward_next, TellsSame, GoesAlone, GoesOn, inward_cycle, inward_after, StaysInward, onward_after, GoesOnward, Core0GoesOnAlone}
 use Rattle.rp_machine.specs.Events.{events}
 use Rattle.rp_machine.specs.Run.{states}
 use Rattle.rp_machine.proofs.Quietly.{RunsThrough, states_through, fewer, no_events, seen_later, seen_number}
@@ -78,8 +78,8 @@ begun_same p o s h = answered_same (answer_of 0 (with_beside p o s)) (answer_of 
 
 -- ---- the cycle
 
-rests_again : (offered : Bool) (q : State) → offered ≡ false → core1_at_rest offered q ≡ q
-unfolding core1_at_rest
+rests_again : (offered : Bool) (q : State) → offered ≡ false → core1_launched offered q ≡ q
+unfolding core1_launched
 rests_again offered q h = rw h (same_way q.core1.asleep q)
 
 -- what core 0 does to SRAM is no deed that reaches further
@@ -110,7 +110,7 @@ abbrev closed : Want → ℕ → Bool → State → State
 closed x cycle granted q = record (ended (with_store (inward_deed granted x) q)) { cycle = cycle + 1 }
 
 inward_end : (w : Setting) (p : Blocks) (o : OuterState) (s : State) (b : Doing) (seen : SeenOutputs) (x : Want) → GoesAlone s → o.sio ≡ pins_of s.sio
-    → closed x s.cycle (granted_alone x s) (core1_at_rest (offers_of s.sio) (with_beside p (outer.next w o seen) (reached b x s)))
+    → closed x s.cycle (granted_alone x s) (core1_launched (offers_of s.sio) (with_beside p (outer.next w o seen) (reached b x s)))
     ≡ with_beside p (outer.next w o seen) (inward_next b x s)
 unfolding inward_next
 inward_end w p o s b seen x h pins =
@@ -152,7 +152,7 @@ inward_same : (w : Setting) (p q : Blocks) (o : OuterState) (s : State) (b : Doi
 unfolding alone_next turn_of deed_of asked_of after_deed
 inward_same w p q o s b seen want.Nothing h pins e = inward_end w q o s b seen want.Nothing h pins
 inward_same w p q o s b seen (want.Ram request) h pins e =
-    ap (λ (r : State). closed (want.Ram request) s.cycle (granted_alone (want.Ram request) s) (core1_at_rest (offers_of s.sio) r))
+    ap (λ (r : State). closed (want.Ram request) s.cycle (granted_alone (want.Ram request) s) (core1_launched (offers_of s.sio) r))
     (no_deed_where w _ (granted_alone (want.Ram request) s) request (with_beside q (outer.next w o seen) (reached b (want.Ram request) s)))
     ∙ inward_end w q o s b seen (want.Ram request) h pins
 inward_same w p q o s b seen (want.Outward request) h pins e =
@@ -190,13 +190,13 @@ onward_runs w p q o s alone same inward =
 
 -- ---- a cycle in which nothing is wanted, and no access lasts
 
-rests_inward : (b : Doing) (x : Want) (s : State) → x ≡ want.Nothing → has_hold s.fabric ≡ false → inward_rest b s ≡ inward_next b x s
-unfolding inward_rest inward_next asked_of
-rests_inward b x s e free = rw (e, nobody-after s.fabric free) refl
+wantless_inward : (b : Doing) (x : Want) (s : State) → x ≡ want.Nothing → has_hold s.fabric ≡ false → inward_wantless b s ≡ inward_next b x s
+unfolding inward_wantless inward_next asked_of
+wantless_inward b x s e free = rw (e, nobody-after s.fabric free) refl
 
 -- the same of what a call begins
-pub rests_by : (b : Doing) (s : State) → b ≡ (begun s).core0 → core.want_of b ≡ want.Nothing → has_hold s.fabric ≡ false → inward_rest b s ≡ inward_cycle s
-rests_by b s e nothing free = rests_inward b (core.want_of b) s nothing free ∙ ap (λ (d : Doing). inward_next d (core.want_of d) s) e
+pub rests_by : (b : Doing) (s : State) → b ≡ (begun s).core0 → core.want_of b ≡ want.Nothing → has_hold s.fabric ≡ false → inward_wantless b s ≡ inward_cycle s
+rests_by b s e nothing free = wantless_inward b (core.want_of b) s nothing free ∙ ap (λ (d : Doing). inward_next d (core.want_of d) s) e
 
 pub reaches_by : (b : Doing) (s t : State) → b ≡ (begun s).core0 → t ≡ inward_next b (core.want_of b) s → t ≡ inward_cycle s
 reaches_by b s t e reaches = reaches ∙ ap (λ (d : Doing). inward_next d (core.want_of d) s) e

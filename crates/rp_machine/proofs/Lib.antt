@@ -10,6 +10,6 @@ pub mod OneCore
 pub mod Inward
 pub mod Opening
 pub mod Placing
-pub mod BusRest
+pub mod Wantless
 pub mod Quietly
 pub mod Runs

@@ -20,8 +20,8 @@ use Rattle.rp_machine.specs.declared.begun.Begun.{Begun}
 use Rattle.rp_machine.specs.State.{State}
 use Rattle.rp_machine.specs.Deeds.{asked_of, turn_of, deed_of, cause_of}
 use Rattle.rp_machine.specs.Cycle.{begun, wanted, wanted_by, first_cause, cause_in, asked, granted, turns, turn_for, deeds, with_turns, with_grants, after_deed, after_deeds, stepped, next_by, next}
-use Rattle.rp_machine.specs.BusRest.{is_nothing, core1_at_rest, rest_next}
-use Rattle.rp_machine.proofs.BusRest.{both, nothing, rest_four}
+use Rattle.rp_machine.specs.Wantless.{is_nothing, core1_launched, wantless_next}
+use Rattle.rp_machine.proofs.Wantless.{both, nothing, wantless_four}
 use Rattle.rp_machine.specs.declared.wanted.Wanted.{Wanted}
 use Rattle.rp_machine.specs.Alone.{Blocks, IsAlone, beside, stepped_alone, alone_next, first_next, is_first_alone}
 
@@ -90,7 +90,7 @@ told w b x s = turn_for (turns w b (beside x) s (granted (beside x) s)) master.C
 
 ends_alone : (w : Setting) (p : Blocks) (b : Begun) (x : Want) (s : State)
     → ending w b x s (stepped_alone w p b.core0 b.outer (told w b x s) (with_grants (beside x) s)) ≡ alone_next w p b.core0 b.outer x s
-unfolding granted asked asked_of turns turn_of deeds deed_of after_deeds after_deed core1_at_rest alone_next
+unfolding granted asked asked_of turns turn_of deeds deed_of after_deeds after_deed core1_launched alone_next
 ends_alone w p b x s = refl
 
 next_beside : (w : Setting) (x : Want) (s : State) (p : Blocks) → IsAlone s p → next_by w (begun s) (beside x) s ≡ alone_next w p (begun s).core0 (begun s).outer x s
@@ -109,7 +109,7 @@ next_alone w s p h =
 
 first_four : (w : Setting) (b : Begun) (x0 x1 x2 x3 : Wanted) (s : State) → x1.want ≡ want.Nothing → x2.want ≡ want.Nothing → x3.want ≡ want.Nothing
     → next_by w b (x0 ∷ x1 ∷ x2 ∷ x3 ∷ []) s ≡ first_next w b x0 s
-unfolding next_by stepped granted asked asked_of turns turn_of deeds deed_of after_deeds after_deed first_next core1_at_rest with_turns
+unfolding next_by stepped granted asked asked_of turns turn_of deeds deed_of after_deeds after_deed first_next core1_launched with_turns
 first_four w b x0 x1 x2 x3 s e1 e2 e3 = rw (e1, e2, e3) refl
 
 -- ---- where no master behind core 0 wants anything
@@ -160,9 +160,9 @@ next_first w b s h =
     let none = behind b h in
     sym (first_four w b _ _ _ _ s none.core1 none.read none.write)
 
-pub next_at_rest : (w : Setting) (b : Begun) (s : State) → is_first_alone (wanted b) ≡ true → core.want_of b.core0 ≡ want.Nothing → has_hold s.fabric ≡ false
-    → rest_next w b s ≡ next_by w b (wanted b) s
+pub next_wantless : (w : Setting) (b : Begun) (s : State) → is_first_alone (wanted b) ≡ true → core.want_of b.core0 ≡ want.Nothing → has_hold s.fabric ≡ false
+    → wantless_next w b s ≡ next_by w b (wanted b) s
 unfolding wanted
-next_at_rest w b s h e free =
+next_wantless w b s h e free =
     let none = behind b h in
-    sym (rest_four w b _ _ _ _ s e none.core1 none.read none.write free)
+    sym (wantless_four w b _ _ _ _ s e none.core1 none.read none.write free)

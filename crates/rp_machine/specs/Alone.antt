@@ -29,7 +29,7 @@ use Rattle.rp_machine.specs.State.{State}
 use Rattle.rp_machine.specs.Answers.{pacing_of}
 use Rattle.rp_machine.specs.Deeds.{asked_of, turn_of, deed_of}
 use Rattle.rp_machine.specs.Cycle.{begun, next, wanted_by, with_turns, found_by, after_deed, stored, ended}
-use Rattle.rp_machine.specs.BusRest.{wants_nothing, core1_at_rest}
+use Rattle.rp_machine.specs.Wantless.{wants_nothing, core1_launched}
 
 -- the DMA engine and both PIO blocks
 pub record Blocks : Type 0 where
@@ -99,14 +99,14 @@ with_store d s = record s { sram = stored d s.sram }
 unfoldable pub alone_next : Setting → Blocks → Doing → SeenOutputs → Want → State → State
 alone_next w p b seen x s =
     record (ended (with_store (deed_alone w seen x s)
-    (core1_at_rest (offers_of s.sio) (after_deed w (found_by master.Core0 (deed_alone w seen x s) s.sio) master.Core0 (deed_alone w seen x s)
+    (core1_launched (offers_of s.sio) (after_deed w (found_by master.Core0 (deed_alone w seen x s) s.sio) master.Core0 (deed_alone w seen x s)
     (stepped_alone w p b seen (turn_alone w seen x s) (with_grant x s)))))) { cycle = s.cycle + 1 }
 
 -- the state after a cycle in which the lanes have begun this, the first master wants that, and the others want nothing
 unfoldable pub first_next : Setting → Begun → Wanted → State → State
 first_next w b x s =
     record (ended (with_store (deed_alone w b.outer x.want s)
-    (core1_at_rest (offers_of s.sio) (after_deed w (found_by master.Core0 (deed_alone w b.outer x.want s) s.sio) master.Core0 (deed_alone w b.outer x.want s)
+    (core1_launched (offers_of s.sio) (after_deed w (found_by master.Core0 (deed_alone w b.outer x.want s) s.sio) master.Core0 (deed_alone w b.outer x.want s)
     (with_turns w b (turn_of w b.outer x.want (granted_alone x.want s) x.master x.want s ∷ turn.Nothing ∷ turn.Nothing ∷ turn.Nothing ∷ [])
     (with_grant x.want s)))))) { cycle = s.cycle + 1 }
 

@@ -76,8 +76,8 @@ inward_next b x s =
     (core0_stepped b (inward_turn (granted_alone x s) x) (with_grant x s)))) { cycle = s.cycle + 1 }
 
 -- the same where nothing is wanted, and no access lasts
-unfoldable pub inward_rest : Doing → State → State
-inward_rest b s = record (ended (core0_stepped b turn.Nothing s)) { cycle = s.cycle + 1 }
+unfoldable pub inward_wantless : Doing → State → State
+inward_wantless b s = record (ended (core0_stepped b turn.Nothing s)) { cycle = s.cycle + 1 }
 
 -- these blocks and peripherals answer core 0 as those of a state do, and the peripherals keep the same of SIO
 pub record TellsSame (p : Blocks) (o : OuterState) (s : State) : Type 0 where

@@ -1,7 +1,7 @@
 pub mod Alone
 pub mod Answers
 pub mod Boot
-pub mod BusRest
+pub mod Wantless
 pub mod Copies
 pub mod Cycle
 pub mod Deeds

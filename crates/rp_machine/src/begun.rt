@@ -79,7 +79,7 @@ impl Begun {
     ghost use Rattle.m0_core.specs.declared.doing.Act.TheVariants.{Asleep};
     ghost use Rattle.m0_core.specs.Fetch.{ends_with};
 
-    /// What lanes that are asleep or at rest begin in cycle 0: room for what is begun.
+    /// What lanes that are asleep or quiet begin in cycle 0: room for what is begun.
     #[inline(always)]
     pub fn nothing() -> Begun
         ensures core0 { result.core0 ≡ ends_with 0 0 Asleep }

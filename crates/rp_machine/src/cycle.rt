@@ -86,7 +86,7 @@ impl Machine {
     ghost use Rattle.rp_base.specs.Map.{IsWithin};
     ghost use Rattle.rp_machine.specs.Deeds.{spot_of};
     ghost use Rattle.rp_machine.specs.Stores.{StoresInSram};
-    ghost use Rattle.rp_machine.specs.BusRest.{core1_at_rest, rest_next};
+    ghost use Rattle.rp_machine.specs.Wantless.{core1_launched, wantless_next};
     ghost use Rattle.rp_machine.specs.Alone.{first_next, is_first_alone};
     ghost use Rattle.rp_machine.specs.Cycle.{begun, wanted_by, wanted, cause_in, stop, turns, deeds, turned_inside, signalled, pins_of, with_sio, found_by, sio_accessed, after_deed, after_launcher, after_core1, stored, ended, after_deeds, next_by, next, mark};
 
@@ -297,7 +297,7 @@ impl Machine {
     pub(crate) fn end(&mut self)
         ensures { self.new ≡ ended self.old }
     {
-        if !self.sio.is_at_rest() {
+        if !self.sio.is_quiet() {
             self.sio.end_cycle();
             tell_of_sio(&self.sio, &mut self.outer, &mut self.core1);
         }
@@ -326,9 +326,9 @@ impl Machine {
 
     /// The turn of the launcher while core 1 sleeps, where the start of the cycle offered it a word.
     #[inline(always)]
-    #[tactic(auto, unfolding(crate::specs::BusRest::core1_at_rest))]
-    pub(crate) fn rest_core1(&mut self, offered: bool)
-        ensures { self.new ≡ core1_at_rest offered self.old }
+    #[tactic(auto, unfolding(crate::specs::Wantless::core1_launched))]
+    pub(crate) fn launch_core1(&mut self, offered: bool)
+        ensures { self.new ≡ core1_launched offered self.old }
     {
         if offered && self.core1.is_asleep() {
             self.launch();
@@ -337,11 +337,11 @@ impl Machine {
 
     /// One cycle in which this was begun, nobody wants anything, and no access lasts: only the lanes, SIO and the number change.
     #[inline(never)]
-    #[tactic(auto, unfolding(crate::specs::BusRest::rest_next, crate::specs::Cycle::with_turns))]
-    fn step_at_rest<X: Device>(&mut self, world: &World<'_, X>, begun: &Begun, marks: &mut Marks)
+    #[tactic(auto, unfolding(crate::specs::Wantless::wantless_next, crate::specs::Cycle::with_turns))]
+    fn step_wantless<X: Device>(&mut self, world: &World<'_, X>, begun: &Begun, marks: &mut Marks)
         requires number { self.old.cycle < 2 ^ 64 - 1 }
         requires marks { length marks.old < 256 }
-        ensures state { self.new ≡ rest_next (setting X.meaning world.now) begun.now self.old }
+        ensures state { self.new ≡ wantless_next (setting X.meaning world.now) begun.now self.old }
         ensures marks { marks.new ≡ marks.old ++ marked (setting X.meaning world.now) self.old.outer
             begun.now.outer ∷ [] }
     {
@@ -350,7 +350,7 @@ impl Machine {
         self.step_inside(begun, [Turn::Nothing; 4], marks);
         self.outer
             .finish(world, &begun.outer, [Turn::Nothing; 2], marks);
-        self.rest_core1(offered);
+        self.launch_core1(offered);
         self.end();
         self.at = at + 1;
     }
@@ -381,7 +381,7 @@ impl Machine {
         self.outer
             .finish(world, &begun.outer, [Turn::Nothing; 2], marks);
         self.do_deed(world, found, Master::Core0, &deed);
-        self.rest_core1(offered);
+        self.launch_core1(offered);
         self.store(&deed);
         self.end();
         self.at = at + 1;
@@ -424,7 +424,7 @@ impl Machine {
         if !is_core0_first(begun) {
             self.step_for_all(world, begun, marks);
         } else if self.is_bus_free(&begun.core0) {
-            self.step_at_rest(world, begun, marks);
+            self.step_wantless(world, begun, marks);
         } else {
             self.step_for_core0(world, begun, marks);
         }
@@ -469,7 +469,7 @@ impl Machine {
         if first && self.is_bus_free(&lanes.core0) {
             marks.clear();
             steps.tick();
-            self.step_at_rest(world, lanes, marks);
+            self.step_wantless(world, lanes, marks);
             return None;
         }
         let cause = if first {

@@ -1,7 +1,7 @@
 //! The laws of the machine, each the contract of a function without arguments.
 
 ghost use Rattle.rp_machine.specs.Laws.{EachRegisterIsAtItsOffset, RunsFollowEachOther, SramChangesByTheWritesAlone, EffectsComeAfterTheSteps, SioIsKnown};
-ghost use Rattle.rp_machine.specs.BusRest.{CyclesAtRestChangeTheLanesAlone};
+ghost use Rattle.rp_machine.specs.Wantless.{CyclesWithoutWantsChangeTheLanesAlone};
 ghost use Rattle.rp_machine.specs.Alone.{OneCoreGoesAlone};
 ghost use Rattle.rp_machine.specs.Inward.{Core0GoesOnAlone};
 ghost use Rattle.rp_machine.specs.LineLaws.{EachLineHasItsNumber, OneCoreGetsALock};
@@ -27,8 +27,8 @@ pub fn effects_come_after_the_steps()
 
 /// A cycle in which nobody wants anything and no access lasts changes the lanes, SIO and the number alone: SRAM, the fabric and
 /// RESETS stay, and each lane steps by what it has begun.
-pub fn cycles_at_rest_change_the_lanes_alone()
-    ensures { CyclesAtRestChangeTheLanesAlone }
+pub fn cycles_without_wants_change_the_lanes_alone()
+    ensures { CyclesWithoutWantsChangeTheLanesAlone }
 {}
 
 /// Where core 0 alone is at work a cycle is its own and the peripherals': core 1 stays as it is, and the DMA engine and PIO come to what

@@ -16,7 +16,7 @@ impl Machine {
     ghost use Rattle.rp_machine.specs.Stores.{StoresInSram};
     ghost use Rattle.rp_machine.specs.Alone.{granted_alone};
     ghost use Rattle.rp_machine.specs.Answers.{lines_of};
-    ghost use Rattle.rp_machine.specs.Inward.{is_peripheral, is_inward, goes_inward, inward_turn, inward_deed, inward_rest, inward_next, inward_cycle, inward_after, StaysInward};
+    ghost use Rattle.rp_machine.specs.Inward.{is_peripheral, is_inward, goes_inward, inward_turn, inward_deed, inward_wantless, inward_next, inward_cycle, inward_after, StaysInward};
 
     /// A word that the peripherals have.
     fn is_peripheral(&self, spot: &Spot) -> bool
@@ -62,10 +62,10 @@ impl Machine {
 
     /// A cycle in which core 0 has begun this and wants nothing, and no access lasts.
     #[inline(always)]
-    #[tactic(auto, unfolding(crate::specs::Inward::inward_rest))]
-    fn rest_onward(&mut self, core0: &Doing, marks: &mut Marks)
+    #[tactic(auto, unfolding(crate::specs::Inward::inward_wantless))]
+    fn wantless_onward(&mut self, core0: &Doing, marks: &mut Marks)
         requires number { self.old.cycle < 2 ^ 64 - 1 }
-        ensures state { self.new ≡ inward_rest core0.now self.old }
+        ensures state { self.new ≡ inward_wantless core0.now self.old }
         ensures marks { marks.new ≡ marks.old }
     {
         let at = self.at;
@@ -114,7 +114,7 @@ impl Machine {
     {
         self.begin_core0(lines, core0);
         if self.is_bus_free(core0) {
-            self.rest_onward(core0, marks);
+            self.wantless_onward(core0, marks);
             return true;
         }
         self.reach_onward(core0, marks)

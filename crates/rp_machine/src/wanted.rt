@@ -4,7 +4,7 @@ ghost use Rattle.std.specs.Prelude.{◌≡◌};
 ghost use Rattle.m0_core.specs.Cycle.{want_of};
 ghost use Rattle.rp_base.specs.Map.{IsWithin};
 ghost use Rattle.rp_machine.specs.Alone.{is_first_alone};
-ghost use Rattle.rp_machine.specs.BusRest.{is_nothing};
+ghost use Rattle.rp_machine.specs.Wantless.{is_nothing};
 ghost use Rattle.rp_machine.specs.Cycle.{wanted};
 ghost use Rattle.rp_machine.specs.Deeds.{spot_of};
 

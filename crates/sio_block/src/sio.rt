@@ -24,7 +24,7 @@ pub struct Sio {
     pub(crate) core0: Side,
     pub(crate) core1: Side,
     pub(crate) launched: ArrayVec<u32, 5>,
-    pub(crate) at_rest: bool,
+    pub(crate) quiet: bool,
 }
 
 impl Model for Sio {
@@ -42,10 +42,10 @@ impl Model for Sio {
       launched = s.launched.items;
     } };
 
-    // a block at rest stays as it is at the end of a cycle
+    // a quiet block stays as it is at the end of a cycle
     ghost invariant = { λ s.
         let now : State = record { pins = s.pins; locks = s.locks; core0 = s.core0; core1 = s.core1; launched = s.launched.items } in
-        s.at_rest ≡ true → after_cycle now ≡ now };
+        s.quiet ≡ true → after_cycle now ≡ now };
 }
 
 impl Sio {
@@ -60,7 +60,7 @@ impl Sio {
             core0: Side::new(),
             core1: Side::new(),
             launched: ArrayVec::new(),
-            at_rest: true,
+            quiet: true,
         }
     }
 
@@ -85,7 +85,7 @@ impl Sio {
     pub fn end_cycle(&mut self)
         ensures { self.new ≡ after_cycle self.old }
     {
-        if !self.at_rest {
+        if !self.quiet {
             self.end_busy_cycle();
         }
     }
@@ -96,15 +96,15 @@ impl Sio {
     {
         self.core0.end_cycle();
         self.core1.end_cycle();
-        self.at_rest = !self.core0.divider.is_busy() && !self.core1.divider.is_busy();
+        self.quiet = !self.core0.divider.is_busy() && !self.core1.divider.is_busy();
     }
 
-    /// The block is at rest: the end of a cycle changes nothing.
+    /// The block is quiet: the end of a cycle changes nothing.
     #[inline(always)]
-    pub fn is_at_rest(&self) -> bool
+    pub fn is_quiet(&self) -> bool
         ensures { result ≡ true → after_cycle self.now ≡ self.now }
     {
-        self.at_rest
+        self.quiet
     }
 
     /// The launcher has a word to take, and room for the answer.
@@ -148,6 +148,6 @@ impl Sio {
         let _ = self
             .launched
             .try_extend_from_slice(other.launched.as_slice());
-        self.at_rest = other.at_rest;
+        self.quiet = other.quiet;
     }
 }

@@ -69,7 +69,7 @@ impl Sio {
     fn after_read(&mut self, found: bool, core: u8, offset: u16)
         ensures { self.new ≡ after_read found core offset self.old }
     {
-        self.at_rest = false;
+        self.quiet = false;
         if offset >= SPINLOCK0 {
             self.locks.after_read(found, offset);
         } else if core == 0 {
@@ -83,7 +83,7 @@ impl Sio {
     fn write(&mut self, found: bool, core: u8, offset: u16, word: u32)
         ensures { self.new ≡ after_write found core offset word self.old }
     {
-        self.at_rest = false;
+        self.quiet = false;
         if offset < FIFO_ST {
             self.pins.write(offset, word);
         } else if offset >= SPINLOCK0 {

@@ -2,7 +2,7 @@ use Rattle.std.proofs.Common.{◌≡◌, ◌∙◌, ap, arith, sym}
 use Rattle.outer_lane.specs.Setting.{setting_of}
 use Rattle.rp_machine.specs.State.{State}
 use Rattle.rp_machine.proofs.Inward.{stop_none}
-use Rattle.rp_machine.proofs.OneCore.{goes_on, next_first, next_at_rest, next_begun}
+use Rattle.rp_machine.proofs.OneCore.{goes_on, next_first, next_wantless, next_begun}
 use Rattle.rp_machine.proofs.machine.Machine.cycle_of.Goals as goal
 
 pub returns-then-is_bus_free-clause-cause : goal.returns-then-is_bus_free-clause-cause
@@ -18,7 +18,7 @@ returns-then-is_bus_free-clause-state g c =
     let w = setting_of c.args.world.now.script.now (g.X.Device.meaning c.args.world.now.device.now) c.args.world.now.limit in
     let first = sym c.is_core0_first-first.ensures ∙ c.if-first.true in
     let free = c.is_bus_free.ensures.0 c.if-is_bus_free.true in
-    c.step_at_rest.ensures.state ∙ next_at_rest w c.args.lanes.now c.args.self.now first free.0 free.1
+    c.step_wantless.ensures.state ∙ next_wantless w c.args.lanes.now c.args.self.now first free.0 free.1
     ∙ next_begun w c.args.lanes.now c.args.self.now c.requires.begun
 
 pub returns-then-first-3-clause-state : goal.returns-then-first-3-clause-state

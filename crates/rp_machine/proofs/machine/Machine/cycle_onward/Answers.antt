@@ -9,7 +9,7 @@ returns-then-is_bus_free-clause-inward c =
 pub returns-then-is_bus_free-clause-done : goal.returns-then-is_bus_free-clause-done
 returns-then-is_bus_free-clause-done c =
     let free = c.is_bus_free.ensures.0 c.if-is_bus_free.true in
-    λ done. c.rest_onward.ensures.state ∙ rests_by _ _ c.begin_core0.ensures free.0 free.1
+    λ done. c.wantless_onward.ensures.state ∙ rests_by _ _ c.begin_core0.ensures free.0 free.1
 
 pub returns-clause-inward : goal.returns-clause-inward
 returns-clause-inward c = λ done. inward_by _ _ c.begin_core0.ensures (c.reach_onward.ensures.inward done)

@@ -14,7 +14,7 @@ use Rattle.rp_machine.specs.declared.wanted.Wanted.{Wanted}
 use Rattle.rp_machine.specs.State.{State}
 use Rattle.rp_machine.specs.Deeds.{asked_of, turn_of, deed_of}
 use Rattle.rp_machine.specs.Cycle.{begun, wanted, asked, granted, turns, deeds, with_turns, with_sio, started_by, after_deed, after_launcher, launched_where, ended, after_deeds, stepped, next_by, next}
-use Rattle.rp_machine.specs.BusRest.{is_nothing, wants_nothing, is_bus_at_rest, no_turns, core1_at_rest, rest_next, CyclesAtRestChangeTheLanesAlone}
+use Rattle.rp_machine.specs.Wantless.{is_nothing, wants_nothing, is_wantless, no_turns, core1_launched, wantless_next, CyclesWithoutWantsChangeTheLanesAlone}
 
 pub both : (a b : Bool) → (a && b) ≡ true → (a ≡ true) × (b ≡ true)
 both true b h = (refl, h)
@@ -27,38 +27,38 @@ nothing (want.Outward request) h = absurd (cc h)
 nothing want.Signal h = absurd (cc h)
 nothing (want.Stopped cause) h = absurd (cc h)
 
--- where no want is left, the bus is at rest in the cycle
-pub rest_four : (w : Setting) (b : Begun) (x0 x1 x2 x3 : Wanted) (s : State)
+-- where no want is left, nothing is wanted in the cycle
+pub wantless_four : (w : Setting) (b : Begun) (x0 x1 x2 x3 : Wanted) (s : State)
     → x0.want ≡ want.Nothing → x1.want ≡ want.Nothing → x2.want ≡ want.Nothing → x3.want ≡ want.Nothing
     → has_hold s.fabric ≡ false
-    → next_by w b (x0 ∷ x1 ∷ x2 ∷ x3 ∷ []) s ≡ rest_next w b s
-unfolding next_by stepped granted asked asked_of turns turn_of deeds deed_of after_deeds after_deed rest_next core1_at_rest with_turns
-rest_four w b x0 x1 x2 x3 s e0 e1 e2 e3 free = rw (e0, e1, e2, e3, nobody-after s.fabric free) refl
+    → next_by w b (x0 ∷ x1 ∷ x2 ∷ x3 ∷ []) s ≡ wantless_next w b s
+unfolding next_by stepped granted asked asked_of turns turn_of deeds deed_of after_deeds after_deed wantless_next core1_launched with_turns
+wantless_four w b x0 x1 x2 x3 s e0 e1 e2 e3 free = rw (e0, e1, e2, e3, nobody-after s.fabric free) refl
 
-pub rest_by : (w : Setting) (b : Begun) (xs : List Wanted) (s : State)
+pub wantless_by : (w : Setting) (b : Begun) (xs : List Wanted) (s : State)
     → length xs ≡ 4 → list_all wants_nothing xs ≡ true → has_hold s.fabric ≡ false
-    → next_by w b xs s ≡ rest_next w b s
-rest_by w b (x0 ∷ x1 ∷ x2 ∷ x3 ∷ []) s l all free =
+    → next_by w b xs s ≡ wantless_next w b s
+wantless_by w b (x0 ∷ x1 ∷ x2 ∷ x3 ∷ []) s l all free =
     let a = both (is_nothing x0.want) _ all in
     let c = both (is_nothing x1.want) _ a.1 in
     let d = both (is_nothing x2.want) _ c.1 in
     let e = both (is_nothing x3.want) _ d.1 in
-    rest_four w b x0 x1 x2 x3 s (nothing x0.want a.0) (nothing x1.want c.0) (nothing x2.want d.0) (nothing x3.want e.0) free
-rest_by w b [] s l all free = absurd (omega (arith, l))
-rest_by w b (x0 ∷ []) s l all free = absurd (omega (arith, l))
-rest_by w b (x0 ∷ x1 ∷ []) s l all free = absurd (omega (arith, l))
-rest_by w b (x0 ∷ x1 ∷ x2 ∷ []) s l all free = absurd (omega (arith, l))
-rest_by w b (x0 ∷ x1 ∷ x2 ∷ x3 ∷ x4 ∷ xs) s l all free = absurd (omega (arith, l))
+    wantless_four w b x0 x1 x2 x3 s (nothing x0.want a.0) (nothing x1.want c.0) (nothing x2.want d.0) (nothing x3.want e.0) free
+wantless_by w b [] s l all free = absurd (omega (arith, l))
+wantless_by w b (x0 ∷ []) s l all free = absurd (omega (arith, l))
+wantless_by w b (x0 ∷ x1 ∷ []) s l all free = absurd (omega (arith, l))
+wantless_by w b (x0 ∷ x1 ∷ x2 ∷ []) s l all free = absurd (omega (arith, l))
+wantless_by w b (x0 ∷ x1 ∷ x2 ∷ x3 ∷ x4 ∷ xs) s l all free = absurd (omega (arith, l))
 
 pub is_false : (b : Bool) → not b ≡ true → b ≡ false
 is_false true h = absurd (cc h)
 is_false false h = refl
 
-pub rest_step : (w : Setting) (b : Begun) (xs : List Wanted) (s : State)
-    → is_bus_at_rest xs s ≡ true → length xs ≡ 4 → next_by w b xs s ≡ rest_next w b s
-rest_step w b xs s rest l =
+pub wantless_step : (w : Setting) (b : Begun) (xs : List Wanted) (s : State)
+    → is_wantless xs s ≡ true → length xs ≡ 4 → next_by w b xs s ≡ wantless_next w b s
+wantless_step w b xs s rest l =
     let a = both (list_all wants_nothing xs) _ rest in
-    rest_by w b xs s l a.0 (is_false (has_hold s.fabric) a.1)
+    wantless_by w b xs s l a.0 (is_false (has_hold s.fabric) a.1)
 
 -- ---- what such a cycle leaves
 
@@ -88,19 +88,19 @@ core1_leaves_by true true s = launcher_leaves s
 core1_leaves_by true false s = record { sram = refl; fabric = refl; resets = refl }
 core1_leaves_by false offered s = record { sram = refl; fabric = refl; resets = refl }
 
-rest_leaves : (w : Setting) (b : Begun) (s : State) → Leaves s (rest_next w b s)
-unfolding rest_next core1_at_rest ended with_turns
-rest_leaves w b s =
+wantless_leaves : (w : Setting) (b : Begun) (s : State) → Leaves s (wantless_next w b s)
+unfolding wantless_next core1_launched ended with_turns
+wantless_leaves w b s =
     let stepped_lanes = with_turns w b no_turns s in
     let here = core1_leaves_by stepped_lanes.core1.asleep (offers_of s.sio) stepped_lanes in
-    let there = sio_leaves _ (core1_at_rest (offers_of s.sio) stepped_lanes) in
+    let there = sio_leaves _ (core1_launched (offers_of s.sio) stepped_lanes) in
     record { sram = there.sram ∙ here.sram; fabric = there.fabric ∙ here.fabric; resets = there.resets ∙ here.resets }
 
-pub cycles_at_rest : CyclesAtRestChangeTheLanesAlone
+pub cycles_without_wants : CyclesWithoutWantsChangeTheLanesAlone
 unfolding next wanted
-cycles_at_rest w s rest =
-    let e = rest_step w (begun s) (wanted (begun s)) s rest refl in
-    let leaves = rest_leaves w (begun s) s in
+cycles_without_wants w s rest =
+    let e = wantless_step w (begun s) (wanted (begun s)) s rest refl in
+    let leaves = wantless_leaves w (begun s) s in
     record {
       steps = e;
       sram = ap (λ (t : State). t.sram) e ∙ leaves.sram;

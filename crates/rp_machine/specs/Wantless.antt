@@ -21,29 +21,29 @@ abbrev pub wants_nothing : Wanted → Bool
 wants_nothing x = is_nothing x.want
 
 -- nobody wants anything, and no access lasts
-abbrev pub is_bus_at_rest : List Wanted → State → Bool
-is_bus_at_rest xs s = list_all wants_nothing xs && not (has_hold s.fabric)
+abbrev pub is_wantless : List Wanted → State → Bool
+is_wantless xs s = list_all wants_nothing xs && not (has_hold s.fabric)
 
 -- nobody is told anything
 abbrev pub no_turns : List Turn
 no_turns = turn.Nothing ∷ turn.Nothing ∷ turn.Nothing ∷ turn.Nothing ∷ []
 
 -- the launcher has its turn while core 1 sleeps, where it had a word when the cycle began
-unfoldable pub core1_at_rest : Bool → State → State
-core1_at_rest offered s = if s.core1.asleep then launched_where offered s else s
+unfoldable pub core1_launched : Bool → State → State
+core1_launched offered s = if s.core1.asleep then launched_where offered s else s
 
 -- the lanes step, and SIO ends its cycle
-unfoldable pub rest_next : Setting → Begun → State → State
-rest_next w b s = record (ended (core1_at_rest (offers_of s.sio) (with_turns w b no_turns s))) { cycle = s.cycle + 1 }
+unfoldable pub wantless_next : Setting → Begun → State → State
+wantless_next w b s = record (ended (core1_launched (offers_of s.sio) (with_turns w b no_turns s))) { cycle = s.cycle + 1 }
 
 -- where nobody wants anything and no access lasts, a cycle changes the lanes, SIO and the number alone: it is this one, so SRAM,
 -- the fabric and RESETS stay
-pub record IsBusAtRest (w : Setting) (s t : State) : Type 0 where
-  pub steps : t ≡ rest_next w (begun s) s
+pub record IsWantless (w : Setting) (s t : State) : Type 0 where
+  pub steps : t ≡ wantless_next w (begun s) s
   pub sram : t.sram ≡ s.sram
   pub fabric : t.fabric ≡ s.fabric
   pub resets : t.resets ≡ s.resets
 
-abbrev pub CyclesAtRestChangeTheLanesAlone : Type 0
-CyclesAtRestChangeTheLanesAlone =
-    (w : Setting) (s : State) → is_bus_at_rest (wanted (begun s)) s ≡ true → IsBusAtRest w s (next w s)
+abbrev pub CyclesWithoutWantsChangeTheLanesAlone : Type 0
+CyclesWithoutWantsChangeTheLanesAlone =
+    (w : Setting) (s : State) → is_wantless (wanted (begun s)) s ≡ true → IsWantless w s (next w s)
