@@ -1,7 +1,7 @@
 //! The entry to an exception.
 
 ghost use Rattle.std.specs.Prelude.{◌≡◌, ◌+◌, ◌<◌, slice_index};
-ghost use Rattle.m0_core.specs.Entry.{entry_frame, stacked_xpsr, stacked, vector_address, stacking, entry_beat, link_of, with_entry, entry_ended, taken_first};
+ghost use Rattle.m0_core.specs.Entry.{entry_frame, stacked_xpsr, stacked, stacking, entry_beat, link_of, with_entry, entry_ended, taken_first};
 
 use crate::exceptions::{TO_HANDLER, TO_MAIN, TO_PROCESS};
 use crate::processor::Core;
@@ -84,13 +84,6 @@ fn enter(regs: &mut Regs, number: u8, vector: u32)
 }
 
 impl Core {
-    /// The address of the vector.
-    fn vector_address(&self, number: u8) -> u32
-        ensures { result ≡ vector_address number self.now.nvic }
-    {
-        self.nvic.vtor().wrapping_add(4 * u32::from(number))
-    }
-
     /// The next beat of an entry.
     #[tactic(auto, unfolding(crate::specs::Entry::entry_beat))]
     pub(crate) fn entry_beat(&self, number: u8) -> Beat
@@ -99,7 +92,7 @@ impl Core {
         match self.beats_done {
             1..=8 => stacking(&self.regs, self.beats_done - 1),
             9 => Beat::Access(Request {
-                address: self.vector_address(number),
+                address: self.nvic.vtor().wrapping_add(4 * u32::from(number)),
                 size: Size::Word,
                 write: None,
             }),

@@ -100,16 +100,6 @@ impl Core {
 
     /// An access, by the spot that it goes to.
     #[inline(always)]
-    fn begin_access<K: Look>(&self, work: &Work, request: Request, look: &mut K, act: &mut Act)
-        ensures { Runs K.answers look.old
-            (at_spot work.now request self.now (place_of request.address)) act.new look.new }
-    {
-        let access = Placed::new(request);
-        self.begin_placed(work, &access, look, act);
-    }
-
-    /// An access, by the spot that it goes to.
-    #[inline(always)]
     fn begin_placed<K: Look>(&self, work: &Work, access: &Placed, look: &mut K, act: &mut Act)
         ensures { Runs K.answers look.old
             (at_spot work.now access.now self.now (place_of access.now.address)) act.new look.new }
@@ -130,7 +120,7 @@ impl Core {
     {
         match beat {
             Beat::Inner => *act = Act::Inner(*work),
-            Beat::Access(request) => self.begin_access(work, request, look, act),
+            Beat::Access(request) => self.begin_placed(work, &Placed::new(request), look, act),
         }
     }
 

@@ -4,7 +4,7 @@ ghost use Rattle.std.specs.Prelude.{◌≡◌, ◌<◌, ◌||◌, Decides, if◌
 ghost use Rattle.lane_look.specs.declared.lane.Want.TheVariants.{Nothing};
 ghost use Rattle.m0_beats.specs.Shapes.{is_one_access};
 ghost use Rattle.m0_core.specs.Shortcuts.{is_plain};
-ghost use Rattle.m0_core.specs.Cycle.{signals, want_of, waiting, followed, with_read, returning, called, ended, passed_instruction, passed_entry, passed_return, passed_work, passed, is_paused_op, is_paused, after_inner, faulted, done_word, after_access, value_of, after_outward, after_private, after, closed, is_idle, next};
+ghost use Rattle.m0_core.specs.Cycle.{want_of, waiting, followed, with_read, returning, called, ended, passed_instruction, passed_entry, passed_return, passed_work, passed, is_paused_op, is_paused, after_inner, faulted, done_word, after_access, value_of, after_outward, after_private, after, closed, is_idle, next};
 
 use crate::doing::{Act, Doing, Work};
 use crate::exceptions::{ENTRY_BEATS, RETURN_BEATS};
@@ -20,16 +20,6 @@ use rp_base::Request;
 use rp_base::access::lanes;
 use rp_base::op::Op;
 
-/// SEV.
-fn signals(work: &Work) -> bool
-    ensures { result ≡ signals work.now }
-{
-    match work {
-        Work::Instruction(op) => is_signal(op),
-        Work::Entry(_) | Work::Return(_) => false,
-    }
-}
-
 /// What a core wants.
 pub(crate) fn want(begun: &Doing) -> Want
     ensures { result ≡ want_of begun.now }
@@ -37,13 +27,8 @@ pub(crate) fn want(begun: &Doing) -> Want
     match begun.act {
         Act::Asleep | Act::Fault | Act::Private(..) => Want::Nothing,
         Act::Stopped(why) => Want::Stopped(why),
-        Act::Inner(work) => {
-            if signals(&work) {
-                Want::Signal
-            } else {
-                Want::Nothing
-            }
-        }
+        Act::Inner(Work::Instruction(op)) if is_signal(&op) => Want::Signal,
+        Act::Inner(_) => Want::Nothing,
         Act::Read(_, access, _) | Act::Write(_, access) => Want::Ram(*access.request()),
         Act::Outward(_, access) => Want::Outward(*access.request()),
     }
