@@ -1,6 +1,6 @@
 -- A cycle is its transfers, and then the timers with the credits that were found at the start.
-use Rattle.std.proofs.Common.{◌≡◌, ℕ, ◌<◌, Bool, false, List, [], ◌∷◌, length, refl, ap, ◌∙◌, arith, get_or, Option, Some}
-use Rattle.std.specs.Prelude.{slice_get}
+use Rattle.std.proofs.Common.{◌≡◌, ℕ, ◌<◌, Bool, false, List, length, ap, sym, ◌∙◌, arith, get_or, Option, Some}
+use Rattle.std.proofs.lemmas.Option.{slice_get-get_or}
 use Rattle.lane_look.specs.declared.lane.Turn.{Turn}
 use Rattle.lane_look.specs.declared.lane.Turn.TheVariants as turn
 use Rattle.dma_engine.specs.declared.begun.BegunTransfer.{BegunTransfer}
@@ -18,14 +18,6 @@ finished s moved new begun turns credits told is last =
     last ∙ after_timers-same (λ k. get_or credits k false) (gets_credit s) moved told
     ∙ ap (after_timers (gets_credit s)) is
 
-first_of : (turns : List Turn) → length turns ≡ 2 → Some (get_or turns 0 turn.Nothing) ≡ slice_get turns 0
-first_of (a ∷ b ∷ []) h = refl
-first_of _ h = absurd (omega arith)
-
-second_of : (turns : List Turn) → length turns ≡ 2 → Some (get_or turns 1 turn.Nothing) ≡ slice_get turns 1
-second_of (a ∷ b ∷ []) h = refl
-second_of _ h = absurd (omega arith)
-
 -- the transfers in turn
 pub moved : (s ended reading written new : State) (begun : BegunTransfer) (turns : List Turn) (choice read : Option ℕ) (done : Bool) →
     length turns ≡ 2 → choice ≡ choice_of begun.counts s →
@@ -38,6 +30,6 @@ moved s ended reading written new begun turns choice read done two chosen reads 
     last ∙ ap (after_choice choice) (third ∙ ap (after_write done) (second ∙ ap (after_read read) first))
     ∙ ap (λ o. after_choice o (after_write done (after_read read (after_ends s)))) chosen
     ∙ ap (λ r. after_choice (choice_of begun.counts s) (after_write done (after_read r (after_ends s))))
-    (reads ∙ ap (λ o. word_read begun.read (word_of o)) (first_of turns two))
+    (reads ∙ ap (λ o. word_read begun.read (word_of o)) (sym (slice_get-get_or turns 0 turn.Nothing (omega (arith, two)))))
     ∙ ap (λ d. after_choice (choice_of begun.counts s) (after_write d (after_read_of begun turns (after_ends s))))
-    (writes ∙ ap (λ o. is_written begun.write (word_of o)) (second_of turns two))
+    (writes ∙ ap (λ o. is_written begun.write (word_of o)) (sym (slice_get-get_or turns 1 turn.Nothing (omega (arith, two)))))

@@ -1,5 +1,6 @@
 -- Channels in turn, from 0 up.
-use Rattle.std.proofs.Common.{◌≡◌, ℕ, zero, suc, ◌+◌, ◌<◌, ◌≤◌, Bool, true, false, refl, ap, arith, add-one}
+use Rattle.std.proofs.Common.{◌≡◌, ◌≢◌, ℕ, zero, suc, ◌+◌, ◌<◌, ◌≤◌, Bool, true, false, List, length, get_or, refl, ap, arith, add-one, get_or-set_other, get_or-set_same, below_more}
+use Rattle.std.proofs.Math.ListN.{set, length-set}
 use Rattle.dma_engine.specs.State.{State}
 use Rattle.dma_engine.specs.Channel.{in_turn, with_end}
 use Rattle.dma_engine.specs.Timer.{with_credit, with_stepped_timers, after_timers}
@@ -46,5 +47,19 @@ after_timers-same test other e h = in_turn-same test other with_credit 12 (with_
 pub after_ends-none : (s : State) → ((k : ℕ) → k < 12 → is_over s k ≡ false) → after_ends s ≡ s
 unfolding after_ends
 after_ends-none s h = in_turn-all_failing (is_over s) with_end 12 s h
+
+-- of the channels below a number it is told which pass the test
+pub record TellsBelow (test : ℕ → Bool) (told : List Bool) (number : ℕ) : Type 0 where
+  pub size : length told ≡ 12
+  pub each : (k : ℕ) → k < number → get_or told k false ≡ test k
+
+pub tells_more : (test : ℕ → Bool) (told : List Bool) (n : ℕ) (b : Bool) → TellsBelow test told n → n < 12 → b ≡ test n →
+    TellsBelow test (set told n b) (n + 1)
+tells_more test told n b h low e = record {
+  size = rw length-set h.size;
+  each =
+      below_more _ _ (λ k lt. let ne : k ≢ n = omega arith in rw get_or-set_other (h.each k lt))
+      (let lt : n < length told = omega (arith, h.size, low) in rw get_or-set_same e);
+}
 
 pub ruleset in_turn_laws = (in_turn-none, in_turn-passing, in_turn-failing, in_turn-all)

@@ -204,12 +204,9 @@ unmoved_quiet s begun n f e by read write =
 
 -- ---- fewer cycles
 
-none_fewer : (s : State) (n k : ℕ) → GivesNone s n → k ≤ n → GivesNone s k
-none_fewer s n k h le = record { credits = λ i lt. h.credits i (omega arith) }
-
 pub fewer : (counts : ℕ) (s : State) (n k : ℕ) → IsQuiet counts s n → k ≤ n → IsQuiet counts s k
 fewer counts s n k h le = record {
-  credits = none_fewer s n k h.credits le;
+  credits = record { credits = λ i lt. h.credits.credits i (omega arith) };
   wants = λ i lt. h.wants i (omega arith);
   steps = λ i lt. h.steps i (omega arith);
 }
