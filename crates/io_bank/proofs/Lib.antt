@@ -1,4 +1,4 @@
-pub mod AtRest
+pub mod Quietly
 pub mod Bits
 pub mod Comparisons
 pub mod Latching

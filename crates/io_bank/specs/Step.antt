@@ -19,5 +19,5 @@ abbrev pub after_step : Outs → (ℕ → Option Bool) → State → State
 after_step outs outside s = with_levels (levels_of outs outside s) (with_edges (edges_of s) s)
 
 -- the levels of the last three cycles are the same, and the last step latched no edge
-abbrev pub is_at_rest : State → Bool
-is_at_rest s = s.first == s.current && s.second == s.first && s.fresh.low == 0 && s.fresh.high == 0
+abbrev pub is_quiet : State → Bool
+is_quiet s = s.first == s.current && s.second == s.first && s.fresh.low == 0 && s.fresh.high == 0

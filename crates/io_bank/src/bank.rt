@@ -5,7 +5,7 @@ ghost use Rattle.io_bank.specs.declared.outputs.Outs.{Outs};
 ghost use Rattle.io_bank.specs.State.{at_reset, after_held, with_bank_held, with_pads_held};
 ghost use Rattle.io_bank.specs.Levels.{levels_of, by_list, by_sets, inputs_of, pins_of, is_used, first_in, receive_pin, receive_level, IsSameAt};
 ghost use Rattle.io_bank.specs.Edges.{edges_of};
-ghost use Rattle.io_bank.specs.Step.{after_step, is_at_rest, with_edges, with_levels};
+ghost use Rattle.io_bank.specs.Step.{after_step, is_quiet, with_edges, with_levels};
 ghost use Rattle.io_bank.specs.Interrupts.{raw_of, line_of};
 
 use crate::events::{Edges, Events, Interrupts};
@@ -171,8 +171,8 @@ impl IoBank {
     /// The levels of the last three cycles are the same, and the last step latched no edge. A step that gives these levels
     /// again then changes nothing.
     #[inline]
-    pub fn is_at_rest(&self) -> bool
-        ensures { result ≡ is_at_rest self.now }
+    pub fn is_quiet(&self) -> bool
+        ensures { result ≡ is_quiet self.now }
     {
         self.first == self.current
             && self.second == self.first

@@ -4,8 +4,8 @@ use Rattle.io_bank.specs.State.{State as Bank}
 use Rattle.io_bank.specs.Edges.{edges_of}
 use Rattle.io_bank.specs.Interrupts.{line_of}
 use Rattle.io_bank.specs.Levels.{levels_of, by_sets}
-use Rattle.io_bank.specs.Step.{after_step, is_at_rest, with_edges, with_levels}
-use Rattle.io_bank.proofs.AtRest.{rest_step}
+use Rattle.io_bank.specs.Step.{after_step, is_quiet, with_edges, with_levels}
+use Rattle.io_bank.proofs.Quietly.{rest_step}
 use Rattle.outer_lane.specs.declared.blocks.Blocks.{Blocks}
 use Rattle.outer_lane.specs.declared.drivers.Drivers.{Drivers}
 use Rattle.outer_lane.specs.BroughtUp.{blocks_outs}
@@ -31,7 +31,7 @@ pub levels_left : (sio : List ℕ) (d : Drivers) (b : Bank) → (pads_after sio 
 unfolding pads_after
 levels_left sio d b = refl
 
-at_rest-again : (sio : List ℕ) (d : Drivers) (b : Bank) → is_at_rest (pads_after sio d b) ≡ true → pads_after sio d (pads_after sio d b) ≡ pads_after sio d b
+at_rest-again : (sio : List ℕ) (d : Drivers) (b : Bank) → is_quiet (pads_after sio d b) ≡ true → pads_after sio d (pads_after sio d b) ≡ pads_after sio d b
 unfolding pads_after
 at_rest-again sio d b h = rest_step (outs_by sio d) (by_sets d.driven d.high) (after_step (outs_by sio d) (by_sets d.driven d.high) b) h refl
 
@@ -42,7 +42,7 @@ both_low false x y h k = k
 neither : (b : Bank) → line_of b b.core0 ≡ false → line_of b b.core1 ≡ false → (core : ℕ) → bank_line core b ≡ false
 neither b h k core = both_low (core == 0) (line_of b b.core0) (line_of b b.core1) h k
 
-pub stays_again : (sio : List ℕ) (d : Drivers) (b after : Bank) (blocks : Blocks) → after ≡ pads_after sio d b → is_at_rest after ≡ true →
+pub stays_again : (sio : List ℕ) (d : Drivers) (b after : Bank) (blocks : Blocks) → after ≡ pads_after sio d b → is_quiet after ≡ true →
     line_of after after.core0 ≡ false → line_of after after.core1 ≡ false → blocks_outs blocks ≡ d.uart_levels ∷ d.uart_enables ∷ [] →
     Stays sio d after blocks
 stays_again sio d b after blocks e h core0 core1 outs =

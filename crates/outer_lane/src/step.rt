@@ -2,7 +2,7 @@
 
 ghost use Rattle.std.specs.Prelude.{◌≡◌, ◌∷◌, [], true, false};
 ghost use Rattle.io_bank.specs.Interrupts.{line_of};
-ghost use Rattle.io_bank.specs.Step.{is_at_rest};
+ghost use Rattle.io_bank.specs.Step.{is_quiet};
 ghost use Rattle.outer_lane.specs.BroughtUp.{blocks_outs};
 ghost use Rattle.outer_lane.specs.Step.{wires_by};
 
@@ -16,15 +16,15 @@ use io_bank::{IoBank, Outs};
 use lane_look::{Device, Mark, Marks, Wires};
 use pin_script::{Drives, Script};
 
-/// The pads are at rest and interrupt neither core, and what the UARTs put out is among what they are stepped by.
+/// The pads are quiet and interrupt neither core, and what the UARTs put out is among what they are stepped by.
 fn do_stay(pads: &IoBank, blocks: &Behind, drivers: &Drivers) -> bool
-    ensures rests { result ≡ true → is_at_rest pads.now ≡ true }
+    ensures rests { result ≡ true → is_quiet pads.now ≡ true }
     ensures core0 { result ≡ true → line_of pads.now pads.now.core0 ≡ false }
     ensures core1 { result ≡ true → line_of pads.now pads.now.core1 ≡ false }
     ensures uarts { result ≡ true → blocks_outs blocks.now.blocks
         ≡ drivers.now.uart_levels ∷ drivers.now.uart_enables ∷ [] }
 {
-    pads.is_at_rest() && pads.is_silent() && drivers.has_uarts(blocks.outs())
+    pads.is_quiet() && pads.is_silent() && drivers.has_uarts(blocks.outs())
 }
 
 /// What the device drives in a cycle, by the levels of the pads at the start. One that has another number of words drives nothing.

@@ -1,4 +1,4 @@
--- A step of pads at rest changes nothing.
+-- A step of quiet pads changes nothing.
 use Rattle.std.proofs.Common.{◌≡◌, ℕ, Bool, true, Option, refl, sym, ap, ◌∙◌, arith}
 use Rattle.std.specs.Prelude.{bit_or}
 use Rattle.std.proofs.lemmas.Bool.Decides.{nat_tests}
@@ -8,7 +8,7 @@ use Rattle.io_bank.specs.declared.outputs.Outs.{Outs}
 use Rattle.io_bank.specs.State.{State, no_edges}
 use Rattle.io_bank.specs.Edges.{edges_of, joined}
 use Rattle.io_bank.specs.Levels.{levels_of}
-use Rattle.io_bank.specs.Step.{after_step, is_at_rest}
+use Rattle.io_bank.specs.Step.{after_step, is_quiet}
 use Rattle.io_bank.proofs.Routed.{edges_of-at_rest}
 
 or_none : (n : ℕ) → bit_or n 0 ≡ n
@@ -28,7 +28,7 @@ same : (s : State) (edges : Edges) (levels : ℕ) → edges ≡ no_edges → no_
 same s edges levels e fresh l first second =
     rw (e, no_more s.latched, fresh, l) (ap (λ n. record s { first = n; second = s.first }) (sym first) ∙ ap (λ n. record s { second = n }) (sym second))
 
-pub rest_step : (outs : Outs) (f : ℕ → Option Bool) (s : State) → is_at_rest s ≡ true → levels_of outs f s ≡ s.current → after_step outs f s ≡ s
+pub rest_step : (outs : Outs) (f : ℕ → Option Bool) (s : State) → is_quiet s ≡ true → levels_of outs f s ≡ s.current → after_step outs f s ≡ s
 rest_step outs f s at_rest levels =
     let first : s.first ≡ s.current = grind (arith, nat_tests) in
     let second : s.second ≡ s.first = grind (arith, nat_tests) in
