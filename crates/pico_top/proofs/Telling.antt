@@ -1,24 +1,21 @@
 -- What was opened and told, the whole call, and what a run puts.
-use Rattle.pico_top.proofs.Names.{◌<◌, ◌≡◌, ℕ, ◌+◌, ◌≤◌, List, [], ◌∷◌, ◌++◌, length, map, arith, Option, Some, Result, Ok, Err, refl, sym, ap, ap₂, inl, inr, ◌∙◌, subst, append_assoc, Bool, false, IfOk, IfSome, DeviceMeaning, paired, Aim, Wired, placed_by, wired_in, Setting, SinkFault, part_of_longer, part_behind, sends_part, sends_then, asked_by, State, Sink, Standing, first_of, OpensAt, Way, Closed, Ended, Broken, Full, lines_heard, way_line, way_status, BearsOut, IsTaken, quits, talk_of, Command, Opened, Unopened, Refusing, Memory, Board, Drawn, Sunk, Outside, Dialogue, Reply, aims_in, beside, device_in, dialogue_of, hear, input_limit, plain, run_reply, say, session_reply, Ending, heard_as, Said, Heard, Refused, NoMemory, Puts, RunsOut, Takes, Ends, Counts, IsCounted, Writes, ConversesIn, ConversesFor, Converses, opened_dialogue, EndsAs, EndsUnopened, Opens, PutsRefusal, Concludes}
+use Rattle.pico_top.proofs.Names.{◌<◌, ◌≡◌, ℕ, ◌+◌, ◌≤◌, List, [], ◌∷◌, ◌++◌, length, map, arith, Option, Some, Result, Ok, Err, refl, sym, ap, ap₂, inl, inr, ◌∙◌, subst, Bool, false, DeviceMeaning, paired, Aim, Wired, placed_by, wired_in, Setting, SinkFault, part_of_longer, part_behind, sends_part, sends_then, asked_by, State, Standing, first_of, OpensAt, Way, Closed, Ended, Broken, Full, lines_heard, way_line, way_status, BearsOut, IsTaken, quits, talk_of, Command, Opened, Unopened, Refusing, Memory, Board, Drawn, Sunk, Outside, Dialogue, Reply, aims_in, beside, device_in, dialogue_of, hear, input_limit, plain, run_reply, say, session_reply, Ending, heard_as, Said, Heard, Refused, NoMemory, Puts, RunsOut, Takes, Ends, Counts, IsCounted, Writes, ConversesIn, ConversesFor, Converses, opened_dialogue, EndsAs, EndsUnopened, Leads, PutsRefusal, Concludes}
 use Rattle.board_parts.specs.declared.wiring.Wiring.{Wiring}
 use Rattle.board_parts.specs.Part.{PartMeaning}
 use Rattle.board_parts.specs.Parts.{parts_device}
 use Rattle.trace_text.specs.declared.event.Event.{Event}
 use Rattle.trace_text.specs.Line.{event_text}
 use Rattle.trace_text.specs.Sent.{AppendsPart}
-use Rattle.trace_text.specs.Tape.{FailsAmong, Tells}
+use Rattle.rp_ports.specs.Fault.{Rose}
 use Rattle.rp_base.specs.declared.Why.{Why}
 use Rattle.rp_machine.specs.Cycle.{stop}
 use Rattle.rp_machine.specs.Run.{last_state}
 use Rattle.window_runner.specs.declared.alone.Ran.{Ran}
-use Rattle.window_runner.specs.declared.windows.RunFault.{RunFault}
-use Rattle.window_runner.specs.declared.windows.RunFault.TheVariants.{Memory as Exhausted}
 use Rattle.window_runner.specs.Alone.{IsRan, IsOnRun}
 use Rattle.window_runner.specs.Told.{run_shown}
-use Rattle.window_runner.specs.Windows.{answered, OnMemory}
 use Rattle.reverse_debug.specs.Talk.{text_from, Hears}
 use Rattle.pico_top.specs.Dialogue.Cost.{Exactly}
-use Rattle.pico_top.specs.Teller.{IsRanFor, RunsTo, HasTold}
+use Rattle.pico_top.specs.Teller.{IsRanFor, HasTold}
 use Rattle.pico_top.specs.RunText.{event_lines, after_events, counts_text, stats_text, run_text, run_cycles, end_text}
 use Rattle.std.proofs.lemmas.List.Concat.{flat_map-append}
 use Rattle.pico_top.proofs.Walking.{no_memory}
@@ -27,13 +24,13 @@ use Rattle.pico_top.proofs.Walking.{no_memory}
 
 -- where something was opened
 pub opened_converses : (d : Dialogue) (before after : Outside) (device : DeviceMeaning) (aims : List Aim) (opened : Opened) (status : ℕ)
-    → Opens before.files before.failed after.failed device aims d (Ok opened) → after.files ≡ before.files
+    → Leads before.files before.failed after.failed (opened_dialogue device aims) d (Ok opened) → after.files ≡ before.files
     → Concludes (opened_dialogue device aims opened) before.source after.source before.sink after.sink before.steps after.steps status
     → ConversesIn d before after status
 opened_converses d before after device aims opened status opens kept told = record {
   ending = told.ending;
-  walked = opens.2 told.ending (told.walked before.files);
-  failed = opens.0 ∙ sym (told.loaded before.failed);
+  walked = opens.found.1 told.ending (told.walked before.files);
+  failed = opens.found.0 ∙ sym (told.loaded before.failed);
   kept = kept;
   takes = told.takes;
   ends = told.ends;
@@ -149,39 +146,6 @@ tells_cut w f source source' a b steps steps' at fault cycle zero h₀ =
     subst (λ p. Hears (talk_of w f) p input_limit source.left source'.left source.faults source'.faults a.written b.written a.faults b.faults steps steps' at (Err fault)) zero h₀ in
     heard_so w f source source' a b _ _ _ _ steps steps' at 7 (Err fault) h h.taken (Err fault, sends_part (way_line h.way) h.sends, refl)
 
--- ---- what a tape that is such a sink was told
-
--- the lines up to an event at which the sink failed are a part of all lines
-lines_cut : (first others : List Event) (event : Event) → (event_lines first ++ event_text event) ++ event_lines others ≡ event_lines (first ++ event ∷ others)
-lines_cut first others event =
-    append_assoc (event_lines first) (event_text event) (event_lines others) ∙ sym (flat_map-append event_text first (event ∷ others))
-
-pub part_told : (a b : Sunk) (c : Option (List ℕ)) (x y : List Aim) (events first others : List Event) (event : Event) → events ≡ first ++ event ∷ others → HasTold a b x y first → AppendsPart b.written c (event_text event) → AppendsPart a.written c (event_lines events)
-part_told a b c x y events first others event e told part =
-    rw (ap event_lines e ∙ sym (lines_cut first others event))
-    (part_of_longer a.written c (event_lines first ++ event_text event) (event_lines others) (part_behind a.written b.written c (event_lines first) (event_text event) told.written part))
-
--- what stands of a tape that took all events, took some and missed one, or found no memory and is as it was
-pub told_all : {T : Type 0} (took : T → List Event → T → Type 0) (missed : T → Event → T → Type 0) (x y : T) (f g : ℕ) (events : List Event) (P : Type 0) (s t : State) (r : Result Ran RunFault)
-    → (took x events y → P) → (FailsAmong took missed x y events → P) → (y ≡ x → P)
-    → IfSome (answered r) (Tells took missed x y f g events) → OnMemory r ((t ≡ s) × (y ≡ x)) → P
-told_all took missed x y f g events P s t (Ok v) h k l told m = h told.ok
-told_all took missed x y f g events P s t (Err Sink) h k l told m = k told.err
-told_all took missed x y f g events P s t (Err Exhausted) h k l told m = l m.1
-
-pub told_runs : {T : Type 0} (took : T → List Event → T → Type 0) (missed : T → Event → T → Type 0) (x y : T) (stats : Bool) (w : Setting) (s t : State) (before after : List Aim) (a b : Sunk) (steps steps' : ℕ) (r : Result Ran RunFault)
-    → (took x (run_shown w s) y → HasTold a b before after (run_shown w s))
-    → (FailsAmong took missed x y (run_shown w s) → AppendsPart a.written b.written (event_lines (run_shown w s))) → (y ≡ x → b ≡ a)
-    → IfSome (answered r) (Tells took missed x y a.faults b.faults (run_shown w s)) → IfOk r (IsRanFor stats w s) → IfOk r (λ ran. t ≡ last_state w s)
-    → IsOnRun w s t → steps' + s.cycle ≡ steps + t.cycle → OnMemory r ((t ≡ s) × (y ≡ x)) → RunsTo stats w s t before after a b steps steps' r
-told_runs took missed x y stats w s t before after a b steps steps' (Ok v) h k l told ran state on count m =
-    let all = h told.ok in
-    record { sends = record { ok = all.written; err = tt; cause = tt; steady = all.steady; count = told.count }; heard = all.heard; ran = ran; state = state; on_run = on; counted = count; memory = tt }
-told_runs took missed x y stats w s t before after a b steps steps' (Err Sink) h k l told ran state on count m =
-    record { sends = record { ok = tt; err = k told.err; cause = told.cause; steady = tt; count = told.count }; heard = tt; ran = tt; state = tt; on_run = on; counted = count; memory = tt }
-told_runs took missed x y stats w s t before after a b steps steps' (Err Exhausted) h k l told ran state on count m =
-    record { sends = tt; heard = tt; ran = tt; state = tt; on_run = on; counted = count; memory = (m.0, l m.1) }
-
 -- ---- the text and the cycles of a run
 
 -- a run begins with its events
@@ -226,31 +190,34 @@ run_counted w s t steps steps' status on count last =
 
 -- the run went to its stop, and its last lines were put
 pub run_ended : (stats : Bool) (w : Setting) (s t : State) (before after : List Aim) (source : Drawn) (a b c : Sunk) (steps steps' status : ℕ) (ran : Ran)
-    → RunsTo stats w s t before after a b steps steps' (Ok ran) → Puts b c status 0 (end_text (Some ran.why) t after (counts_text stats ran.windows ran.cycles))
-    → Concludes (say (run_reply stats before w s)) source source a c steps steps' status
-run_ended stats w s t before after source a b c steps steps' status ran h last =
+    → HasTold a b before after (run_shown w s) → IsRanFor stats w s ran → t ≡ last_state w s → IsOnRun w s t → steps' + s.cycle ≡ steps + t.cycle
+    → Puts b c status 0 (end_text (Some ran.why) t after (counts_text stats ran.windows ran.cycles)) → Concludes (say (run_reply stats before w s)) source source a c steps steps' status
+run_ended stats w s t before after source a b c steps steps' status ran told is state on count last =
     let events : Writes {T = Ran} {E = SinkFault} a b (event_lines (run_shown w s)) (Ok ran) =
-    record { ok = h.sends.ok; err = tt; cause = tt; steady = h.sends.steady; count = h.sends.count } in
+    record { ok = told.written; err = tt; cause = tt; steady = told.steady; count = omega (arith, told.steady) } in
     tells_said (run_reply stats before w s) source a c steps steps' status
-    (last.0, rw (sym (text_of_run stats w before after s t ran h.state h.ran h.heard)) (sends_then last.0 events last.1), last.2)
-    (run_counted w s t steps steps' status h.on_run h.counted (λ e. h.state))
+    (last.0, rw (sym (text_of_run stats w before after s t ran state is told.heard)) (sends_then last.0 events last.1), last.2)
+    (run_counted w s t steps steps' status on count (λ e. state))
 
 -- the sink failed at an event
-pub run_cut : (stats : Bool) (w : Setting) (s t : State) (before after : List Aim) (source : Drawn) (a b : Sunk) (steps steps' : ℕ)
-    → RunsTo stats w s t before after a b steps steps' (Err Sink) → Concludes (say (run_reply stats before w s)) source source a b steps steps' 7
-run_cut stats w s t before after source a b steps steps' h =
-    let cut : Writes {T = Ran} {E = SinkFault} a b (event_lines (run_shown w s)) (Err (record {})) = record { ok = tt; err = h.sends.err; cause = h.sends.cause; steady = tt; count = h.sends.count } in
-    tells_said (run_reply stats before w s) source a b steps steps' 7 (Err (record {}), rw (sym (run_begins stats w before s)) (sends_part _ cut), refl)
-    (run_counted w s t steps steps' 7 h.on_run h.counted (λ e. absurd (omega (arith, e))))
+pub run_cut : (stats : Bool) (w : Setting) (s t : State) (before heard : List Aim) (source : Drawn) (a b c : Sunk) (steps steps' : ℕ) (first others : List Event) (event : Event)
+    → run_shown w s ≡ first ++ event ∷ others → HasTold a b before heard first → AppendsPart b.written c.written (event_text event) → Rose a.faults c.faults → a.faults ≤ c.faults
+    → IsOnRun w s t → steps' + s.cycle ≡ steps + t.cycle → Concludes (say (run_reply stats before w s)) source source a c steps steps' 7
+run_cut stats w s t before heard source a b c steps steps' first others event is told part rose later on count =
+    let sent : AppendsPart a.written c.written (event_lines first ++ event_lines (event ∷ others)) = part_behind _ _ _ _ _ told.written (part_of_longer _ _ _ (event_lines others) part) in
+    let cut : Writes {T = Ran} {E = SinkFault} a c (event_lines (run_shown w s)) (Err (record {})) =
+    record { ok = tt; err = rw (ap event_lines is ∙ flat_map-append event_text first (event ∷ others)) sent; cause = rose; steady = tt; count = later } in
+    tells_said (run_reply stats before w s) source a c steps steps' 7 (Err (record {}), rw (sym (run_begins stats w before s)) (sends_part _ cut), refl)
+    (run_counted w s t steps steps' 7 on count (λ e. absurd (omega (arith, e))))
 
 -- memory ran out before the run
-pub run_none : (stats : Bool) (w : Setting) (s t : State) (before after : List Aim) (source : Drawn) (a b c : Sunk) (steps steps' status : ℕ)
-    → RunsTo stats w s t before after a b steps steps' (Err Exhausted) → RunsOut b c status → Concludes (say (run_reply stats before w s)) source source a c steps steps' status
-run_none stats w s t before after source a b c steps steps' status h out = record {
+pub run_none : (reply : Reply) (s t : State) (source : Drawn) (a c : Sunk) (steps steps' status : ℕ) → t ≡ s → steps' + s.cycle ≡ steps + t.cycle → RunsOut a c status
+    → Concludes (say reply) source source a c steps steps' status
+run_none reply s t source a c steps steps' status still count out = record {
   ending = NoMemory;
   walked = λ files. inr refl;
   loaded = λ failed. refl;
   takes = refl;
-  ends = subst (λ (x : Sunk). RunsOut x c status) h.memory.1 out;
-  counted = let same : t.cycle ≡ s.cycle = ap (λ (x : State). x.cycle) h.memory.0 in omega (arith, same, h.counted);
+  ends = out;
+  counted = let same : t.cycle ≡ s.cycle = ap (λ (x : State). x.cycle) still in omega (arith, same, count);
 }

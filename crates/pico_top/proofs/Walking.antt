@@ -1,10 +1,10 @@
 -- Walks of dialogues, what was opened and where its walk ended, and the programs of a run, one behind another.
-use Rattle.pico_top.proofs.Names.{◌≡◌, ℕ, ◌<◌, ◌≤◌, List, [], ◌∷◌, length, Bool, true, false, nat_le, Option, Some, None, Result, Ok, Err, refl, sym, ap, subst, inl, inr, ◌⊎◌, arith, IsSomeAnd, map, ◌∙◌, ◌==◌, if◌then◌else◌, Vec, Global, zero, suc, ◌+◌, ◌++◌, drop, get_or, IfOk, IfErr, DeviceMeaning, Files, Answers, failed_after, Done, Large, Failed, Aim, Setting, setting_of, image_of, Image, image_of_source, script_of, plans_of, Command, Run, RunImage, DebugImage, Disassemble, Assemble, AssembleThumb, Generate, Refusal, line_of, status_of, BadWords, Lost, TooLarge, BadImage, BadScript, BadSource, BadThumb, BadStart, Memory, Refusing, closes, Way, MayEnd, Board, Sunk, Reply, Dialogue, Use, judge, say, hear, aims_in, device_in, dialogue_of, dialogue_from, with_first, with_program, with_programs, with_script, with_linked, with_run, say_run, hear_run, run_reply, behind_script, input_limit, session_reply, source_limit, Load, Refuse, Say, Hear, Ending, IsHeard, AfterLoad, Walks, Verdict, heard_as, on_held, verdict, failed_names, Refuses, Says, Hears, Said, Heard, Refused, NoMemory, EndsUnopened, EndsAs, Opens, OpensFor, LoadsAs, Passes, PutsRefusal, Judges, Boots, use_for, setting_in, setting_by, IsPlaced, ArePlaced, LoadsAll, offset_part, source_part, Adds, AddsBehind, taken_by, at_drop_more, State, PioLoad, Opened, first_of, OpensAt, Unopened, quits, Puts, PioEntry, entry_in}
+use Rattle.pico_top.proofs.Names.{◌≡◌, ℕ, ◌<◌, ◌≤◌, List, [], ◌∷◌, length, Bool, true, false, nat_le, Option, Some, None, Result, Ok, Err, refl, sym, ap, ap₂, subst, inl, inr, ◌⊎◌, arith, IsSomeAnd, IsErrAnd, map, ◌∙◌, ◌==◌, if◌then◌else◌, zero, suc, ◌+◌, ◌++◌, drop, get_or, IfOk, IfErr, Vec, Global, DeviceMeaning, Files, Answers, Done, Large, Failed, Aim, Setting, setting_of, image_of, Image, image_of_source, script_of, plans_of, Command, Run, RunImage, DebugImage, Disassemble, Assemble, AssembleThumb, Generate, Refusal, line_of, status_of, BadWords, Lost, TooLarge, BadImage, BadScript, BadSource, BadThumb, BadStart, Memory, Refusing, closes, Way, MayEnd, Board, Sunk, Reply, Dialogue, Use, judge, say, hear, aims_in, device_in, dialogue_of, dialogue_from, with_first, with_program, with_programs, with_script, with_linked, with_run, say_run, hear_run, run_reply, input_limit, listing, plain, session_reply, source_limit, Load, Refuse, Say, Hear, Ending, IsHeard, AfterLoad, Walks, Verdict, heard_as, on_held, verdict, failed_names, Refuses, Says, Hears, Said, Heard, Refused, NoMemory, EndsUnopened, Leads, PutsRefusal, Judges, Boots, use_for, opened_dialogue, ArePlaced, Places, taken_by, at_drop_more, State, PioLoad, Opened, first_of, Unopened, quits, Puts, PioEntry, entry_in}
 use Rattle.rp_ports.specs.declared.shelf.Loaded.{Loaded}
 use Rattle.rp_ports.specs.declared.shelf.Loaded.TheVariants.{Memory as Starved}
 use Rattle.startup_blocks.specs.Table.{linked, HaveBytes}
 use Rattle.pin_script.specs.declared.entry.Entry.{Entry as ScriptEntry}
-use Rattle.pio_asm.specs.Assembly.{Plan, ArePrograms, IsProgram}
+use Rattle.pio_asm.specs.Assembly.{Plan, ArePrograms, Assembles, IsProgram}
 use Rattle.pio_program.specs.declared.program.Program.{Program}
 use Rattle.command_words.specs.Lists.{Entry}
 use Rattle.command_words.specs.Refusals.{meant}
@@ -17,15 +17,15 @@ use Rattle.rp_machine.specs.State.{first_state}
 use Rattle.rp_base.specs.Resettable.{with_block}
 use Rattle.rp_machine.specs.Boot.{start, with_loads, with_load, block_loaded, IsLoad, AreLoads}
 use Rattle.command_words.specs.declared.refusal.Refusal.{Refusal as Written}
-use Rattle.pico_top.specs.declared.open.Opened.TheVariants.{Machine, Session, Text}
-use Rattle.pico_top.specs.declared.open.Purpose.{Purpose}
-use Rattle.pico_top.specs.declared.open.Purpose.TheVariants.{Run as ForRun, Debug as ForDebug}
-use Rattle.uf2_image.specs.Code.{image_of_number}
+use Rattle.command_words.specs.declared.refusal.Refusal.TheVariants.{Source}
+use Rattle.pico_top.specs.declared.outcome.Opened.TheVariants.{Text}
+use Rattle.pico_top.specs.declared.outcome.Pieces.{Pieces}
+use Rattle.pico_top.specs.declared.outcome.Purpose.{Purpose}
+use Rattle.pico_top.specs.declared.outcome.Purpose.TheVariants.{Run as ForRun, Debug as ForDebug}
 use Rattle.pio_parse.specs.declared.fault.PioFault.{PioFault}
 use Rattle.pio_asm.proofs.Wholeness.{words_length}
-use Rattle.pio_asm.specs.Fitting.{IsFirst}
+use Rattle.pio_asm.specs.Fitting.{IsFirst, IsRunnable}
 use Rattle.pio_asm.specs.Placing.{placed, with_addresses}
-use Rattle.command_words.specs.declared.refusal.Refusal.TheVariants.{Source}
 
 -- memory may run out in every dialogue
 pub no_memory : (files : Option Files) (d : Dialogue) → Walks files d NoMemory
@@ -149,29 +149,55 @@ walk_follows f (Hear plans limit last answers) e h = elim h [
   | inr none ↦ inl none
 ]
 
--- ---- what was opened, and where its walk ended
+-- ---- what was found, and where a walk ended
 
--- a load failed
-pub load_lost : (files : Option Files) (failed failed' : List (List ℕ)) (name : List ℕ) (limit : ℕ) (unopened : Unopened) → failed' ≡ failed_after failed name Failed → EndsAs unopened (Refused (Lost name)) → LoadsAs files failed failed' name limit (Err unopened)
-load_lost files failed failed' name limit unopened names is next = (Refused (Lost name), (Failed, [], tt, refl), names, is)
+-- one part of a dialogue behind another
+pub leads_behind : {V W : Type 0} {files files' : Option Files} {a b c : List (List ℕ)} {mid : V → Dialogue} {last : W → Dialogue} {d : Dialogue} {v : V} (r : Result W Unopened)
+    → Leads files a b mid d (Ok v) → files' ≡ files → Leads files' b c last (mid v) r → Leads files a c last d r
+leads_behind {V} {W} {files} {files'} {a} {b} {c} {mid} {last} {d} {v} (Ok w) first same second =
+    let s = subst (λ (f : Option Files). Leads f b c last (mid v) (Ok w)) same second in
+    record { found = (s.found.0 ∙ first.found.0, λ e w. first.found.1 e (s.found.1 e w)); ended = tt }
+leads_behind {V} {W} {files} {files'} {a} {b} {c} {mid} {last} {d} {v} (Err u) first same second =
+    let s = (subst (λ (f : Option Files). Leads f b c last (mid v) (Err u)) same second).ended in
+    record { found = tt; ended = (s.0, first.found.1 s.0 s.1, s.2 ∙ ap (λ f. failed_names f s.0) first.found.0, s.3) }
 
--- ---- what is judged
+-- where the walk ended is handed on
+pub leads_cut : {V W : Type 0} {files : Option Files} {a b : List (List ℕ)} {mid : V → Dialogue} {last : W → Dialogue} {d : Dialogue} {u : Unopened} (r : Result W Unopened)
+    → IsErrAnd r (λ x. x ≡ u) → Leads files a b mid d (Err u) → Leads files a b last d r
+leads_cut (Ok w) is h = absurd is
+leads_cut {V} {W} {files} {a} {b} {mid} {last} {d} (Err x) is h = record { found = tt; ended = subst (λ (x : Unopened). EndsUnopened files a b d x) (sym is) h.ended }
 
--- it leads on, or the walk ends there
-pub judge_passes : {A F : Type 0} (files : Option Files) (failed : List (List ℕ)) (verdict : Result A F) (refused : F → Refusal) (result : Result A Unopened) → ((fault : F) → failed ≡ failed_names failed (Refused (refused fault))) → Judges verdict refused result → Passes files failed failed (judge verdict refused) result
-judge_passes files failed verdict refused (Ok a) same is = (refl, λ next e w. rw is w)
-judge_passes files failed verdict refused (Err (Refusing refusal)) same is = λ next. (Refused (refused is.0), rw is.1 (inl refl), same is.0, ap Refused (sym is.2))
-judge_passes files failed verdict refused (Err Memory) same is = λ next. runs_out files failed (judge verdict refused next)
+-- memory ran out
+pub leads_out : {W : Type 0} {files : Option Files} {a : List (List ℕ)} {last : W → Dialogue} {d : Dialogue} (r : Result W Unopened) → IsErrAnd r (λ x. x ≡ Memory) → Leads files a a last d r
+leads_out (Ok w) is = absurd is
+leads_out {W} {files} {a} {last} {d} (Err x) is = record { found = tt; ended = subst (λ (x : Unopened). EndsUnopened files a a d x) (sym is) (runs_out files a d) }
 
--- a part behind a load that gave bytes
-behind_load : {X : Type 0} (files : Option Files) (failed failed' : List (List ℕ)) (name : List ℕ) (limit : ℕ) (bytes : List ℕ) (part : List ℕ → (X → Dialogue) → Dialogue) (result : Result X Unopened) → Answers files name limit Done bytes → failed' ≡ failed → Passes files failed failed (part bytes) result → Passes files failed failed' (λ next. Load name limit (λ b. part b next)) result
-behind_load files failed failed' name limit bytes part (Ok x) answers same h = (same, λ next e w. (Done, bytes, answers, h.1 next e w))
-behind_load files failed failed' name limit bytes part (Err unopened) answers same h = λ next. let s = h next in (s.0, (Done, bytes, answers, s.1), same ∙ s.2, s.3)
+-- what is judged leads on, or the walk ends there
+pub judge_leads : {A F : Type 0} {files : Option Files} {failed : List (List ℕ)} (verdict : Result A F) (refused : F → Refusal) (result : Result A Unopened) (next : A → Dialogue)
+    → ((fault : F) → failed ≡ failed_names failed (Refused (refused fault))) → Judges verdict refused result → Leads files failed failed next (judge verdict refused next) result
+judge_leads verdict refused (Ok a) next same is = record { found = (refl, λ e w. rw is w); ended = tt }
+judge_leads verdict refused (Err (Refusing refusal)) next same is = record { found = tt; ended = (Refused (refused is.0), rw is.1 (inl refl), same is.0, ap Refused (sym is.2)) }
+judge_leads {A} {F} {files} {failed} verdict refused (Err Memory) next same is = record { found = tt; ended = runs_out files failed (judge verdict refused next) }
 
--- a file that is judged
-pub file_passes : {A F : Type 0} (files : Option Files) (failed failed' : List (List ℕ)) (name : List ℕ) (limit : ℕ) (bytes : List ℕ) (read : List ℕ → Result A F) (refused : F → Refusal) (result : Result A Unopened) → ((fault : F) → failed ≡ failed_names failed (Refused (refused fault))) → Answers files name limit Done bytes → failed' ≡ failed → Judges (read bytes) refused result → Passes files failed failed' (λ next. Load name limit (λ b. judge (read b) refused next)) result
-file_passes files failed failed' name limit bytes read refused result other answers same is =
-    behind_load files failed failed' name limit bytes (λ b. judge (read b) refused) result answers same (judge_passes files failed (read bytes) refused result other is)
+-- a file was loaded, and what it has is judged
+pub file_leads : {W A F : Type 0} {files : Option Files} {a b : List (List ℕ)} {name : List ℕ} {limit : ℕ} {bytes : Vec ℕ Global} {last : W → Dialogue} (read : List ℕ → Result A F) (refused : F → Refusal) (next : A → Dialogue) (r : Result W Unopened)
+    → ((next : List ℕ → Dialogue) → Leads files a b (λ bytes. next bytes.items) (Load name limit next) (Ok bytes)) → Leads files b b last (judge (read bytes.items) refused next) r
+    → Leads files a b last (Load name limit (λ b. judge (read b) refused next)) r
+file_leads read refused next r first second = leads_behind r (first _) refl second
+
+-- what is judged is refused
+pub judge_refuses : {A F W : Type 0} {files : Option Files} {a : List (List ℕ)} {last : W → Dialogue} {verdict : Result A F} (refused : F → Refusal) (next : A → Dialogue) (fault : F) (refusal : Written)
+    → verdict ≡ Err fault → meant refusal ≡ refused fault → a ≡ failed_names a (Refused (refused fault)) → Leads files a a last (judge verdict refused next) (Err (Refusing refusal))
+judge_refuses refused next fault refusal is meaning same =
+    record { found = tt; ended = (Refused (refused fault), rw is (inl refl), same, ap Refused (sym meaning)) }
+
+-- the programs of a source are listed
+pub listing_leads : {files : Option Files} {a : List (List ℕ)} (device : DeviceMeaning) (aims : List Aim) (verdict : Result (List Plan) PioFault) (programs : List Program) (text : Vec ℕ Global) (pieces : Pieces)
+    → Assembles programs verdict → text.items ≡ listing programs
+    → Leads files a a (opened_dialogue device aims) (judge verdict BadSource (λ plans. Say plans (λ programs. plain (listing programs)))) (Ok (Text text pieces))
+listing_leads {files} device aims (Ok plans) programs text pieces have is =
+    record { found = (refl, λ e w. said_with files plans programs (λ ps. plain (listing ps)) (plain text.items) e have (ap plain (sym is)) w); ended = tt }
+listing_leads device aims (Err fault) programs text pieces have is = absurd have
 
 -- each part of an image that was read has bytes
 have_bytes : (parts : List Part) → AllByRecursion IsSized parts → HaveBytes parts
@@ -181,37 +207,7 @@ have_bytes (part ∷ parts) h = (h.0.some, have_bytes parts h.1)
 pub read_has_bytes : (bytes : List ℕ) (image : Image) → length bytes ≤ 16777216 → image_of bytes ≡ Ok image → HaveBytes image.parts
 read_has_bytes bytes image short is = have_bytes image.parts (what_is_read_can_be_written bytes image short is).sizes
 
--- ---- parts of a walk, one behind another
-
--- what was opened behind a part
-pub opens_behind : {X : Type 0} (files files' : Option Files) (a b c : List (List ℕ)) (device : DeviceMeaning) (aims : List Aim) (part : (X → Dialogue) → Dialogue) (x : X) (next : X → Dialogue) (result : Result Opened Unopened) → Passes files a b part (Ok x) → files' ≡ files → Opens files' b c device aims (next x) result → Opens files a c device aims (part next) result
-opens_behind files files' a b c device aims part x next (Ok opened) h same opens =
-    let o = subst (λ (f : Option Files). Opens f b c device aims (next x) (Ok opened)) same opens in
-    (o.0 ∙ h.0, o.1, λ e w. h.1 next e (o.2 e w))
-opens_behind files files' a b c device aims part x next (Err unopened) h same opens =
-    let s = subst (λ (f : Option Files). Opens f b c device aims (next x) (Err unopened)) same opens in
-    (s.0, h.1 next s.0 s.1, s.2 ∙ ap (λ f. failed_names f s.0) h.0, s.3)
-
 -- ---- a run
-
--- the programs of loads
-abbrev programs_of : List PioLoad → List Program
-programs_of loads = map (λ l. l.program) loads
-
-have_words : (ps : List Placed) (loads : List PioLoad) → ArePlaced ps loads → ArePrograms (plans_in ps) (programs_of loads)
-have_words [] [] h = tt
-have_words [] (l ∷ loads) h = absurd h
-have_words (p ∷ ps) [] h = absurd h
-have_words (p ∷ ps) (l ∷ loads) h = (h.0.program, have_words ps loads h.1)
-
-same_load : (p : Placed) (l : PioLoad) → IsPlaced p l → record { block = p.block; machine = p.machine; offset = p.offset; program = l.program } ≡ l
-same_load p l h = rw (sym h.block, sym h.machine, sym h.offset) refl
-
-same_loads : (ps : List Placed) (loads : List PioLoad) → ArePlaced ps loads → loads_of ps (programs_of loads) ≡ loads
-same_loads [] [] h = refl
-same_loads [] (l ∷ loads) h = absurd h
-same_loads (p ∷ ps) [] h = absurd h
-same_loads (p ∷ ps) (l ∷ loads) h = ap (λ x. x ∷ loads_of ps (programs_of loads)) (same_load p l h.0) ∙ ap (λ xs. l ∷ xs) (same_loads ps loads h.1)
 
 -- the cycle of a first state is 0
 load_cycle : (load : PioLoad) (s : State) → (with_load load s).cycle ≡ s.cycle
@@ -230,61 +226,35 @@ unfolding start
 start_cycle device image loads = loads_cycle loads (first_state device image) ∙ first_cycle device image
 
 -- the machine booted, or memory ran out
-boots_opens : (aims : List Aim) (purpose : Purpose) (files : Option Files) (failed : List (List ℕ)) (device : DeviceMeaning) (script : List ScriptEntry) (limit : ℕ) (image : Image) (ps : List Placed) (loads : List PioLoad) (result : Result Opened Unopened) → ArePlaced ps loads → Boots purpose (start device image loads) script limit result → Opens files failed failed device aims (use_for aims purpose (setting_of script device limit) image ps) result
-boots_opens aims ForDebug files failed device script limit image ps loads (Ok (Session debugging)) placed h =
+pub boots_leads : (aims : List Aim) (purpose : Purpose) (files : Option Files) (failed : List (List ℕ)) (device : DeviceMeaning) (script : List ScriptEntry) (limit : ℕ) (image : Image) (ps : List Placed) (loads : List PioLoad) (result : Result Opened Unopened)
+    → ArePlaced ps loads → IfOk result (Boots purpose (start device image loads) script limit) → IfErr result (λ unopened. unopened ≡ Memory)
+    → Leads files failed failed (opened_dialogue device aims) (use_for aims purpose (setting_of script device limit) image ps) result
+boots_leads aims purpose files failed device script limit image ps loads (Err u) placed ok err = leads_out (Err u) err
+boots_leads aims (ForRun stats) files failed device script limit image ps loads (Ok opened) placed ok err =
     let w : Setting = setting_of script device limit in
-    let first : State = start device image (loads_of ps (programs_of loads)) in
-    let own : State = first_of debugging.session in
-    let same : own ≡ first = h.0.first ∙ ap (start device image) (sym (same_loads ps loads placed)) in
-    let opens : OpensAt own limit debugging.session = subst (λ (s : State). OpensAt s limit debugging.session) (sym h.0.first) h.0 in
-    let v : Setting = setting_by device debugging in
-    let here : session_reply w first ≡ session_reply v own = rw (sym same, sym h.1, sym h.2) refl in (
-      refl,
-      subst (λ n. OpensAt own n debugging.session) (sym h.2) opens,
-      λ e walk. heard_with files (plans_in ps) (programs_of loads) input_limit quits (λ programs. session_reply w (start device image (loads_of ps programs))) (session_reply v own) e (have_words ps loads placed) here walk,
-    )
-boots_opens aims ForDebug files failed device script limit image ps loads (Ok (Machine started)) placed h = absurd h
-boots_opens aims (ForRun stats) files failed device script limit image ps loads (Ok (Session debugging)) placed h = absurd h
-boots_opens aims (ForRun stats) files failed device script limit image ps loads (Ok (Machine started)) placed h =
+    let reply : List Program → Reply = λ programs. run_reply stats aims w (start device image (loads_of ps programs)) in
+    let own : Reply = run_reply ok.0.stats aims (setting_of ok.0.script device ok.0.limit) ok.0.machine in
+    let here : reply placed.programs ≡ own =
+    ap (λ ls. run_reply stats aims w (start device image ls)) (sym placed.are) ∙ rw (sym ok.2, sym ok.3, sym ok.4, sym ok.5) refl in
+    record {
+      found = (refl, λ e walk. said_with files (plans_in ps) placed.programs reply own e placed.words here (subst (λ (o : Opened). Walks files (opened_dialogue device aims o) e) ok.1 walk));
+      ended = tt;
+    }
+boots_leads aims ForDebug files failed device script limit image ps loads (Ok opened) placed ok err =
     let w : Setting = setting_of script device limit in
-    let first : State = start device image (loads_of ps (programs_of loads)) in
-    let same : started.machine ≡ first = h.0 ∙ ap (start device image) (sym (same_loads ps loads placed)) in
-    let at : started.machine.cycle ≡ 0 = ap (λ (m : State). m.cycle) h.0 ∙ start_cycle device image loads in
-    let v : Setting = setting_in device started in
-    let here : run_reply stats aims w first ≡ run_reply started.stats aims v started.machine = rw (same, h.1, h.2, h.3) refl in (
-      refl,
-      omega (arith, at),
-      λ e walk. said_with files (plans_in ps) (programs_of loads) (λ programs. run_reply stats aims w (start device image (loads_of ps programs))) (run_reply started.stats aims v started.machine) e (have_words ps loads placed) here walk,
-    )
-boots_opens aims (ForRun stats) files failed device script limit image ps loads (Ok (Text text pieces)) placed h = absurd h
-boots_opens aims (ForRun stats) files failed device script limit image ps loads (Err (Refusing refusal)) placed h = absurd h
-boots_opens aims (ForRun stats) files failed device script limit image ps loads (Err Memory) placed h = runs_out files failed (use_for aims (ForRun stats) (setting_of script device limit) image ps)
-boots_opens aims ForDebug files failed device script limit image ps loads (Ok (Text text pieces)) placed h = absurd h
-boots_opens aims ForDebug files failed device script limit image ps loads (Err (Refusing refusal)) placed h = absurd h
-boots_opens aims ForDebug files failed device script limit image ps loads (Err Memory) placed h = runs_out files failed (use_for aims ForDebug (setting_of script device limit) image ps)
-
--- the programs of a run are placed, and the machine booted
-pub programs_open : (aims : List Aim) (purpose : Purpose) (files : Option Files) (a b : List (List ℕ)) (device : DeviceMeaning) (run : Run) (image : Image) (script : List ScriptEntry) (loads : Vec PioLoad Global) (result : Result Opened Unopened) → LoadsAll files a b run.pio (Ok loads) → Boots purpose (start device image loads.items) script run.cycles result → Opens files a b device aims (behind_script (use_for aims purpose) device run image script) result
-programs_open aims purpose files a b device run image script loads (Ok opened) programs boots =
-    let last = boots_opens aims purpose files a device script run.cycles image programs.2.0 loads.items (Ok opened) programs.2.1 boots in
-    (programs.0, last.1, λ e w. programs.2.2 (use_for aims purpose (setting_of script device run.cycles) image) e (last.2 e w))
-programs_open aims purpose files a b device run image script loads (Err unopened) programs boots =
-    let last = boots_opens aims purpose files a device script run.cycles image programs.2.0 loads.items (Err unopened) programs.2.1 boots in
-    (last.0, programs.2.2 (use_for aims purpose (setting_of script device run.cycles) image) last.0 last.1, programs.0 ∙ last.2, last.3)
-
--- a generated image needs no file
-pub generated_opens : (files : Option Files) (failed : List (List ℕ)) (device : DeviceMeaning) (number cycles workers : ℕ) (stats : Bool) (image : Image) (script : List ScriptEntry) (result : Result Opened Unopened) → image ≡ image_of_number number → script ≡ [] → Boots (ForRun stats) (start device image []) script cycles result → OpensFor files failed failed device (Generate number cycles workers stats) result
-generated_opens files failed device number cycles workers stats image script result is empty boots aims =
-    let own = subst (λ (i : Image). Boots (ForRun stats) (start device i []) script cycles result) is boots in
-    let plain = subst (λ (s : List ScriptEntry). Boots (ForRun stats) (start device (image_of_number number) []) s cycles result) empty own in
-    boots_opens aims (ForRun stats) files failed device [] cycles (image_of_number number) [] [] result tt plain
+    let own = session_reply (setting_of ok.0.script device ok.0.limit) (first_of ok.0.session) in
+    let answers : List Program → List (List ℕ) → Reply = λ programs. session_reply w (start device image (loads_of ps programs)) in
+    let same : start device image (loads_of ps placed.programs) ≡ first_of ok.0.session = ap (start device image) (sym placed.are) ∙ sym ok.2.first in
+    let here : answers placed.programs ≡ own = rw (same, sym ok.3, sym ok.4) refl in
+    record {
+      found = (refl, λ e walk. heard_with files (plans_in ps) placed.programs input_limit quits answers own e placed.words here (subst (λ (o : Opened). Walks files (opened_dialogue device aims o) e) ok.1 walk));
+      ended = tt;
+    }
 
 -- the line of a refusal was put with its status
 pub refuses_by : (a b : Sunk) (status : ℕ) (refusal : Written) (unopened : Unopened) (wanted : ℕ) (text : List ℕ) → unopened ≡ Refusing refusal → wanted ≡ status_of (meant refusal) → text ≡ line_of (meant refusal) → Puts a b status wanted text → PutsRefusal a b status unopened
 refuses_by a b status refusal unopened wanted text is w t puts =
     rw is (inl (subst (λ (x : ℕ). Puts a b status x (line_of (meant refusal))) w (subst (λ (x : List ℕ). Puts a b status wanted x) t puts)))
-
--- ---- the programs of a run
 
 -- ---- addresses that are taken
 
@@ -299,128 +269,97 @@ room_at loads k n load h lt is e =
     let fits : IsLoad load = subst IsLoad (sym is) (load_at loads k load h lt) in
     let room : load.offset + length load.program.words.items ≤ 32 = fits.room in omega (arith, room, e)
 
-loads_push : (loads : List PioLoad) (load : PioLoad) → AreLoads loads → IsLoad load → AreLoads (loads ++ load ∷ [])
+pub loads_push : (loads : List PioLoad) (load : PioLoad) → AreLoads loads → IsLoad load → AreLoads (loads ++ load ∷ [])
 loads_push [] load h k = (k, tt)
 loads_push (l ∷ loads) load h k = (h.0, loads_push loads load h.1 k)
 
-placed_push : (ps : List Placed) (loads : List PioLoad) (p : Placed) (load : PioLoad) → ArePlaced ps loads → IsPlaced p load → ArePlaced (ps ++ p ∷ []) (loads ++ load ∷ [])
-placed_push [] [] p load h k = (k, tt)
-placed_push [] (l ∷ loads) p load h k = absurd h
-placed_push (q ∷ ps) [] p load h k = absurd h
-placed_push (q ∷ ps) (l ∷ loads) p load h k = (h.0, placed_push ps loads p load h.1 k)
+-- one more placed program with its words
+words_push : (ps : List Placed) (programs : List Program) (p : Placed) (program : Program) → ArePrograms (plans_in ps) programs → IsProgram p.plan program
+    → ArePrograms (plans_in (ps ++ p ∷ [])) (programs ++ program ∷ []) × (loads_of (ps ++ p ∷ []) (programs ++ program ∷ []) ≡ loads_of ps programs ++ loads_of (p ∷ []) (program ∷ []))
+words_push [] [] p program h is = ((is, tt), refl)
+words_push [] (x ∷ programs) p program h is = absurd h
+words_push (q ∷ ps) [] p program h is = absurd h
+words_push (q ∷ ps) (x ∷ programs) p program h is =
+    let more = words_push ps programs p program h.1 is in ((h.0, more.0), ap (λ (ls : List PioLoad). loads_of (q ∷ []) (x ∷ []) ++ ls) more.1)
 
 -- loads take the addresses of the placed programs
-taken_same : (used block : ℕ) (ps : List Placed) (loads : List PioLoad) → ArePlaced ps loads → taken_from used block ps ≡ taken_by used block loads
+taken_same : (used block : ℕ) (ps : List Placed) (programs : List Program) → ArePrograms (plans_in ps) programs → taken_from used block ps ≡ taken_by used block (loads_of ps programs)
 taken_same used block [] [] h = refl
-taken_same used block [] (l ∷ loads) h = absurd h
+taken_same used block [] (x ∷ programs) h = absurd h
 taken_same used block (p ∷ ps) [] h = absurd h
-taken_same used block (p ∷ ps) (l ∷ loads) h =
-    let long : length p.plan.members ≡ length l.program.words.items = sym (words_length p.plan.members l.program.words.items h.0.program.words) in
-    let one : (if p.block == block then with_addresses used p.offset (length p.plan.members) else used) ≡ (if l.block == block then with_addresses used l.offset (length l.program.words.items) else used) =
-    rw (sym h.0.block, sym h.0.offset, long) refl in
-    ap (λ u. taken_from u block ps) one ∙ taken_same (if l.block == block then with_addresses used l.offset (length l.program.words.items) else used) block ps loads h.1
+taken_same used block (p ∷ ps) (x ∷ programs) h =
+    ap (λ n. taken_from (if p.block == block then with_addresses used p.offset n else used) block ps) (sym (words_length p.plan.members x.words.items h.0.words))
+    ∙ taken_same (if p.block == block then with_addresses used p.offset (length x.words.items) else used) block ps programs h.1
 
 -- the offset that a program gets
 offset_same : (entry : Entry) (ps : List Placed) (loads : List PioLoad) (plan : Plan) (program : Program) → ArePlaced ps loads → IsProgram plan program → offset_of entry ps plan ≡ placed (taken_by 0 entry.block loads) program.origin (length program.words.items)
 offset_same entry ps loads plan program h is =
     let long : length plan.members ≡ length program.words.items = sym (words_length plan.members program.words.items is.words) in
-    rw (taken_same 0 entry.block ps loads h, long, sym is.origin) refl
+    rw (taken_same 0 entry.block ps h.programs h.words, long, sym is.origin) (ap (λ ls. placed (taken_by 0 entry.block ls) program.origin (length program.words.items)) (sym h.are))
 
--- ---- one program
+-- the walk ended
+pub places_end : {W : Type 0} {files : Option Files} {a b : List (List ℕ)} {part : (List Placed → Dialogue) → Dialogue} {rest : List Entry} {news : W → List PioLoad} (u : Unopened) (r : Result W Unopened)
+    → IsErrAnd r (λ x. x ≡ u) → ((next : List Placed → Dialogue) → EndsUnopened files a b (part next) u) → Places files a b part rest news r
+places_end u (Ok w) is ends = absurd is
+places_end {W} {files} {a} {b} {part} u (Err x) is ends =
+    record { after = []; placed = tt; leads = λ next. record { found = tt; ended = subst (λ (x : Unopened). EndsUnopened files a b (part next) x) (sym is) (ends next) } }
 
--- a program is placed, and its load was added
-pub load_added : (entry : Entry) (before : List Placed) (loads : List PioLoad) (plan : Plan) (program : Program) (load : PioLoad) (done : Unit {0}) → ArePlaced before loads → IsProgram plan program → AreLoads loads → IsLoad load → load ≡ record { block = entry.block; machine = entry.machine; offset = load.offset; program = program } → placed (taken_by 0 entry.block loads) program.origin (length program.words.items) ≡ Ok load.offset → AddsBehind (offset_part entry before plan) (loads ++ load ∷ []) (Ok done)
-load_added entry before loads plan program load done h is all fits parts at files failed =
-    let p : Placed = placed_as entry plan load.offset in
-    let verdict : offset_of entry before plan ≡ Ok load.offset = offset_same entry before loads plan program h is ∙ at in
-    let there : IsPlaced p load = record {
-      block = ap (λ (l : PioLoad). l.block) parts;
-      machine = ap (λ (l : PioLoad). l.machine) parts;
-      offset = refl;
-      program = subst (λ (x : Program). IsProgram plan x) (sym (ap (λ (l : PioLoad). l.program) parts)) is;
-    } in (
-      refl,
-      loads_push loads load all fits,
-      (
-        before ++ p ∷ [],
-        placed_push before loads p load h there,
-        λ next e w.
-            subst (λ (v : Result ℕ PioFault). Walks files (judge v BadSource (λ offset. next (before ++ placed_as entry plan offset ∷ []))) e) (sym verdict) w,
-      ),
-    )
+-- ---- the first program of a source
+
+pub first_none : (verdict : Result (List Plan) PioFault) → IsFirst None verdict → verdict ≡ Ok []
+first_none (Ok []) is = refl
+first_none (Ok (plan ∷ plans)) is = absurd is
+first_none (Err fault) is = absurd is
+
+pub first_some : (verdict : Result (List Plan) PioFault) (program : Program) → IsFirst (Some program) verdict
+    → (plan : Plan) × (plans : List Plan) × (verdict ≡ Ok (plan ∷ plans)) × IsProgram plan program × IsRunnable program
+first_some (Ok []) program is = absurd (cc is)
+first_some (Ok (plan ∷ plans)) program is = (plan, plans, refl, is.0, is.1)
+first_some (Err fault) program is = absurd is
+
+-- it is placed behind others
+pub first_placed : {files : Option Files} {a b : List (List ℕ)} {bytes : Vec ℕ Global} (entry : Entry) (before : List Placed) (loads more : List PioLoad) (program : Program) (load : PioLoad)
+    → ((next : List ℕ → Dialogue) → Leads files a b (λ bytes. next bytes.items) (Load entry.file source_limit next) (Ok bytes)) → ArePlaced before loads → IsFirst (Some program) (plans_of bytes.items)
+    → more ≡ loads ++ load ∷ [] → load ≡ record { block = entry.block; machine = entry.machine; offset = load.offset; program = program }
+    → placed (taken_by 0 entry.block loads) program.origin (length program.words.items) ≡ Ok load.offset → Places {V = Unit {0}} files a b (with_program entry before) [] (λ done. more) (Ok tt)
+first_placed {bytes = bytes} entry before loads more program load file h first is parts at =
+    let f = first_some (plans_of bytes.items) program first in
+    let p : Placed = placed_as entry f.0 load.offset in
+    let offset : offset_of entry before f.0 ≡ Ok load.offset = offset_same entry before loads f.0 program h f.3 ∙ at in
+    let both = words_push before h.programs p program h.words f.3 in
+    record {
+      after = before ++ p ∷ [];
+      placed = record { programs = h.programs ++ program ∷ []; words = both.0; are = is ∙ ap₂ (λ (xs : List PioLoad) (x : PioLoad). xs ++ x ∷ []) h.are parts ∙ sym both.1 };
+      leads = λ next. leads_behind (Ok tt) (file _) refl (record { found = (refl, λ e w. rw f.2 (rw offset w)); ended = tt });
+    }
 
 -- it has no room
-pub load_refused : (entry : Entry) (before : List Placed) (loads new : List PioLoad) (plan : Plan) (program : Program) (fault : PioFault) → ArePlaced before loads → IsProgram plan program → placed (taken_by 0 entry.block loads) program.origin (length program.words.items) ≡ Err fault → AddsBehind (offset_part entry before plan) new (Err (Refusing (Source fault)))
-load_refused entry before loads new plan program fault h is at files failed next =
-    let verdict : offset_of entry before plan ≡ Err fault = offset_same entry before loads plan program h is ∙ at in
-    (Refused (BadSource fault), subst (λ (v : Result ℕ PioFault). Walks files (judge v BadSource (λ offset. next (before ++ placed_as entry plan offset ∷ []))) (Refused (BadSource fault))) (sym verdict) (inl refl), refl, refl)
-
--- memory ran out
-pub load_out : (entry : Entry) (before : List Placed) (new : List PioLoad) (plan : Plan) → AddsBehind (offset_part entry before plan) new (Err Memory)
-load_out entry before new plan files failed next = runs_out files failed (offset_part entry before plan next)
-
--- the load was added, or memory ran out
-pub load_tried : (entry : Entry) (before : List Placed) (loads new : List PioLoad) (plan : Plan) (program : Program) (load : PioLoad) (result : Result (Unit {0}) Unopened) → IfOk result (λ done. new ≡ loads ++ load ∷ []) → IfErr result (λ unopened. unopened ≡ Memory) → ArePlaced before loads → IsProgram plan program → AreLoads loads → IsLoad load → load ≡ record { block = entry.block; machine = entry.machine; offset = load.offset; program = program } → placed (taken_by 0 entry.block loads) program.origin (length program.words.items) ≡ Ok load.offset → AddsBehind (offset_part entry before plan) new result
-load_tried entry before loads new plan program load (Ok done) ok err h is all fits parts at =
-    subst (λ (ls : List PioLoad). AddsBehind (offset_part entry before plan) ls (Ok done)) (sym ok) (load_added entry before loads plan program load done h is all fits parts at)
-load_tried entry before loads new plan program load (Err unopened) ok err h is all fits parts at =
-    subst (λ (s : Unopened). AddsBehind (offset_part entry before plan) new (Err s)) (sym err) (load_out entry before new plan)
-
--- ---- one source
-
-first_adds : (entry : Entry) (before : List Placed) (new : List PioLoad) (verdict : Result (List Plan) PioFault) (program : Program) (result : Result (Unit {0}) Unopened) → IsFirst (Some program) verdict → ((plan : Plan) → IsProgram plan program → AddsBehind (offset_part entry before plan) new result) → AddsBehind (λ next. judge verdict BadSource (with_first entry before next)) new result
-first_adds entry before new (Ok []) program result first adds = absurd (cc first)
-first_adds entry before new (Ok (plan ∷ plans)) program (Ok done) first adds = λ files failed. let l = adds plan first.0 files failed in (l.0, l.1, (l.2.0, l.2.1, λ next e w. l.2.2 next e w))
-first_adds entry before new (Ok (plan ∷ plans)) program (Err unopened) first adds = λ files failed next. let s = adds plan first.0 files failed next in (s.0, s.1, s.2, s.3)
-first_adds entry before new (Err fault) program result first adds = absurd first
-
-pub source_adds : (entry : Entry) (before : List Placed) (new : List PioLoad) (bytes : List ℕ) (found : Option Program) (program : Program) (result : Result (Unit {0}) Unopened) → found ≡ Some program → IsFirst found (plans_of bytes) → ((plan : Plan) → IsProgram plan program → AddsBehind (offset_part entry before plan) new result) → AddsBehind (source_part entry before bytes) new result
-source_adds entry before new bytes found program result is first adds =
-    first_adds entry before new (plans_of bytes) program result (subst (λ (x : Option Program). IsFirst x (plans_of bytes)) is first) adds
-
-pub source_out : (entry : Entry) (before : List Placed) (new : List PioLoad) (bytes : List ℕ) → AddsBehind (source_part entry before bytes) new (Err Memory)
-source_out entry before new bytes files failed next = runs_out files failed (source_part entry before bytes next)
-
--- ---- one entry
-
-pub entry_adds : (files : Option Files) (failed failed' : List (List ℕ)) (entry : Entry) (before : List Placed) (new : List PioLoad) (bytes : List ℕ) (result : Result (Unit {0}) Unopened) → Answers files entry.file source_limit Done bytes → failed' ≡ failed → AddsBehind (source_part entry before bytes) new result → Adds files failed failed' (with_program entry before) new result
-entry_adds files failed failed' entry before new bytes (Ok done) answers same h =
-    let l = h files failed in (same, l.1, (l.2.0, l.2.1, λ next e w. (Done, bytes, answers, l.2.2 next e w)))
-entry_adds files failed failed' entry before new bytes (Err unopened) answers same h = λ next. let s = h files failed next in (s.0, (Done, bytes, answers, s.1), same ∙ s.2, s.3)
-
-pub entry_lost : (files : Option Files) (failed failed' : List (List ℕ)) (entry : Entry) (before : List Placed) (new : List PioLoad) (unopened : Unopened) → LoadsAs files failed failed' entry.file source_limit (Err unopened) → Adds {A = Unit {0}} files failed failed' (with_program entry before) new (Err unopened)
-entry_lost files failed failed' entry before new unopened h next = h (λ bytes. source_part entry before bytes next)
+pub first_refused : {W : Type 0} {files : Option Files} {a b : List (List ℕ)} {bytes : Vec ℕ Global} (entry : Entry) (before : List Placed) (loads : List PioLoad) {news : W → List PioLoad} (program : Program) (fault : PioFault)
+    → ((next : List ℕ → Dialogue) → Leads files a b (λ bytes. next bytes.items) (Load entry.file source_limit next) (Ok bytes)) → ArePlaced before loads → IsFirst (Some program) (plans_of bytes.items)
+    → placed (taken_by 0 entry.block loads) program.origin (length program.words.items) ≡ Err fault → Places files a b (with_program entry before) [] news (Err (Refusing (Source fault)))
+first_refused {bytes = bytes} entry before loads program fault file h first at =
+    let f = first_some (plans_of bytes.items) program first in
+    let offset : offset_of entry before f.0 ≡ Err fault = offset_same entry before loads f.0 program h f.3 ∙ at in
+    record {
+      after = [];
+      placed = tt;
+      leads = λ next. leads_behind (Err _) (file _) refl (record { found = tt; ended = (Refused (BadSource fault), rw f.2 (rw offset (inl refl)), refl, refl) });
+    }
 
 -- ---- all entries
+
+-- one more entry
+pub places_next : {V W : Type 0} {files files' : Option Files} {a b c : List (List ℕ)} {part : (List Placed → Dialogue) → Dialogue} {entry : Entry} {rest : List Entry} {loads : V → List PioLoad} {news : W → List PioLoad} {v : V} {r : Result W Unopened}
+    (h : Places files a b part (entry ∷ rest) loads (Ok v)) → files' ≡ files → Places files' b c (with_program entry h.after) [] news r → Places files a c part rest news r
+places_next {V} {W} {files} {files'} {a} {b} {c} {part} {entry} {rest} h same k =
+    record { after = k.after; placed = k.placed; leads = λ next. leads_behind _ (h.leads next) same (k.leads (λ more. with_programs rest more next)) }
+
+-- the loads are these
+pub places_as : {V W : Type 0} {files : Option Files} {a b : List (List ℕ)} {part : (List Placed → Dialogue) → Dialogue} {rest : List Entry} {loads : V → List PioLoad} {news : W → List PioLoad} {v : V} {w : W}
+    → Places files a b part rest loads (Ok v) → loads v ≡ news w → Places files a b part rest news (Ok w)
+places_as h is = record { after = h.after; placed = subst (ArePlaced h.after) is h.placed; leads = λ next. record { found = (h.leads next).found; ended = tt } }
 
 -- the entries from one on are this one and the others
 pub entry_next : (entries : List PioEntry) (k : ℕ) (entry : PioEntry) → k < length entries → entry ≡ get_or entries k entry → map entry_in (drop k entries) ≡ entry_in entry ∷ map entry_in (drop (k + 1) entries)
 entry_next entries k entry lt is =
     at_drop_more (map entry_in) entries k entry lt ∙ ap (λ x. entry_in x ∷ map entry_in (drop (k + 1) entries)) (sym is)
-
--- some entries gave these loads, and the others are left
-pub record Along (files now : Option Files) (failed failed' : List (List ℕ)) (all rest : List Entry) (loads : List PioLoad) : Type 0 where
-  pub kept : now ≡ files
-  pub names : failed' ≡ failed
-  pub fit : AreLoads loads
-  pub ps : List Placed
-  pub placed : ArePlaced ps loads
-  pub leads : (next : List Placed → Dialogue) (e : Ending) → Walks files (with_programs rest ps next) e → Walks files (with_programs all [] next) e
-
-pub along_added : (files now later : Option Files) (failed middle last : List (List ℕ)) (all left rest : List Entry) (entry : Entry) (loads new : List PioLoad) (done : Unit {0}) → Along files now failed middle all left loads → left ≡ entry ∷ rest → later ≡ now → ((before : List Placed) → ArePlaced before loads → Adds now middle last (with_program entry before) new (Ok done)) → Along files later failed last all rest new
-along_added files now later failed middle last all left rest entry loads new done a is same adds =
-    let here = subst (λ (f : Option Files). Adds f middle last (with_program entry a.ps) new (Ok done)) a.kept (adds a.ps a.placed) in
-    record {
-      kept = same ∙ a.kept;
-      names = here.0 ∙ a.names;
-      fit = here.1;
-      ps = here.2.0;
-      placed = here.2.1;
-      leads = λ next e w. a.leads next e (subst (λ (l : List Entry). Walks files (with_programs l a.ps next) e) (sym is) (here.2.2 (λ more. with_programs rest more next) e w));
-    }
-
-pub along_ends : (files now : Option Files) (failed middle last : List (List ℕ)) (all left rest : List Entry) (entry : Entry) (loads new : List PioLoad) (unopened : Unopened) → Along files now failed middle all left loads → left ≡ entry ∷ rest → ((before : List Placed) → ArePlaced before loads → Adds {A = Unit {0}} now middle last (with_program entry before) new (Err unopened)) → LoadsAll files failed last all (Err unopened)
-along_ends files now failed middle last all left rest entry loads new unopened a is adds next =
-    let here = subst (λ (f : Option Files). Adds {A = Unit {0}} f middle last (with_program entry a.ps) new (Err unopened)) a.kept (adds a.ps a.placed) in
-    let s = here (λ more. with_programs rest more next) in
-    (s.0, a.leads next s.0 (subst (λ (l : List Entry). Walks files (with_programs l a.ps next) s.0) (sym is) s.1), s.2 ∙ ap (λ f. failed_names f s.0) a.names, s.3)

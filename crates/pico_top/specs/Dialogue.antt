@@ -236,17 +236,11 @@ hear_run w image placed =
 abbrev pub Use : Type 0
 Use = Setting → Image → List Placed → Dialogue
 
--- what comes behind a run's script: its programs, and what is done with it
-abbrev pub behind_script : Use → DeviceMeaning → Run → Image → List ScriptEntry → Dialogue
-behind_script use_run device run image script = with_programs run.pio [] (use_run (setting_of script device run.cycles) image)
-
--- what comes behind its image, which is linked by then
-abbrev pub behind_image : Use → DeviceMeaning → Run → Image → Dialogue
-behind_image use_run device run image = with_script run.script (behind_script use_run device run image)
-
--- a run: its image, and what comes behind it
+-- a run: its image, which is linked where that is asked for, its script and its programs, and what is done with it
 abbrev pub with_run : Use → DeviceMeaning → Run → Dialogue
-with_run use_run device run = with_image run.image (with_linked run.table (behind_image use_run device run))
+with_run use_run device run =
+    with_image run.image (with_linked run.table (λ image. with_script run.script (λ script. with_programs run.pio []
+    (use_run (setting_of script device run.cycles) image))))
 
 -- which probes a command aims at which pins: a run those that its words name, and no other command any
 abbrev pub targets_in : Command → List Target

@@ -36,8 +36,7 @@ after_events events aims = map (after_hearing (flat_map change_in events)) aims
 
 -- the lines of probes, one after another
 abbrev pub probe_lines : List Aim → List ℕ
-probe_lines [] = []
-probe_lines (aim ∷ aims) = aim_text aim ++ probe_lines aims
+probe_lines aims = flat_map aim_text aims
 
 -- ---- the counts
 

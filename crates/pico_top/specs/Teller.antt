@@ -1,8 +1,8 @@
 -- What the events of a run leave in a sink, and with the probes that hear its pins; and what the run of a machine to its stop came to,
 -- whoever ran its lanes. The project's own.
-use Rattle.std.specs.Prelude.{◌≡◌, ℕ, List, [], ◌∷◌, ◌++◌, Option, None, Some, flat_map, map, ◌+◌, Bool, Result, IfOk, IfSome}
+use Rattle.std.specs.Prelude.{◌≡◌, ℕ, List, [], ◌∷◌, ◌++◌, Option, None, Some, flat_map, map, Bool}
 use Rattle.std.proofs.Common.{refl, sym, ap, ap₂, ◌∙◌}
-use Rattle.std.proofs.lemmas.List.{append-nil}
+use Rattle.std.proofs.lemmas.List.{append-nil, map-id}
 use Rattle.std.proofs.lemmas.List.Concat.{flat_map-append}
 use Rattle.rp_ports.specs.Sink.{Appends}
 use Rattle.rp_ports.proofs.Pieces.{appends_both}
@@ -18,11 +18,6 @@ use Rattle.rp_machine.specs.State.{State}
 use Rattle.rp_machine.specs.Cycle.{stop}
 use Rattle.rp_machine.specs.Run.{last_state}
 use Rattle.window_runner.specs.declared.alone.Ran.{Ran}
-use Rattle.window_runner.specs.declared.windows.RunFault.{RunFault}
-use Rattle.window_runner.specs.Told.{run_shown}
-use Rattle.window_runner.specs.Alone.{IsOnRun}
-use Rattle.window_runner.specs.Windows.{answered, OnMemory}
-use Rattle.pico_top.specs.Answer.{Writes}
 
 -- Their lines stand behind what was written before, no put failed, and the probes heard the changes of pins among them.
 pub record HasTold (a b : Sunk) (before after : List Aim) (events : List Event) : Type 0 where
@@ -32,13 +27,9 @@ pub record HasTold (a b : Sunk) (before after : List Aim) (events : List Event) 
 
 -- ---- no events, and some behind others
 
-nothing_heard : (a : Aim) → after_hearing [] a ≡ a
-unfolding after_hearing
-nothing_heard a = refl
-
 pub after_none : (aims : List Aim) → after_events [] aims ≡ aims
-after_none [] = refl
-after_none (a ∷ aims) = ap₂ (λ (x : Aim) (xs : List Aim). x ∷ xs) (nothing_heard a) (after_none aims)
+unfolding after_hearing
+after_none aims = map-id aims
 
 heard_both : (first second : List PinChange) (aims : List Aim) → map (after_hearing (first ++ second)) aims ≡ map (after_hearing second) (map (after_hearing first) aims)
 heard_both first second [] = refl
@@ -71,15 +62,3 @@ told_one a b x y event h s k = record { written = rw (append-nil (event_text eve
 pub record IsRanFor (stats : Bool) (w : Setting) (s : State) (ran : Ran) : Type 0 where
   pub why : stop w (last_state w s) ≡ Some ran.why
   pub counts : counts_text stats ran.windows ran.cycles ≡ stats_text stats w s
-
--- The machine ran from s to t. The lines of all events were sent and the probes heard them, it stopped as the run does, and where
--- the counts are asked for, those of its windows were found; or the sink failed at one of the lines, somewhere on the run; or memory
--- ran out before the first cycle. As many steps were counted as it moved.
-pub record RunsTo (stats : Bool) (w : Setting) (s t : State) (before after : List Aim) (a b : Sunk) (steps steps' : ℕ) (result : Result Ran RunFault) : Type 0 where
-  pub sends : IfSome (answered result) (Writes a b (event_lines (run_shown w s)))
-  pub heard : IfOk result (λ ran. after ≡ after_events (run_shown w s) before)
-  pub ran : IfOk result (IsRanFor stats w s)
-  pub state : IfOk result (λ ran. t ≡ last_state w s)
-  pub on_run : IsOnRun w s t
-  pub counted : steps' + s.cycle ≡ steps + t.cycle
-  pub memory : OnMemory result ((t ≡ s) × (b ≡ a))

@@ -4,6 +4,7 @@
 
 pub mod laws;
 mod open;
+mod outcome;
 mod runner;
 mod tell;
 
@@ -25,14 +26,16 @@ use board_parts::wiring::Wiring;
 use command_words::refusal::Refusal;
 pub use command_words::{Reading, WordsFault, read_words};
 use lane_look::{Device, Pair};
-use open::{Opened, Unopened, open_reading};
+use open::open_reading;
+use outcome::{Opened, Unopened};
 use rp_machine::Steps;
 use rp_ports::gate::Gate;
 use rp_ports::shelf::Shelf;
 use rp_ports::sink::Sink;
 use rp_ports::source::Source;
-use runner::Workers;
+use runner::{Teller, Workers};
 use std::alloc::{AllocError, Global};
+use std::marker::PhantomData;
 use std::sync::Wait;
 use std::sync::ledger::Ledger;
 use std::thread::Threads;
@@ -116,7 +119,14 @@ fn serve_with<F: Shelf, I: Source, O: Sink, X: Device, L: Ledger>(
     };
     match open_reading(alloc, reading, files, device) {
         Ok(opened) => match opened {
-            Opened::Machine(started) => run_into(alloc, started, &mut aimed, device, out, steps),
+            Opened::Machine(started) => {
+                let mut teller = Teller {
+                    out,
+                    probes: &mut aimed,
+                    boxed: PhantomData,
+                };
+                run_into(alloc, started, &mut teller, device, steps)
+            }
             Opened::Session(debugging) => talk_into(debugging, device, input, out, steps),
             Opened::Text(text, pieces) => sent_status(send_text(&text, pieces, out), 0),
         },
@@ -149,7 +159,12 @@ where
     match open_reading(alloc, reading, files, device) {
         Ok(opened) => match opened {
             Opened::Machine(started) => {
-                run_into_by(alloc, workers, started, &mut aimed, device, out, steps)
+                let mut teller = Teller {
+                    out,
+                    probes: &mut aimed,
+                    boxed: PhantomData,
+                };
+                run_into_by(alloc, workers, started, &mut teller, device, steps)
             }
             Opened::Session(debugging) => talk_into(debugging, device, input, out, steps),
             Opened::Text(text, pieces) => sent_status(send_text(&text, pieces, out), 0),

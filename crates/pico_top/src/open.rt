@@ -1,30 +1,28 @@
 //! From the words to a machine that can run, or to what is refused.
 
-ghost use Rattle.std.specs.Prelude.{◌≡◌, ◌≤◌, ℕ, List, Option, Some, length, IfOk, [], ◌∷◌, ◌++◌, Ok, Err, map, IfErr};
+ghost use Rattle.std.specs.Prelude.{◌≡◌, ◌≤◌, ℕ, List, Option, Some, length, IfOk, IfErr, [], map};
 ghost use Rattle.std.specs.Option.{option_map};
 ghost use Rattle.std.specs.String.{string_bytes};
 ghost use Rattle.lane_look.specs.Device.{DeviceMeaning};
 ghost use Rattle.rp_ports.specs.Shelf.{Files};
-ghost use Rattle.uf2_image.specs.Uf2.{FitsSram, image_of};
+ghost use Rattle.uf2_image.specs.Uf2.{FitsSram};
 ghost use Rattle.pin_script.specs.Script.{script_of};
 ghost use Rattle.startup_blocks.specs.Table.{HaveBytes};
-ghost use Rattle.rp_machine.specs.Boot.{AreLoads, start, IsLoad};
+ghost use Rattle.rp_machine.specs.Boot.{AreLoads, start};
 ghost use Rattle.board_parts.specs.Hearing.{Aim};
-ghost use Rattle.command_words.specs.Refusals.Refusal.{BadImage, BadScript};
+ghost use Rattle.command_words.specs.Refusals.Refusal.{BadScript};
 ghost use Rattle.command_words.specs.Words.Command.{Assemble, AssembleThumb, Disassemble, Generate};
 ghost use Rattle.command_words.specs.Read.{run_in, command_in, entry_in};
-ghost use Rattle.pico_top.specs.Dialogue.{with_image, with_linked, with_run, with_script, with_program, Placed};
-ghost use Rattle.pico_top.specs.declared.open.Unopened.TheVariants.{Memory};
-ghost use Rattle.pico_top.specs.Opening.{Opens, OpensFor, LoadsAs, Passes, Judges, Boots, use_for, taken_by, ArePlaced, Adds, AddsBehind, LoadsAll, offset_part, source_part};
-ghost use Rattle.pio_asm.specs.Fitting.{IsRunnable};
-ghost use Rattle.pio_asm.specs.Placing.{placed};
-ghost use Rattle.pio_asm.specs.Assembly.{Plan, IsProgram};
+ghost use Rattle.pico_top.specs.Dialogue.{Dialogue, with_image, with_linked, with_run, with_script, with_program, with_programs, Placed};
+ghost use Rattle.pico_top.specs.Dialogue.Dialogue.{Load};
+ghost use Rattle.pico_top.specs.declared.outcome.Unopened.TheVariants.{Memory};
+ghost use Rattle.pico_top.specs.Opening.{Leads, OpensFor, Passes, Judges, Boots, opened_dialogue, use_for, taken_by, ArePlaced, Places};
 
+use crate::outcome::{Debugging, Opened, Pieces, Purpose, Started, Unopened};
 use command_words::refusal::Refusal;
 use command_words::{DisWords, GenWords, PioEntry, Reading, RunWords};
 use lane_look::Device;
 use pin_script::{Script, ScriptFault, read_script};
-use pio_asm::Program;
 use pio_asm::listing::{first_program, listing, offset_for, programs_in, with_addresses};
 use pio_disasm::write_source;
 use pio_parse::PioFault;
@@ -32,7 +30,7 @@ use reverse_debug::Session;
 use rp_machine::{Machine, PioLoad, World};
 use rp_ports::shelf::{Loaded, Shelf};
 use startup_blocks::{StartFault, link};
-use std::alloc::{AllocError, Global};
+use std::alloc::Global;
 use thumb_asm::{ThumbFault, assemble_thumb};
 use uf2_image::numbered::generated;
 use uf2_image::{Image, ImageFault, read_image, write_image};
@@ -46,76 +44,6 @@ const SCRIPT_LIMIT: usize = 4_194_304;
 /// A source file has at most 1 MiB.
 pub const SOURCE_LIMIT: usize = 1_048_576;
 
-/// Why nothing is opened.
-#[derive(Drop)]
-pub enum Unopened {
-    /// The words or an input are refused.
-    Refusing(Refusal),
-    /// There was no memory left.
-    Memory,
-}
-
-impl From<AllocError> for Unopened {
-    ghost from_gives = { λ _ unopened. unopened ≡ Memory };
-
-    fn from(_error: AllocError) -> Unopened {
-        Unopened::Memory
-    }
-}
-
-/// A machine that can run, with its script and its limit of cycles.
-#[derive(Drop)]
-pub struct Started {
-    /// The machine before its first cycle.
-    pub machine: Machine,
-    /// The levels that drive its pins.
-    pub script: Script,
-    /// The limit, 1 to 1,000,000,000.
-    pub limit: u64,
-    /// Whether the counts of its windows are asked for.
-    pub stats: bool,
-}
-
-/// A session of the debugger, with the script of its run and the limit of cycles.
-#[derive(Drop)]
-pub struct Debugging {
-    /// The session before its first line.
-    pub session: Session,
-    /// The levels that drive the pins.
-    pub script: Script,
-    /// The limit, 1 to 1,000,000,000.
-    pub limit: u64,
-}
-
-/// What a machine is booted for.
-#[derive(Clone, Copy, Debug, PartialEq, Eq)]
-pub enum Purpose {
-    /// It runs up to its first stop; whether the counts of its windows are asked for.
-    Run(bool),
-    /// The debugger goes to and fro in its run.
-    Debug,
-}
-
-/// The pieces in which a text is put.
-#[derive(Clone, Copy, Debug, PartialEq, Eq)]
-pub enum Pieces {
-    /// Its lines.
-    Lines,
-    /// The blocks of a UF2 file.
-    Blocks,
-}
-
-/// What stands when the files are loaded.
-#[derive(Drop)]
-pub enum Opened {
-    /// A machine that can run.
-    Machine(Started),
-    /// A session that can hear lines.
-    Session(Debugging),
-    /// A text that needs no machine.
-    Text(Vec<u8>, Pieces),
-}
-
 /// Loads a file of at most so many bytes.
 pub fn load<F: Shelf>(
     alloc: Global,
@@ -124,8 +52,9 @@ pub fn load<F: Shelf>(
     files: &mut F,
 ) -> Result<Vec<u8>, Unopened>
     ensures kept { F.files files.new ≡ F.files files.old }
-    ensures answer { LoadsAs (F.files files.old) (F.failed files.old)
-        (F.failed files.new) name.now limit result }
+    ensures answer { (next : List ℕ → Dialogue) → Leads (F.files files.old) (F.failed files.old)
+        (F.failed files.new) (λ bytes. next bytes.items) (Load name.now limit next) result }
+    ensures within { IfOk result (λ bytes. length bytes.items ≤ limit) }
 {
     let mut bytes = Vec::new(alloc);
     match files.load(name, limit, &mut bytes) {
@@ -142,20 +71,6 @@ pub fn load<F: Shelf>(
     }
 }
 
-/// The image of a file's bytes.
-fn image_in(alloc: Global, bytes: &[u8]) -> Result<Image, Unopened>
-    requires { length bytes.now ≤ IMAGE_LIMIT }
-    ensures image { Judges (image_of bytes.now) BadImage result }
-    ensures fits { IfOk result FitsSram }
-    ensures have { IfOk result (λ image. HaveBytes image.parts) }
-{
-    match read_image(alloc, bytes) {
-        Ok(image) => Ok(image),
-        Err(ImageFault::Memory) => Err(Unopened::Memory),
-        Err(fault) => Err(Unopened::Refusing(Refusal::Image(fault))),
-    }
-}
-
 /// Loads an image file and reads it.
 fn open_image<F: Shelf>(alloc: Global, name: &str, files: &mut F) -> Result<Image, Unopened>
     ensures kept { F.files files.new ≡ F.files files.old }
@@ -165,7 +80,11 @@ fn open_image<F: Shelf>(alloc: Global, name: &str, files: &mut F) -> Result<Imag
     ensures have { IfOk result (λ image. HaveBytes image.parts) }
 {
     let bytes = load(alloc, name, IMAGE_LIMIT, files)?;
-    image_in(alloc, &bytes)
+    match read_image(alloc, &bytes) {
+        Ok(image) => Ok(image),
+        Err(ImageFault::Memory) => Err(Unopened::Memory),
+        Err(fault) => Err(Unopened::Refusing(Refusal::Image(fault))),
+    }
 }
 
 /// An image as a run boots it: linked with the table of routines, where that is asked for.
@@ -226,7 +145,8 @@ fn boot<X: Device>(
     requires image { FitsSram image.now }
     requires loads { AreLoads loads.now }
     requires limit { limit ≤ 1000000000 }
-    ensures { Boots purpose (start (X.meaning device.now) image.now loads.now) script limit result }
+    ensures ok { IfOk result (Boots purpose (start (X.meaning device.now) image.now loads.now) script limit) }
+    ensures err { IfErr result (λ unopened. unopened ≡ Memory) }
 {
     let world = World {
         script: &script,
@@ -258,9 +178,8 @@ fn open_run<F: Shelf, X: Device>(
     device: &X,
 ) -> Result<Opened, Unopened>
     ensures kept { F.files files.new ≡ F.files files.old }
-    ensures answer { (aims : List Aim)
-        → Opens (F.files files.old) (F.failed files.old) (F.failed files.new)
-        (X.meaning device.now) aims
+    ensures answer { (aims : List Aim) → Leads (F.files files.old) (F.failed files.old) (F.failed files.new)
+        (opened_dialogue (X.meaning device.now) aims)
         (with_run (use_for aims purpose) (X.meaning device.now) (run_in run.now)) result }
 {
     let image = open_image(alloc, run.image.as_str(), files)?;
@@ -333,8 +252,7 @@ pub fn open_reading<F: Shelf, X: Device>(
 ) -> Result<Opened, Unopened>
     ensures kept { F.files files.new ≡ F.files files.old }
     ensures answer { OpensFor (F.files files.old) (F.failed files.old) (F.failed files.new)
-        (X.meaning device.now)
-        (command_in reading.now) result }
+        (X.meaning device.now) (command_in reading.now) result }
 {
     match reading {
         Reading::Run(run) => open_run(alloc, Purpose::Run(run.stats), run, files, device),
@@ -360,82 +278,7 @@ fn taken(block: u8, loads: &[PioLoad]) -> u32
     used
 }
 
-/// A program at its offset behind others.
-fn load_of(entry: &PioEntry, program: Program, others: &[PioLoad]) -> Result<PioLoad, PioFault>
-    requires others { AreLoads others.now }
-    requires runs { IsRunnable program }
-    ensures load { IfOk result IsLoad }
-    ensures parts { IfOk result (λ load.
-        load ≡ record {
-          block = entry.now.block;
-          machine = entry.now.machine;
-          offset = load.offset;
-          program = program;
-        }) }
-    ensures ok { IfOk result (λ load. placed (taken_by 0 entry.now.block others.now) program.origin
-        (length program.words.items) ≡ Ok load.offset) }
-    ensures err { IfErr result (λ fault. placed
-        (taken_by 0 entry.now.block others.now) program.origin
-        (length program.words.items) ≡ Err fault) }
-{
-    match offset_for(taken(entry.block, others), &program) {
-        Ok(offset) => Ok(PioLoad {
-            block: entry.block,
-            machine: entry.machine,
-            offset,
-            program,
-        }),
-        Err(fault) => Err(fault),
-    }
-}
-
-/// Adds a load behind others.
-fn add(load: PioLoad, loads: &mut Vec<PioLoad>) -> Result<(), Unopened>
-    ensures ok { IfOk result (λ done. loads.new.items ≡ loads.old.items ++ load ∷ []) }
-    ensures err { IfErr result (λ unopened. unopened ≡ Memory) }
-{
-    match loads.push(load) {
-        Ok(()) => Ok(()),
-        Err(_) => Err(Unopened::Memory),
-    }
-}
-
-/// Adds a program at its offset behind others.
-fn add_load(entry: &PioEntry, program: Program, loads: &mut Vec<PioLoad>) -> Result<(), Unopened>
-    requires loads { AreLoads loads.old.items }
-    requires runs { IsRunnable program }
-    ensures { (before : List Placed) (plan : Plan) → ArePlaced before loads.old.items
-        → IsProgram plan program
-        → AddsBehind (offset_part (entry_in entry.now) before plan) loads.new.items result }
-{
-    match load_of(entry, program, loads) {
-        Ok(load) => add(load, loads),
-        Err(fault) => Err(Unopened::Refusing(Refusal::Source(fault))),
-    }
-}
-
-/// Adds the first program of a source, if it has one, at its offset behind others.
-fn add_first(
-    alloc: Global,
-    entry: &PioEntry,
-    bytes: &[u8],
-    loads: &mut Vec<PioLoad>,
-) -> Result<(), Unopened>
-    requires { AreLoads loads.old.items }
-    ensures { (before : List Placed) → ArePlaced before loads.old.items
-        → AddsBehind (source_part (entry_in entry.now) before bytes.now) loads.new.items result }
-{
-    match first_program(alloc, bytes) {
-        Ok(found) => match found {
-            Some(program) => add_load(entry, program, loads),
-            None => Ok(()),
-        },
-        Err(PioFault::Memory) => Err(Unopened::Memory),
-        Err(fault) => Err(Unopened::Refusing(Refusal::Source(fault))),
-    }
-}
-
-/// Loads the source of an entry, and adds its first program behind others.
+/// Loads the source of an entry, and adds its first program, if it has one, at its offset behind others.
 fn open_program<F: Shelf>(
     alloc: Global,
     entry: &PioEntry,
@@ -444,12 +287,29 @@ fn open_program<F: Shelf>(
 ) -> Result<(), Unopened>
     requires { AreLoads loads.old.items }
     ensures kept { F.files files.new ≡ F.files files.old }
+    ensures loads { IfOk result (λ done. AreLoads loads.new.items) }
     ensures answer { (before : List Placed) → ArePlaced before loads.old.items
-        → Adds (F.files files.old) (F.failed files.old) (F.failed files.new)
-        (with_program (entry_in entry.now) before) loads.new.items result }
+        → Places (F.files files.old) (F.failed files.old) (F.failed files.new)
+        (with_program (entry_in entry.now) before) [] (λ done. loads.new.items) result }
 {
     let bytes = load(alloc, entry.file.as_str(), SOURCE_LIMIT, files)?;
-    add_first(alloc, entry, &bytes, loads)
+    match first_program(alloc, &bytes) {
+        Ok(Some(program)) => match offset_for(taken(entry.block, loads), &program) {
+            Ok(offset) => match loads.push(PioLoad {
+                block: entry.block,
+                machine: entry.machine,
+                offset,
+                program,
+            }) {
+                Ok(()) => Ok(()),
+                Err(_) => Err(Unopened::Memory),
+            },
+            Err(fault) => Err(Unopened::Refusing(Refusal::Source(fault))),
+        },
+        Ok(None) => Ok(()),
+        Err(PioFault::Memory) => Err(Unopened::Memory),
+        Err(fault) => Err(Unopened::Refusing(Refusal::Source(fault))),
+    }
 }
 
 /// Loads the programs of all entries, each behind those before it.
@@ -459,8 +319,9 @@ pub fn open_programs<F: Shelf>(
     files: &mut F,
 ) -> Result<Vec<PioLoad>, Unopened>
     ensures kept { F.files files.new ≡ F.files files.old }
-    ensures answer { LoadsAll (F.files files.old) (F.failed files.old) (F.failed files.new)
-        (map entry_in entries.now) result }
+    ensures loads { IfOk result (λ loads. AreLoads loads.items) }
+    ensures answer { Places (F.files files.old) (F.failed files.old) (F.failed files.new)
+        (with_programs (map entry_in entries.now) []) [] (λ loads. loads.items) result }
 {
     let mut loads = Vec::new(alloc);
     for entry in entries {

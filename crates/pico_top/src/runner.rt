@@ -14,7 +14,7 @@ ghost use Rattle.rp_machine.specs.Run.{last_state};
 ghost use Rattle.window_runner.specs.Told.{run_shown};
 ghost use Rattle.window_runner.specs.Alone.{IsOnRun};
 ghost use Rattle.window_runner.specs.Windows.{answered, OnMemory};
-ghost use Rattle.pico_top.specs.Teller.{IsRanFor, RunsTo};
+ghost use Rattle.pico_top.specs.Teller.{IsRanFor};
 
 use crate::tell::put_line;
 use arrayvec::ArrayVec;
@@ -138,7 +138,7 @@ pub struct Workers<'a, G: Gate, R: Threads + Wait + Sync> {
 /// # Errors
 ///
 /// `Sink`: the tape failed at an event. `Memory`: there was none for the windows; nothing has changed.
-fn run_by_one<X: Device, T: Tape, L: Ledger>(
+pub fn run_by_one<X: Device, T: Tape, L: Ledger>(
     stats: bool,
     alloc: Global,
     machine: &mut Machine,
@@ -175,105 +175,4 @@ fn run_by_one<X: Device, T: Tape, L: Ledger>(
             Err(_) => Err(RunFault::Sink),
         }
     }
-}
-
-/// Runs a machine up to its first stop on the calling thread alone and tells its events. Each cycle counts as a step.
-fn run_told<X: Device, O: Sink, L: Ledger>(
-    stats: bool,
-    alloc: Global,
-    machine: &mut Machine,
-    world: &World<'_, X>,
-    teller: &mut Teller<'_, O>,
-    steps: &mut Steps<L>,
-) -> Result<Ran, RunFault>
-    requires number { machine.old.cycle ≤ world.now.limit }
-    ensures told { RunsTo stats (setting X.meaning world.now) machine.old machine.new
-        (seen teller.old.probes.now (λ a. aim_of a.index a.pin (⟦<dyn Probe as Probe>⟧ a.probe.vtable) a.probe.value))
-        (seen teller.new.probes.now (λ a. aim_of a.index a.pin (⟦<dyn Probe as Probe>⟧ a.probe.vtable) a.probe.value))
-        (sunk ⟦<O as Sink>⟧ teller.old.out.now) (sunk ⟦<O as Sink>⟧ teller.new.out.now) steps.old steps.new result }
-    ensures same_sink { teller.new.out.ghost_name ≡ teller.old.out.ghost_name }
-    ensures same_probes { teller.new.probes.ghost_name ≡ teller.old.probes.ghost_name }
-{
-    run_by_one(stats, alloc, machine, world, teller, steps)
-}
-
-/// Runs a machine up to its first stop with workers and tells its events. Each cycle counts as a step.
-fn run_told_by<X: Device, O: Sink, G: Gate, L: Ledger, R: Threads + Wait + Sync>(
-    stats: bool,
-    alloc: Global,
-    workers: &Workers<'_, G, R>,
-    machine: &mut Machine,
-    world: &World<'_, X>,
-    teller: &mut Teller<'_, O>,
-    steps: &mut Steps<L>,
-) -> Result<Ran, RunFault>
-    requires number { machine.old.cycle ≤ world.now.limit }
-    ensures told { RunsTo stats (setting X.meaning world.now) machine.old machine.new
-        (seen teller.old.probes.now (λ a. aim_of a.index a.pin (⟦<dyn Probe as Probe>⟧ a.probe.vtable) a.probe.value))
-        (seen teller.new.probes.now (λ a. aim_of a.index a.pin (⟦<dyn Probe as Probe>⟧ a.probe.vtable) a.probe.value))
-        (sunk ⟦<O as Sink>⟧ teller.old.out.now) (sunk ⟦<O as Sink>⟧ teller.new.out.now) steps.old steps.new result }
-    ensures same_sink { teller.new.out.ghost_name ≡ teller.old.out.ghost_name }
-    ensures same_probes { teller.new.probes.ghost_name ≡ teller.old.probes.ghost_name }
-{
-    let count = usize::from(workers.count);
-    run_windows(
-        workers.rt,
-        alloc,
-        machine,
-        world,
-        count,
-        workers.gate,
-        teller,
-        steps,
-    )
-}
-
-/// Runs a machine up to its first stop on the calling thread alone, lets the probes hear the events, and puts their lines. Each
-/// cycle counts as a step.
-pub fn run_to_stop<X: Device, O: Sink, L: Ledger>(
-    stats: bool,
-    alloc: Global,
-    machine: &mut Machine,
-    world: &World<'_, X>,
-    probes: &mut [Aimed],
-    out: &mut O,
-    steps: &mut Steps<L>,
-) -> Result<Ran, RunFault>
-    requires number { machine.old.cycle ≤ world.now.limit }
-    ensures { RunsTo stats (setting X.meaning world.now) machine.old machine.new
-        (seen probes.old (λ a. aim_of a.index a.pin (⟦<dyn Probe as Probe>⟧ a.probe.vtable) a.probe.value))
-        (seen probes.new (λ a. aim_of a.index a.pin (⟦<dyn Probe as Probe>⟧ a.probe.vtable) a.probe.value))
-        (sunk ⟦<O as Sink>⟧ out.old) (sunk ⟦<O as Sink>⟧ out.new) steps.old steps.new result }
-{
-    let mut teller = Teller {
-        out,
-        probes,
-        boxed: PhantomData,
-    };
-    run_told(stats, alloc, machine, world, &mut teller, steps)
-}
-
-/// The same with workers.
-pub fn run_to_stop_by<X: Device, O: Sink, G: Gate, L: Ledger, R: Threads + Wait + Sync>(
-    stats: bool,
-    alloc: Global,
-    workers: &Workers<'_, G, R>,
-    machine: &mut Machine,
-    world: &World<'_, X>,
-    probes: &mut [Aimed],
-    out: &mut O,
-    steps: &mut Steps<L>,
-) -> Result<Ran, RunFault>
-    requires number { machine.old.cycle ≤ world.now.limit }
-    ensures { RunsTo stats (setting X.meaning world.now) machine.old machine.new
-        (seen probes.old (λ a. aim_of a.index a.pin (⟦<dyn Probe as Probe>⟧ a.probe.vtable) a.probe.value))
-        (seen probes.new (λ a. aim_of a.index a.pin (⟦<dyn Probe as Probe>⟧ a.probe.vtable) a.probe.value))
-        (sunk ⟦<O as Sink>⟧ out.old) (sunk ⟦<O as Sink>⟧ out.new) steps.old steps.new result }
-{
-    let mut teller = Teller {
-        out,
-        probes,
-        boxed: PhantomData,
-    };
-    run_told_by(stats, alloc, workers, machine, world, &mut teller, steps)
 }

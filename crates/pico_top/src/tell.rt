@@ -6,13 +6,14 @@ ghost use Rattle.board_parts.specs.Hearing.{aim_of, aim_text, seen};
 ghost use Rattle.pico_top.specs.Dialogue.{sunk, Drawn, drawn, hear, input_limit, run_reply, say, session_reply};
 ghost use Rattle.pico_top.specs.Answer.{Writes, Puts, RunsOut, sent_status};
 ghost use Rattle.pico_top.specs.RunText.{counts_text, end_text, probe_lines};
+ghost use Rattle.outer_lane.specs.Setting.{setting_of};
 ghost use Rattle.reverse_debug.specs.Debugger.{quits};
 ghost use Rattle.reverse_debug.specs.Hear.{way_line, way_status};
-ghost use Rattle.reverse_debug.specs.Session.{first_of, OpensAt};
-ghost use Rattle.pico_top.specs.Opening.{setting_in, setting_by, PutsRefusal, Concludes};
+ghost use Rattle.reverse_debug.specs.Session.{first_of};
+ghost use Rattle.pico_top.specs.Opening.{PutsRefusal, Concludes};
 
-use crate::open::{Debugging, Pieces, Started, Unopened};
-use crate::runner::{Workers, run_to_stop, run_to_stop_by};
+use crate::outcome::{Debugging, Pieces, Started, Unopened};
+use crate::runner::{Teller, Workers, run_by_one};
 use arrayvec::ArrayVec;
 use board_parts::aimed::Aimed;
 use board_parts::probe::Probe;
@@ -32,7 +33,7 @@ use std::thread::Threads;
 use trace_text::line::{push_number, push_text, register_line, stop_line};
 use trace_text::writer::{SinkFault, Writer};
 use window_runner::alone::Ran;
-use window_runner::windows::RunFault;
+use window_runner::windows::{RunFault, run_windows};
 
 /// A block of a UF2 file has so many bytes.
 const BLOCK: usize = 512;
@@ -126,19 +127,6 @@ pub fn send_last<O: Sink>(
     send_counts(stats, ran, out)
 }
 
-/// The index behind the first line that begins at an index.
-fn line_end(text: &[u8], from: usize) -> usize
-    requires { from < length text.now }
-    ensures after { from < result }
-    ensures within { result ≤ length text.now }
-{
-    let (_, rest) = text.split_at(from);
-    match rest.iter().position(|byte| *byte == b'\n') {
-        Some(index) => from + index + 1,
-        None => text.len(),
-    }
-}
-
 /// The index behind the first piece that begins at an index: a line or a block.
 fn piece_end(text: &[u8], pieces: Pieces, from: usize) -> usize
     requires { from < length text.now }
@@ -146,7 +134,13 @@ fn piece_end(text: &[u8], pieces: Pieces, from: usize) -> usize
     ensures within { result ≤ length text.now }
 {
     match pieces {
-        Pieces::Lines => line_end(text, from),
+        Pieces::Lines => {
+            let (_, rest) = text.split_at(from);
+            match rest.iter().position(|byte| *byte == b'\n') {
+                Some(index) => from + index + 1,
+                None => text.len(),
+            }
+        }
         Pieces::Blocks if text.len() - from > BLOCK => from + BLOCK,
         Pieces::Blocks => text.len(),
     }
@@ -183,16 +177,15 @@ pub fn sent_status(sent: Result<(), SinkFault>, status: u8) -> u8
 pub fn run_into<X: Device, O: Sink, L: Ledger>(
     alloc: Global,
     started: Started,
-    probes: &mut [Aimed],
+    teller: &mut Teller<'_, O>,
     device: &X,
-    out: &mut O,
     steps: &mut Steps<L>,
 ) -> u8
-    requires number { started.machine.cycle ≤ started.limit }
-    ensures { (source : Drawn) → Concludes (say (run_reply started.stats
-        (seen probes.old (λ a. aim_of a.index a.pin (⟦<dyn Probe as Probe>⟧ a.probe.vtable) a.probe.value))
-        (setting_in (X.meaning device.now) started) started.machine)) source source
-        (sunk ⟦<O as Sink>⟧ out.old) (sunk ⟦<O as Sink>⟧ out.new) steps.old steps.new result }
+    ensures told { (source : Drawn) → Concludes (say (run_reply started.stats
+        (seen teller.old.probes.now (λ a. aim_of a.index a.pin (⟦<dyn Probe as Probe>⟧ a.probe.vtable) a.probe.value))
+        (setting_of started.script (X.meaning device.now) started.limit) started.machine)) source source
+        (sunk ⟦<O as Sink>⟧ teller.old.out.now) (sunk ⟦<O as Sink>⟧ teller.new.out.now) steps.old steps.new result }
+    ensures same_sink { teller.new.out.ghost_name ≡ teller.old.out.ghost_name }
 {
     let Started {
         mut machine,
@@ -205,10 +198,13 @@ pub fn run_into<X: Device, O: Sink, L: Ledger>(
         device,
         limit,
     };
-    match run_to_stop(stats, alloc, &mut machine, &world, probes, out, steps) {
-        Ok(ran) => sent_status(send_last(stats, &ran, &machine, probes, out), 0),
+    match run_by_one(stats, alloc, &mut machine, &world, teller, steps) {
+        Ok(ran) => {
+            let probes = &mut *teller.probes;
+            sent_status(send_last(stats, &ran, &machine, probes, teller.out), 0)
+        }
         Err(RunFault::Sink) => 7,
-        Err(RunFault::Memory) => run_out(out),
+        Err(RunFault::Memory) => run_out(teller.out),
     }
 }
 
@@ -217,16 +213,15 @@ pub fn run_into_by<X: Device, O: Sink, G: Gate, L: Ledger, R: Threads + Wait + S
     alloc: Global,
     workers: &Workers<'_, G, R>,
     started: Started,
-    probes: &mut [Aimed],
+    teller: &mut Teller<'_, O>,
     device: &X,
-    out: &mut O,
     steps: &mut Steps<L>,
 ) -> u8
-    requires number { started.machine.cycle ≤ started.limit }
-    ensures { (source : Drawn) → Concludes (say (run_reply started.stats
-        (seen probes.old (λ a. aim_of a.index a.pin (⟦<dyn Probe as Probe>⟧ a.probe.vtable) a.probe.value))
-        (setting_in (X.meaning device.now) started) started.machine)) source source
-        (sunk ⟦<O as Sink>⟧ out.old) (sunk ⟦<O as Sink>⟧ out.new) steps.old steps.new result }
+    ensures told { (source : Drawn) → Concludes (say (run_reply started.stats
+        (seen teller.old.probes.now (λ a. aim_of a.index a.pin (⟦<dyn Probe as Probe>⟧ a.probe.vtable) a.probe.value))
+        (setting_of started.script (X.meaning device.now) started.limit) started.machine)) source source
+        (sunk ⟦<O as Sink>⟧ teller.old.out.now) (sunk ⟦<O as Sink>⟧ teller.new.out.now) steps.old steps.new result }
+    ensures same_sink { teller.new.out.ghost_name ≡ teller.old.out.ghost_name }
 {
     let Started {
         mut machine,
@@ -239,19 +234,23 @@ pub fn run_into_by<X: Device, O: Sink, G: Gate, L: Ledger, R: Threads + Wait + S
         device,
         limit,
     };
-    match run_to_stop_by(
-        stats,
+    let count = usize::from(workers.count);
+    match run_windows(
+        workers.rt,
         alloc,
-        workers,
         &mut machine,
         &world,
-        probes,
-        out,
+        count,
+        workers.gate,
+        teller,
         steps,
     ) {
-        Ok(ran) => sent_status(send_last(stats, &ran, &machine, probes, out), 0),
+        Ok(ran) => {
+            let probes = &mut *teller.probes;
+            sent_status(send_last(stats, &ran, &machine, probes, teller.out), 0)
+        }
         Err(RunFault::Sink) => 7,
-        Err(RunFault::Memory) => run_out(out),
+        Err(RunFault::Memory) => run_out(teller.out),
     }
 }
 
@@ -282,9 +281,8 @@ pub fn talk_into<I: Source, X: Device, O: Sink, L: Ledger>(
     out: &mut O,
     steps: &mut Steps<L>,
 ) -> u8
-    requires opened { OpensAt (first_of debugging.session) debugging.limit debugging.session }
     ensures { Concludes (hear input_limit quits
-        (session_reply (setting_by (X.meaning device.now) debugging) (first_of debugging.session)))
+        (session_reply (setting_of debugging.script (X.meaning device.now) debugging.limit) (first_of debugging.session)))
         (drawn ⟦<I as Source>⟧ input.old) (drawn ⟦<I as Source>⟧ input.new)
         (sunk ⟦<O as Sink>⟧ out.old) (sunk ⟦<O as Sink>⟧ out.new) steps.old steps.new result }
 {

@@ -1,21 +1,15 @@
-use Rattle.pico_top.proofs.Names.{refl, []}
+use Rattle.pico_top.proofs.Names.{refl, sym}
 use Rattle.pico_top.specs.Dialogue.{drawn}
 use Rattle.pico_top.proofs.Telling.{out_converses, opened_converses, unopened_converses, tells_text}
 use Rattle.pico_top.proofs.serve_with_by.Goals as goal
-
-pub run_into_by-requires-clause-number : goal.run_into_by-requires-clause-number
-run_into_by-requires-clause-number g c κs within = rw c.in-Machine.is at (c.in-Ok-open_reading.ensures.answer []).1
-
-pub talk_into-requires-clause-opened : goal.talk_into-requires-clause-opened
-talk_into-requires-clause-opened g c κs within = rw c.in-Session.is at (c.in-Ok-open_reading.ensures.answer []).1
 
 pub returns-in_default : goal.returns-in_default
 returns-in_default g c = out_converses _ _ _ _ refl refl refl c.refuse.ensures refl
 
 pub returns-in-Machine : goal.returns-in-Machine
 returns-in-Machine g c =
-    let told = rw (c.deref_mut.ensures.value, c.in-Ok.ensures, c.targets.ensures) at (c.run_into_by.ensures (drawn g.I.Source c.args.input.now)) in
-    opened_converses _ _ _ _ _ _ _ (c.in-Ok-open_reading.ensures.answer _) c.in-Ok-open_reading.ensures.kept (rw c.in-Machine.is told)
+    let told = rw (c.deref_mut.ensures.value, c.in-Ok.ensures, c.targets.ensures) at (c.run_into_by.ensures.told (drawn g.I.Source c.args.input.now)) in
+    rw (c.out-1.given.1 (sym c.run_into_by.ensures.same_sink)) (opened_converses _ _ _ _ _ _ _ (c.in-Ok-open_reading.ensures.answer _) c.in-Ok-open_reading.ensures.kept (rw c.in-Machine.is told))
 
 pub returns-in-Session : goal.returns-in-Session
 returns-in-Session g c =
@@ -26,4 +20,4 @@ returns-in-Ok-open_reading g c =
     opened_converses _ _ _ _ _ _ _ (c.in-Ok-open_reading.ensures.answer _) c.in-Ok-open_reading.ensures.kept (rw c.in-Text.is (tells_text _ _ _ _ _ _ (_, rw c.deref.ensures.value at c.send_text.ensures, c.sent_status.ensures)))
 
 pub returns : goal.returns
-returns g c = unopened_converses _ _ _ _ _ (c.in-Err.ensures.answer _) c.in-Err.ensures.kept refl c.refuse-in-Err.ensures refl
+returns g c = unopened_converses _ _ _ _ _ (c.in-Err.ensures.answer _).ended c.in-Err.ensures.kept refl c.refuse-in-Err.ensures refl

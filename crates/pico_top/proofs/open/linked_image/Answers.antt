@@ -1,6 +1,6 @@
-use Rattle.pico_top.proofs.Names.{with_linked}
-use Rattle.pico_top.proofs.Walking.{runs_out}
+use Rattle.pico_top.proofs.Walking.{leads_out}
+use Rattle.pico_top.proofs.Names.{Err, Memory, refl}
 use Rattle.pico_top.proofs.open.linked_image.Goals as goal
 
 pub returns-in-Err-Memory-clause-answer : goal.returns-in-Err-Memory-clause-answer
-returns-in-Err-Memory-clause-answer c files failed next = runs_out files failed (with_linked c.args.table next c.args.image)
+returns-in-Err-Memory-clause-answer c files failed next = leads_out (Err Memory) refl

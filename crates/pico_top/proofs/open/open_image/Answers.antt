@@ -1,13 +1,27 @@
-use Rattle.pico_top.proofs.Names.{List, ℕ, refl, subst, err_from_is_err_and, image_of, BadImage, judge, image_limit, Judges}
-use Rattle.pico_top.proofs.Walking.{file_passes}
+use Rattle.std.proofs.Common.{rules, ◌≡◌, Err, refl}
+use Rattle.pico_top.proofs.Names.{image_of, BadImage}
+use Rattle.pico_top.proofs.Walking.{file_leads, judge_leads, judge_refuses, leads_cut, leads_out, read_has_bytes}
 use Rattle.pico_top.proofs.open.open_image.Goals as goal
 
 pub returns-in_err-bytes-clause-answer : goal.returns-in_err-bytes-clause-answer
-returns-in_err-bytes-clause-answer g c =
-    let p = err_from_is_err_and c.from_residual.result c.from_residual.ensures.1 in
-    rw (p.1, p.2) (λ next. c.in_err-bytes.ensures.answer (λ bytes. judge (image_of bytes) BadImage next))
+returns-in_err-bytes-clause-answer g c next = leads_cut _ c.from_residual.ensures.1 (c.in_err-bytes.ensures.answer _)
 
-pub returns-clause-answer : goal.returns-clause-answer
-returns-clause-answer g c =
-    let judged = subst (λ (bs : List ℕ). Judges (image_of bs) BadImage c.image_in.result) c.deref.ensures.value c.image_in.ensures.image in
-    file_passes _ _ _ _ image_limit c.in_ok-bytes.bytes.items image_of BadImage _ (λ fault. refl) c.in_ok-bytes.ensures.answer.0 c.in_ok-bytes.ensures.answer.1 judged
+pub returns-in-Ok-clause-answer : goal.returns-in-Ok-clause-answer
+returns-in-Ok-clause-answer g c next =
+    file_leads image_of BadImage _ _ c.in_ok-bytes.ensures.answer (judge_leads _ BadImage _ next (λ fault. refl) (rw c.deref.ensures.value at c.in-Ok.ensures.image))
+
+pub returns-in-Ok-clause-have : goal.returns-in-Ok-clause-have
+returns-in-Ok-clause-have g c = read_has_bytes _ _ c.in_ok-bytes.ensures.within (rw c.deref.ensures.value at c.in-Ok.ensures.image)
+
+pub returns-in-Err-Memory-clause-answer : goal.returns-in-Err-Memory-clause-answer
+returns-in-Err-Memory-clause-answer g c next = file_leads image_of BadImage _ _ c.in_ok-bytes.ensures.answer (leads_out _ refl)
+
+pub returns : goal.returns
+returns g c =
+    let is : image_of c.deref.result.now ≡ Err c.in-Err.fault = search rules in
+    record {
+      kept = c.in_ok-bytes.ensures.kept;
+      answer = λ next. file_leads image_of BadImage _ _ c.in_ok-bytes.ensures.answer (judge_refuses BadImage _ c.in-Err.fault _ (rw c.deref.ensures.value at is) refl refl);
+      fits = tt;
+      have = tt;
+    }

@@ -1,16 +1,57 @@
-use Rattle.pico_top.proofs.Names.{List, ℕ, subst, Err, err_from_is_err_and, entry_in, Answers, Done, source_limit, AddsBehind, LoadsAs, source_part}
-use Rattle.pico_top.proofs.Walking.{entry_adds, entry_lost}
+use Rattle.pico_top.proofs.Names.{rules, ◌≡◌, [], Err, Memory, BadSource, entry_in, plans_of, refl}
+use Rattle.pico_top.proofs.Walking.{file_leads, first_none, first_placed, first_refused, first_some, judge_refuses, leads_behind, leads_out, loads_push, places_end}
 use Rattle.pico_top.proofs.open.open_program.Goals as goal
-
-pub returns-clause-answer : goal.returns-clause-answer
-returns-clause-answer g c before h =
-    let bytes : Answers (g.F.Shelf.files c.args.files.now) (entry_in c.args.entry.now).file source_limit Done c.in_ok-bytes.bytes.items =
-    subst (λ (n : List ℕ). Answers (g.F.Shelf.files c.args.files.now) n source_limit Done c.in_ok-bytes.bytes.items) c.as_str.ensures.value c.in_ok-bytes.ensures.answer.0 in
-    let adds = subst (λ (bs : List ℕ). AddsBehind (source_part (entry_in c.args.entry.now) before bs) c.add_first.new.loads.items c.add_first.result) c.deref.ensures.value (c.add_first.ensures before h) in
-    entry_adds (g.F.Shelf.files c.args.files.now) (g.F.Shelf.failed c.args.files.now) _ (entry_in c.args.entry.now) before c.add_first.new.loads.items c.in_ok-bytes.bytes.items c.add_first.result bytes c.in_ok-bytes.ensures.answer.1 adds
 
 pub returns-in_err-bytes-clause-answer : goal.returns-in_err-bytes-clause-answer
 returns-in_err-bytes-clause-answer g c before h =
-    let p = err_from_is_err_and c.from_residual.result c.from_residual.ensures.1 in
-    let lost = subst (λ (n : List ℕ). LoadsAs (g.F.Shelf.files c.args.files.now) (g.F.Shelf.failed c.args.files.now) (g.F.Shelf.failed c.load.new.files) n source_limit (Err c.in_err-bytes.field-0.0)) c.as_str.ensures.value c.in_err-bytes.ensures.answer in
-    rw (p.1, p.2) (entry_lost (g.F.Shelf.files c.args.files.now) (g.F.Shelf.failed c.args.files.now) _ (entry_in c.args.entry.now) before c.args.loads.now.items c.in_err-bytes.field-0.0 lost)
+    rw (← c.as_str.ensures.value) (places_end _ _ c.from_residual.ensures.1 (λ next. (c.in_err-bytes.ensures.answer _).ended))
+
+pub returns-in-Ok-push-clause-loads : goal.returns-in-Ok-push-clause-loads
+returns-in-Ok-push-clause-loads g c =
+    let runs = (first_some _ _ (rw c.in-Ok-Some.field-0-is at c.in-Ok-Some.ensures.ok)).4 in
+    rw c.in-Ok-push.ensures.items (loads_push _ _ c.requires (record {
+      block = c.args.entry.now.block_within;
+      machine = c.args.entry.now.machine_within;
+      room = c.in-Ok.ensures.room;
+      target = runs.target;
+      wrap = runs.wrap;
+      side = runs.side;
+    }))
+
+pub returns-in-Ok-push-clause-answer : goal.returns-in-Ok-push-clause-answer
+returns-in-Ok-push-clause-answer g c before h =
+    let file = rw c.as_str.ensures.value at c.in_ok-bytes.ensures.answer in
+    let first = rw (c.in-Ok-Some.field-0-is, c.deref.ensures.value) at c.in-Ok-Some.ensures.ok in
+    first_placed (entry_in c.args.entry.now) before _ _ _ _ file h first c.in-Ok-push.ensures.items refl (rw (c.taken.ensures, c.deref-in-Ok-Some.ensures.value) at c.in-Ok.ensures.ok)
+
+pub returns-in-Ok-clause-answer : goal.returns-in-Ok-clause-answer
+returns-in-Ok-clause-answer g c before h =
+    let file = rw c.as_str.ensures.value at c.in_ok-bytes.ensures.answer in
+    record { after = []; placed = tt; leads = λ next. leads_behind (Err Memory) (file _) refl (leads_out (Err Memory) refl) }
+
+pub returns-in-Ok-Some-clause-answer : goal.returns-in-Ok-Some-clause-answer
+returns-in-Ok-Some-clause-answer g c before h =
+    let file = rw c.as_str.ensures.value at c.in_ok-bytes.ensures.answer in
+    let first = rw (c.in-Ok-Some.field-0-is, c.deref.ensures.value) at c.in-Ok-Some.ensures.ok in
+    first_refused (entry_in c.args.entry.now) before _ _ _ file h first (rw (c.taken.ensures, c.deref-in-Ok-Some.ensures.value) at c.in-Err-offset_for.ensures.err)
+
+pub returns-in-Ok-None-clause-answer : goal.returns-in-Ok-None-clause-answer
+returns-in-Ok-None-clause-answer g c before h =
+    let file = rw c.as_str.ensures.value at c.in_ok-bytes.ensures.answer in
+    let none = first_none _ (rw (c.in-Ok-None.field-0-is, c.deref.ensures.value) at c.in-Ok-None.ensures.ok) in
+    record { after = before; placed = h; leads = λ next. leads_behind _ (file _) refl (record { found = (refl, λ e w. rw none w); ended = tt }) }
+
+pub returns-in-Err-Memory-clause-answer : goal.returns-in-Err-Memory-clause-answer
+returns-in-Err-Memory-clause-answer g c before h =
+    let file = rw c.as_str.ensures.value at c.in_ok-bytes.ensures.answer in
+    record { after = []; placed = tt; leads = λ next. leads_behind (Err Memory) (file _) refl (leads_out (Err Memory) refl) }
+
+pub returns-clause-answer : goal.returns-clause-answer
+returns-clause-answer g c before h =
+    let file = rw c.as_str.ensures.value at c.in_ok-bytes.ensures.answer in
+    let is : plans_of c.deref.result.now ≡ Err c.in-Err.fault = search rules in
+    record {
+      after = [];
+      placed = tt;
+      leads = λ next. file_leads plans_of BadSource _ _ file (judge_refuses BadSource _ c.in-Err.fault _ (rw c.deref.ensures.value at is) refl refl);
+    }
