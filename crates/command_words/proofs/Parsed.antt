@@ -1,7 +1,9 @@
 -- What a parse by the table gives.
-use Rattle.std.proofs.Common.{◌≡◌, ℕ, ◌+◌, ◌<◌, Bool, true, false, not, ◌&&◌, List, [], ◌∷◌, map, drop, length, get_or, drop-cons, add-one, Bor, Option, Some, None, option_map, refl, ap, ap₂, sym, ◌∙◌}
+use Rattle.std.proofs.Common.{◌≡◌, ℕ, ◌+◌, ◌<◌, Bool, true, false, not, ◌&&◌, List, [], ◌∷◌, map, drop, length, get_or, drop-cons, add-one, Bor, Option, Some, None, option_map, refl, ap, ap₂, sym, ◌∙◌, arith}
 use mathlib.Core.Path.{fun_ext}
 use Rattle.std.proofs.lemmas.Option.{none-some}
+use Rattle.std.proofs.lemmas.Bool.{and_parts}
+use Rattle.std.proofs.lemmas.Bool.Decides.{nat_tests}
 use Rattle.std.specs.Prelude.{Box, unwrap_or, if◌then◌else◌}
 use Rattle.std.specs.List.{fold}
 use Rattle.std.specs.Str.{bytes_eq}
@@ -23,10 +25,6 @@ use Rattle.clap.proofs.OnLiterals.{clap_on_literals}
 use Rattle.command_words.specs.Table.{Row as OptionRow, commands, options}
 use Rattle.command_words.specs.Line.{argument, rule_for, with_row, app_for, with_command, table, line_in, normal_line, line_found, without_fault}
 
-pub table_is_simple : is_simple table ≡ true
-unfolding table commands options clap_on_literals
-table_is_simple = refl
-
 pub table_is_free : is_simple_and_free table ≡ true
 unfolding table commands options clap_on_literals
 table_is_free = refl
@@ -37,7 +35,7 @@ pub at_ok : (words : List Text) (app : App) (found : Option (Text × List Row)) 
 unfolding line_in
 at_ok words app found is faultless met =
     ap₂ without_fault (sym (ap (λ (a : App). fault_of a words) is) ∙ faultless (ap is_simple_and_free is ∙ table_is_free))
-    (sym (met (ap is_simple is ∙ table_is_simple) ∙ ap (λ (a : App). subcommand_of a words) is))
+    (sym (met (ap is_simple is ∙ (and_parts (is_simple table) _ table_is_free).0) ∙ ap (λ (a : App). subcommand_of a words) is))
 
 pub at_fault : (kinds : Kinds) (kind : ErrorKind) (found : Option (Text × List Row)) → IsAmong kind kinds → without_fault kinds found ≡ None
 at_fault [] kind found among = absurd among
@@ -66,10 +64,7 @@ same_line found command = ap (normal_line command) (fun_ext (first_value-rows fo
 
 -- a plain command has no global argument
 pub local_of : (a b g r : Bool) → (a && (b && (not g && r))) ≡ true → g ≡ false
-local_of a b false r e = refl
-local_of true true true r e = sym e
-local_of true false true r e = sym e
-local_of false b true r e = sym e
+local_of a b g r e = grind (arith, nat_tests)
 
 -- a command with one more subcommand
 pub adds_sub : (old sub new : Command) (app below : App) → app_of old ≡ app → app_of sub ≡ below → below.top.is_plain ≡ true

@@ -1,15 +1,10 @@
 -- The lists among the words: items joined by a mark, no two of which clash. `--pio` has entries `B:M:FILE`, `--probe` entries `I=PIN`,
 -- `--part` entries `I=PINS`, joined by commas (the project's own).
-use Rattle.std.specs.Prelude.{ℕ, Bool, nat_lt, ◌==◌, ◌&&◌, if◌then◌else◌, List, [], ◌∷◌, ◌++◌, length, slice_index, Option, Some, None}
+use Rattle.std.specs.Prelude.{ℕ, Bool, nat_eq, nat_lt, ◌==◌, ◌&&◌, if◌then◌else◌, List, [], ◌∷◌, ◌++◌, length, slice_index, Option, Some, None}
 use Rattle.std.specs.List.{slice_split, before_first, after_first, position_or_len, list_any}
 use Rattle.board_parts.specs.declared.target.Target.{Target}
 use Rattle.board_parts.specs.Wiring.{Wired}
-use Rattle.command_words.specs.Numbers.{number_within, number_below}
-
--- what a value gives, where there is one
-abbrev pub given : {X Y : Type 0} → Option X → (X → Option Y) → Option Y
-given None next = None
-given (Some x) next = next x
+use Rattle.command_words.specs.Numbers.{given, number_within, number_below}
 
 -- what stands before and after the first mark
 abbrev pub cut : ℕ → List ℕ → Option (List ℕ × List ℕ)
@@ -27,11 +22,10 @@ items_from read clash items [] = Some items
 items_from read clash items (text ∷ texts) =
     given (read text) (λ item. if list_any (clash item) items then None else items_from read clash (items ++ item ∷ []) texts)
 
--- the items of a list
-abbrev pub items_of : {X : Type 0} → (List ℕ → Option X) → (X → X → Bool) → ℕ → List ℕ → Option (List X)
-items_of read clash mark text = items_from read clash [] (pieces mark text)
-
--- ---- programs for machines
+-- the items of a list, and none where it is not given
+unfoldable pub items_of : {X : Type 0} → (List ℕ → Option X) → (X → X → Bool) → ℕ → Option (List ℕ) → Option (List X)
+items_of read clash mark None = Some []
+items_of read clash mark (Some list) = items_from read clash [] (pieces mark list)
 
 -- a program for a machine: the PIO block, 0 or 1, the machine, 0 to 3, and the name of the source file
 pub record Entry : Type 0 where
@@ -50,12 +44,6 @@ entry_of text =
 abbrev pub share_machine : Entry → Entry → Bool
 share_machine a b = (a.block == b.block) && (a.machine == b.machine)
 
--- the entries of a list, no machine twice
-unfoldable pub entries_of : List ℕ → Option (List Entry)
-entries_of list = items_of entry_of share_machine 44 list
-
--- ---- aimed probes
-
 -- `I=PIN`: the probe is one of those that are handed in, the pin 0 to 29
 unfoldable pub target_of : ℕ → List ℕ → Option Target
 target_of probes text =
@@ -66,30 +54,13 @@ target_of probes text =
 abbrev pub share_probe : Target → Target → Bool
 share_probe a b = a.index == b.index
 
--- the targets of a list, no probe twice
-unfoldable pub targets_of : ℕ → List ℕ → Option (List Target)
-targets_of probes list = items_of (target_of probes) share_probe 44 list
-
--- ---- attached parts
-
--- two pins are one
-abbrev pub is_same_pin : ℕ → ℕ → Bool
-is_same_pin a b = a == b
-
--- the pins of an entry, each 0 to 29, joined by `+`, no pin twice
-unfoldable pub pins_of : List ℕ → Option (List ℕ)
-pins_of text = items_of (number_within 0 29) is_same_pin 43 text
-
--- `I=PINS`: the part is one of those that are handed in, and the pins are as many as it has
+-- `I=PINS`: the part is one of those that are handed in, and the pins, each 0 to 29, joined by `+`, none twice, are as many as it has
 unfoldable pub wiring_of : List ℕ → List ℕ → Option Wired
 wiring_of parts text =
-    given (cut 61 text) (λ sides. given (number_below (length parts) sides.0) (λ index. given (pins_of sides.1) (λ pins.
+    given (cut 61 text) (λ sides. given (number_below (length parts) sides.0) (λ index.
+    given (items_of (number_within 0 29) nat_eq 43 (Some sides.1)) (λ pins.
     if length pins == slice_index parts index then Some (record { index = index; pins = pins }) else None)))
 
 -- two entries are of one part
 abbrev pub share_part : Wired → Wired → Bool
 share_part a b = a.index == b.index
-
--- the entries of a list, no part twice, where each of the parts has so many pins
-unfoldable pub wirings_of : List ℕ → List ℕ → Option (List Wired)
-wirings_of parts list = items_of (wiring_of parts) share_part 44 list

@@ -1,7 +1,11 @@
 -- Numbers among the words of a command line: the project's own.
 use Rattle.std.specs.Prelude.{ℕ, ◌+◌, ◌-◌, ◌*◌, nat_le, nat_lt, ◌==◌, Bool, false, not, ◌&&◌, ◌||◌, if◌then◌else◌, List, [], ◌∷◌, length, Option, Some, None}
-use Rattle.std.specs.Option.{option_and_then}
 use Rattle.std.specs.Char.{is_ascii_digit}
+
+-- what a value gives, where there is one
+abbrev pub given : {X Y : Type 0} → Option X → (X → Option Y) → Option Y
+given None next = None
+given (Some x) next = next x
 
 -- the number of decimal digits, where those before them stand for n
 abbrev pub digits_from : ℕ → List ℕ → Option ℕ
@@ -19,17 +23,10 @@ number_of word =
     if nat_le 1 (length word) && nat_le (length word) 20 && (not (begins_with 48 word) || length word == 1)
     then digits_from 0 word else None
 
--- what is kept where it lies in a range
-abbrev pub within : ℕ → ℕ → ℕ → Option ℕ
-within low high n = if nat_le low n && nat_le n high then Some n else None
-
 -- a number from low to high
 abbrev pub number_within : ℕ → ℕ → List ℕ → Option ℕ
-number_within low high word = option_and_then (within low high) (number_of word)
+number_within low high word = given (number_of word) (λ n. if nat_le low n && nat_le n high then Some n else None)
 
 -- a number below a count
-abbrev pub below : ℕ → ℕ → Option ℕ
-below count n = if nat_lt n count then Some n else None
-
 abbrev pub number_below : ℕ → List ℕ → Option ℕ
-number_below count word = option_and_then (below count) (number_of word)
+number_below count word = given (number_of word) (λ n. if nat_lt n count then Some n else None)

@@ -5,7 +5,7 @@ use Rattle.std.specs.Option.{option_and_then}
 use Rattle.std.specs.List.{list_any}
 use Rattle.std.specs.Str.{bytes_eq}
 use Rattle.command_words.specs.Numbers.{begins_with, number_within}
-use Rattle.command_words.specs.Table.{Way, Alone, Row, commands, options, dashed, stands_alone}
+use Rattle.command_words.specs.Table.{Way, Alone, Row, commands, options, dashed}
 
 abbrev pub is_command : List ℕ → Bool
 is_command word = list_any (bytes_eq word) commands
@@ -14,9 +14,16 @@ is_command word = list_any (bytes_eq word) commands
 abbrev pub names : List ℕ → Row → Bool
 names word row = bytes_eq word (dashed row.name)
 
+-- what may follow an option: a value that does not begin with a dash, or nothing
+abbrev pub fits : Way → Option (List ℕ) → Bool
+fits Alone None = true
+fits Alone (Some value) = false
+fits _ None = false
+fits _ (Some value) = not (begins_with 45 value)
+
 -- the names that stand alone: no value follows them
 abbrev pub is_alone : List ℕ → Bool
-is_alone word = list_any (λ row. stands_alone row.way && names word row) options
+is_alone word = list_any (λ row. fits row.way None && names word row) options
 
 -- an option as it is written: its name, and its value where it has one
 abbrev pub Setting : Type 0
@@ -40,13 +47,6 @@ is_given name settings = is_some (setting_for name settings)
 -- its value
 abbrev pub value_for : List ℕ → List Setting → Option (List ℕ)
 value_for name settings = option_and_then (λ s. s.1) (setting_for name settings)
-
--- what may follow an option: a value that does not begin with a dash, or nothing
-abbrev pub fits : Way → Option (List ℕ) → Bool
-fits Alone None = true
-fits Alone (Some value) = false
-fits _ None = false
-fits _ (Some value) = not (begins_with 45 value)
 
 -- the option is that of a row
 abbrev pub suits : List ℕ → Setting → Row → Bool

@@ -47,7 +47,7 @@ abbrev pub then_address : ℕ → List ℕ
 then_address a = codes " " ++ hex_word a
 
 -- an image's fault: its number, its name and its numbers
-unfoldable pub fault_words : ImageFault → List ℕ
+abbrev pub fault_words : ImageFault → List ℕ
 fault_words Empty = codes "1 Empty"
 fault_words (Ragged length) = codes "2 Ragged" ++ then_number length
 fault_words (Magic block) = codes "3 Magic" ++ then_number block
@@ -63,7 +63,7 @@ fault_words Nothing = codes "12 Nothing"
 fault_words Memory = codes "13 Memory"
 
 -- a script's fault: its number, its name and its line
-unfoldable pub script_fault_words : ScriptFault → List ℕ
+abbrev pub script_fault_words : ScriptFault → List ℕ
 script_fault_words (script.Form line) = codes "1 Form" ++ then_number line
 script_fault_words (script.Number line) = codes "2 Number" ++ then_number line
 script_fault_words (script.Pin line) = codes "3 Pin" ++ then_number line
@@ -75,7 +75,7 @@ script_fault_words (script.Divisor line) = codes "8 Divisor" ++ then_number line
 script_fault_words (script.Bytes line) = codes "9 Bytes" ++ then_number line
 
 -- a PIO fault: its number, its name, then its line and column, or its line
-unfoldable pub pio_fault_words : PioFault → List ℕ
+abbrev pub pio_fault_words : PioFault → List ℕ
 pio_fault_words (pio.Char line column) = codes "1 Char" ++ then_number line ++ then_number column
 pio_fault_words (pio.Syntax line column) = codes "2 Syntax" ++ then_number line ++ then_number column
 pio_fault_words pio.Memory = codes "3 Memory"
@@ -90,7 +90,7 @@ pio_fault_words (pio.Origin line) = codes "11 Origin" ++ then_number line
 pio_fault_words (pio.NoRoom count) = codes "12 NoRoom" ++ then_number count
 
 -- a Thumb source's fault: its number, its name and its line, which is 0 for a source without bytes
-unfoldable pub thumb_fault_words : ThumbFault → List ℕ
+abbrev pub thumb_fault_words : ThumbFault → List ℕ
 thumb_fault_words (thumb.Char line) = codes "1 Char" ++ then_number line
 thumb_fault_words (thumb.Syntax line) = codes "2 Syntax" ++ then_number line
 thumb_fault_words thumb.Memory = codes "3 Memory"
@@ -103,7 +103,7 @@ thumb_fault_words (thumb.TooLong line) = codes "9 TooLong" ++ then_number line
 thumb_fault_words (thumb.Nothing line) = codes "10 Nothing" ++ then_number line
 
 -- why an image cannot be linked: its number, its name and the address
-unfoldable pub start_fault_words : StartFault → List ℕ
+abbrev pub start_fault_words : StartFault → List ℕ
 start_fault_words (start.Taken address) = codes "1 Taken" ++ then_address address
 start_fault_words start.Memory = codes "2 Memory"
 
@@ -111,7 +111,7 @@ start_fault_words start.Memory = codes "2 Memory"
 unfoldable pub line_of : Refusal → List ℕ
 line_of BadWords = codes "error words\n"
 line_of (Lost name) = codes "error file " ++ name ++ codes "\n"
-line_of (TooLarge name long) = codes "error large " ++ name ++ codes " " ++ decimal long ++ codes "\n"
+line_of (TooLarge name long) = codes "error large " ++ (name ++ then_number long) ++ codes "\n"
 line_of (BadImage fault) = codes "error image " ++ fault_words fault ++ codes "\n"
 line_of (BadScript fault) = codes "error script " ++ script_fault_words fault ++ codes "\n"
 line_of (BadSource fault) = codes "error pio " ++ pio_fault_words fault ++ codes "\n"

@@ -1,15 +1,10 @@
 -- The commands of a command line and their options, row by row: the project's own. The normal form, the commands that `clap` is given
 -- and the way back from what it finds are made of these rows.
-use Rattle.std.specs.Prelude.{ℕ, Bool, true, false, List, [], ◌∷◌, ◌++◌, codes}
+use Rattle.std.specs.Prelude.{ℕ, List, [], ◌∷◌, ◌++◌, codes}
 use Prim.Native.String.{String}
 use Rattle.std.specs.Borrow.{Bor}
 pub use Rattle.command_words.specs.declared.rows.Way.{Way}
 pub use Rattle.command_words.specs.declared.rows.Way.TheVariants.{Needed, Valued, Alone}
-
--- the word behind the option is not its value
-abbrev pub stands_alone : Way → Bool
-stands_alone Alone = true
-stands_alone _ = false
 
 -- an option of a command, by its name without the dashes
 pub record Row : Type 0 where

@@ -1,8 +1,5 @@
--- The words of a command line, and what they ask for: `run <image> --cycles N [--script FILE] [--pio LIST] [--probe LIST]
--- [--part LIST] [--workers K] [--stats] [--table]`, `debug` with the same words but `--probe`, `--workers` and `--stats`,
--- `dis <hex> [--side S] [--opt T]`, `asm <file>`, `thumb <file>` or `gen <number> --cycles N [--workers K] [--stats]`. Where probes
--- are spoken of as a number, it is how many are handed in; where parts are spoken of as a list of numbers, it is how many pins each
--- part has that is handed in. The project's own.
+-- The words of a command line, and what they ask for. Where probes are spoken of as a number, it is how many are handed in; where parts
+-- are spoken of as a list of numbers, it is how many pins each part has that is handed in. The project's own.
 use Rattle.std.specs.Prelude.{◌≡◌, ℕ, Bool, false, nat_le, ◌==◌, ◌&&◌, ◌+◌, ◌-◌, ◌*◌, ◌%◌, ◌^◌, if◌then◌else◌, List, [], ◌∷◌, length, Option, Some, None, Result, Ok, Err, codes}
 use Rattle.std.specs.Str.{bytes_eq}
 use Rattle.hex.specs.Hex.{decode_of}
@@ -11,8 +8,8 @@ use Rattle.pio_words.specs.declared.side.SideConfig.{SideConfig}
 use Rattle.board_parts.specs.declared.target.Target.{Target}
 use Rattle.board_parts.specs.Wiring.{Wired}
 use Rattle.command_words.specs.Line.{line_in}
-use Rattle.command_words.specs.Lists.{given, Entry, entries_of, targets_of, wirings_of}
-use Rattle.command_words.specs.Numbers.{number_within}
+use Rattle.command_words.specs.Lists.{Entry, items_of, entry_of, share_machine, target_of, share_probe, wiring_of, share_part}
+use Rattle.command_words.specs.Numbers.{given, number_within}
 use Rattle.command_words.specs.Options.{Setting, settings_of, is_given, value_for, is_normal, number_for}
 
 -- a run: the image's name, how many cycles it may have, the script's name, the programs for machines, the probes that are aimed, the
@@ -48,17 +45,12 @@ cycles_in settings = given (value_for (codes "--cycles") settings) (number_withi
 abbrev pub workers_in : List Setting → Option ℕ
 workers_in settings = number_for (codes "--workers") 8 settings
 
--- a list that an option gives, and the empty list where it is not given
-abbrev pub list_in : {X : Type 0} → (List ℕ → Option (List X)) → Option (List ℕ) → Option (List X)
-list_in read None = Some []
-list_in read (Some list) = read list
-
 -- `<image> --cycles N [--script FILE] [--pio LIST] [--probe LIST] [--part LIST] [--workers K] [--stats] [--table]`
 unfoldable pub run_reading : ℕ → List ℕ → List ℕ → List Setting → Option Run
 run_reading probes parts image settings =
-    given (cycles_in settings) (λ cycles. given (list_in entries_of (value_for (codes "--pio") settings)) (λ pio.
-    given (list_in (targets_of probes) (value_for (codes "--probe") settings)) (λ targets.
-    given (list_in (wirings_of parts) (value_for (codes "--part") settings)) (λ wirings.
+    given (cycles_in settings) (λ cycles. given (items_of entry_of share_machine 44 (value_for (codes "--pio") settings)) (λ pio.
+    given (items_of (target_of probes) share_probe 44 (value_for (codes "--probe") settings)) (λ targets.
+    given (items_of (wiring_of parts) share_part 44 (value_for (codes "--part") settings)) (λ wirings.
     given (workers_in settings) (λ workers. Some (record {
       image = image;
       cycles = cycles;

@@ -6,7 +6,6 @@ ghost use Rattle.std.specs.String.{string_bytes};
 ghost use Rattle.clap.specs.Words.{app_of};
 ghost use Rattle.clap.specs.Walk.{rule_of};
 ghost use Rattle.clap.specs.Matches.{found_of, first_value};
-ghost use Rattle.command_words.specs.Table.{dashed};
 ghost use Rattle.command_words.specs.Line.{argument, rule_for, app_for, table, line_in, normal_line, option_words};
 
 use crate::rows::{Way, commands, options};
@@ -59,15 +58,6 @@ fn table<'a>(alloc: Global) -> Result<Command<'a>, AllocError>
     Ok(table)
 }
 
-/// The name of an option as it is written.
-fn dashed(alloc: Global, name: &str) -> Result<String, AllocError>
-    ensures { IfOk result (λ word. string_bytes word ≡ dashed name.now) }
-{
-    let mut word = String::from_str(alloc, "--")?;
-    word.push_str(name)?;
-    Ok(word)
-}
-
 /// Appends an option, where it was given: its name and its value, or its name alone, where `clap` has `true` for it.
 fn push_option(
     alloc: Global,
@@ -79,15 +69,11 @@ fn push_option(
     ensures { IfOk result (λ done. map string_bytes line.new.items ≡ map string_bytes line.old.items
         ++ option_words way name.now (option_map (λ text. text.now) value.entry)) }
 {
-    match (way, value) {
-        (_, None) => {}
-        (Way::Alone, Some(text)) => {
-            if text == "true" {
-                line.push(dashed(alloc, name)?)?;
-            }
+    if let Some(text) = value {
+        if way != Way::Alone || text == "true" {
+            line.push(format!(in alloc; "--{name}")?)?;
         }
-        (Way::Needed | Way::Valued, Some(text)) => {
-            line.push(dashed(alloc, name)?)?;
+        if way != Way::Alone {
             line.push(String::from_str(alloc, text)?)?;
         }
     }

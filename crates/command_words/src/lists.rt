@@ -1,11 +1,12 @@
 //! The lists among the words: items joined by a mark, no two of which clash.
 
-ghost use Rattle.std.specs.Prelude.{◌≡◌, ◌<◌, map, IfOk};
+ghost use Rattle.std.specs.Prelude.{◌≡◌, ◌<◌, ℕ, Bool, nat_eq, List, map, Option, IfOk};
 ghost use Rattle.std.specs.List.{list_any};
 ghost use Rattle.std.specs.Option.{option_map};
-ghost use Rattle.board_parts.specs.Wiring.{wired_in};
-ghost use Rattle.command_words.specs.Lists.{cut, pieces, entry_of, share_machine, entries_of, target_of, share_probe, targets_of, is_same_pin, pins_of, wiring_of, share_part, wirings_of};
-ghost use Rattle.command_words.specs.Words.{list_in};
+ghost use Rattle.board_parts.specs.Wiring.{Wired, wired_in};
+ghost use Rattle.board_parts.specs.declared.target.Target.{Target};
+ghost use Rattle.command_words.specs.Lists.{pieces, items_of, Entry, entry_of, share_machine, target_of, share_probe, wiring_of, share_part};
+ghost use Rattle.command_words.specs.Numbers.{number_within};
 ghost use Rattle.command_words.specs.Read.{Reads, entry_in};
 
 use crate::options::{number_below, number_within};
@@ -13,14 +14,6 @@ use crate::reading::{PioEntry, WordsFault};
 use board_parts::target::Target;
 use board_parts::wiring::Wiring;
 use std::alloc::{AllocError, Global};
-
-/// What stands before and after the first `mark`, an ASCII character.
-fn cut(mark: char, text: &str) -> Option<(&str, &str)>
-    requires { mark < 128 }
-    ensures { option_map (λ sides. (sides.0.now, sides.1.now)) result ≡ cut mark text.now }
-{
-    text.split_once(mark)
-}
 
 /// The pieces of a text between its `mark`s, an ASCII character.
 fn pieces(alloc: Global, mark: char, text: &str) -> Result<Vec<&str>, AllocError>
@@ -30,169 +23,158 @@ fn pieces(alloc: Global, mark: char, text: &str) -> Result<Vec<&str>, AllocError
     text.split(mark).collect(alloc)
 }
 
-/// Reads `B:M:FILE`.
-#[tactic(auto, unfolding(crate::specs::Lists::entry_of))]
-fn entry(alloc: Global, text: &str) -> Result<PioEntry, WordsFault>
-    ensures { Reads entry_in (entry_of text.now) result }
-{
-    let (block, rest) = cut(':', text).ok_or(WordsFault::Words)?;
-    let (machine, file) = cut(':', rest).ok_or(WordsFault::Words)?;
-    let block = number_within(0, 1, block).ok_or(WordsFault::Words)?;
-    let machine = number_within(0, 3, machine).ok_or(WordsFault::Words)?;
-    Ok(PioEntry {
-        block: block as u8,
-        machine: machine as u8,
-        file: String::from_str(alloc, file)?,
-    })
+/// An item of a list, which is read where some things are handed in.
+pub trait Item<A>: Drop {
+    // What it stands for, how that is read, and whether two may not stand in one list.
+    ghost Meaning: { Type 0 };
+
+    ghost meaning: { Self → Meaning };
+
+    ghost item_of: { A → List ℕ → Option Meaning };
+
+    ghost clash: { Meaning → Meaning → Bool };
+
+    /// Reads one.
+    fn read(alloc: Global, handed: A, text: &str) -> Result<Self, WordsFault>
+        ensures { Reads meaning (item_of handed text.now) result };
+
+    /// Whether two may not stand in one list.
+    fn clashes(&self, other: &Self) -> bool
+        ensures { result ≡ clash (meaning self.now) (meaning other.now) };
 }
 
-/// Whether another entry has this machine.
-fn is_taken(entry: &PioEntry, entries: &[PioEntry]) -> bool
-    ensures { result ≡ list_any (share_machine (entry_in entry.now)) (map entry_in entries.now) }
+/// Whether an item clashes with one of these.
+fn is_taken<A, T: Item<A>>(item: &T, items: &[T]) -> bool
+    ensures { result ≡ list_any (T.clash (T.meaning item.now)) (map T.meaning items.now) }
 {
-    for other in entries {
-        if entry.block == other.block && entry.machine == other.machine {
+    for other in items {
+        if item.clashes(other) {
             return true;
         }
     }
     false
 }
 
-/// The entries of `--pio`, no machine twice; none where it is not given.
-#[tactic(auto, unfolding(crate::specs::Lists::entries_of))]
-pub fn entries_in(alloc: Global, list: Option<&str>) -> Result<Vec<PioEntry>, WordsFault>
-    ensures { Reads (λ found. map entry_in found.items)
-        (list_in entries_of (option_map (λ text. text.now) list.entry)) result }
-{
-    let mut entries = Vec::new(alloc);
-    let Some(list) = list else {
-        return Ok(entries);
-    };
-    for text in &pieces(alloc, ',', list)? {
-        let entry = entry(alloc, text)?;
-        if is_taken(&entry, &entries) {
-            return Err(WordsFault::Words);
-        }
-        entries.push(entry)?;
-    }
-    Ok(entries)
-}
-
-/// Reads `I=PIN`, where so many probes are handed in.
-#[tactic(auto, unfolding(crate::specs::Lists::target_of))]
-fn target(probes: usize, text: &str) -> Option<Target>
-    ensures { result ≡ target_of probes text.now }
-{
-    let (index, pin) = cut('=', text)?;
-    let index = number_below(probes, index)?;
-    let pin = number_within(0, 29, pin)?;
-    Some(Target {
-        index,
-        pin: pin as u8,
-    })
-}
-
-/// Whether another target is of this probe.
-fn is_aimed(target: &Target, targets: &[Target]) -> bool
-    ensures { result ≡ list_any (share_probe target.now) targets.now }
-{
-    targets.iter().any(|other| target.index == other.index)
-}
-
-/// The targets of `--probe`, no probe twice, where so many probes are handed in; none where it is not given.
-#[tactic(auto, unfolding(crate::specs::Lists::targets_of))]
-pub fn targets_in(
+/// The items of a list with an ASCII character as its mark; none where it is not given.
+#[tactic(auto, unfolding(crate::specs::Lists::items_of))]
+pub fn items_in<A: Copy, T: Item<A>>(
     alloc: Global,
-    probes: usize,
+    handed: A,
+    mark: char,
     list: Option<&str>,
-) -> Result<Vec<Target>, WordsFault>
-    ensures { Reads (λ found. found.items)
-        (list_in (targets_of probes) (option_map (λ text. text.now) list.entry)) result }
+) -> Result<Vec<T>, WordsFault>
+    requires { mark < 128 }
+    ensures { Reads (λ found. map T.meaning found.items)
+        (items_of (T.item_of handed) T.clash mark (option_map (λ text. text.now) list.entry)) result }
 {
-    let mut targets = Vec::new(alloc);
+    let mut items = Vec::new(alloc);
     let Some(list) = list else {
-        return Ok(targets);
+        return Ok(items);
     };
-    for text in &pieces(alloc, ',', list)? {
-        let target = target(probes, text).ok_or(WordsFault::Words)?;
-        if is_aimed(&target, &targets) {
+    for text in &pieces(alloc, mark, list)? {
+        let item = T::read(alloc, handed, text)?;
+        if is_taken(&item, &items) {
             return Err(WordsFault::Words);
         }
-        targets.push(target)?;
+        items.push(item)?;
     }
-    Ok(targets)
+    Ok(items)
 }
 
-/// Whether a pin is one of these.
-fn is_named(pin: u8, pins: &[u8]) -> bool
-    ensures { result ≡ list_any (is_same_pin pin) pins.now }
-{
-    pins.iter().any(|other| pin == *other)
+/// `B:M:FILE`.
+impl Item<()> for PioEntry {
+    ghost Meaning = { Entry };
+
+    ghost meaning = { entry_in };
+
+    ghost item_of = { λ _. entry_of };
+
+    ghost clash = { share_machine };
+
+    #[tactic(auto, unfolding(crate::specs::Lists::entry_of))]
+    fn read(alloc: Global, _handed: (), text: &str) -> Result<PioEntry, WordsFault> {
+        let (block, rest) = text.split_once(':').ok_or(WordsFault::Words)?;
+        let (machine, file) = rest.split_once(':').ok_or(WordsFault::Words)?;
+        let block = number_within(0, 1, block).ok_or(WordsFault::Words)?;
+        let machine = number_within(0, 3, machine).ok_or(WordsFault::Words)?;
+        Ok(PioEntry {
+            block: block as u8,
+            machine: machine as u8,
+            file: String::from_str(alloc, file)?,
+        })
+    }
+
+    fn clashes(&self, other: &PioEntry) -> bool {
+        self.block == other.block && self.machine == other.machine
+    }
 }
 
-/// The pins of an entry, each 0 to 29, no pin twice.
-#[tactic(auto, unfolding(crate::specs::Lists::pins_of))]
-fn pins_in(alloc: Global, text: &str) -> Result<Vec<u8>, WordsFault>
-    ensures { Reads (λ found. found.items) (pins_of text.now) result }
-{
-    let mut pins = Vec::new(alloc);
-    for text in &pieces(alloc, '+', text)? {
-        let pin = number_within(0, 29, text).ok_or(WordsFault::Words)? as u8;
-        if is_named(pin, &pins) {
+/// `I=PIN`, where so many probes are handed in.
+impl Item<usize> for Target {
+    ghost Meaning = { Target };
+
+    ghost meaning = { λ target. target };
+
+    ghost item_of = { target_of };
+
+    ghost clash = { share_probe };
+
+    #[tactic(auto, unfolding(crate::specs::Lists::target_of))]
+    fn read(_alloc: Global, probes: usize, text: &str) -> Result<Target, WordsFault> {
+        let (index, pin) = text.split_once('=').ok_or(WordsFault::Words)?;
+        let index = number_below(probes, index).ok_or(WordsFault::Words)?;
+        let pin = number_within(0, 29, pin).ok_or(WordsFault::Words)? as u8;
+        Ok(Target { index, pin })
+    }
+
+    fn clashes(&self, other: &Target) -> bool {
+        self.index == other.index
+    }
+}
+
+/// A pin, 0 to 29.
+impl Item<()> for u8 {
+    ghost Meaning = { ℕ };
+
+    ghost meaning = { λ pin. pin };
+
+    ghost item_of = { λ _. number_within 0 29 };
+
+    ghost clash = { nat_eq };
+
+    fn read(_alloc: Global, _handed: (), text: &str) -> Result<u8, WordsFault> {
+        Ok(number_within(0, 29, text).ok_or(WordsFault::Words)? as u8)
+    }
+
+    fn clashes(&self, other: &u8) -> bool {
+        *self == *other
+    }
+}
+
+/// `I=PINS`, where parts with so many pins are handed in.
+impl<'a> Item<&'a [usize]> for Wiring {
+    ghost Meaning = { Wired };
+
+    ghost meaning = { wired_in };
+
+    ghost item_of = { λ parts. wiring_of parts.now };
+
+    ghost clash = { share_part };
+
+    #[tactic(auto, unfolding(crate::specs::Lists::wiring_of), using(crate::proofs::Ids::ids))]
+    fn read(alloc: Global, parts: &'a [usize], text: &str) -> Result<Wiring, WordsFault> {
+        let (index, pins) = text.split_once('=').ok_or(WordsFault::Words)?;
+        let index = number_below(parts.len(), index).ok_or(WordsFault::Words)?;
+        let pins = items_in(alloc, (), '+', Some(pins))?;
+        if pins.len() != parts[index as usize] {
             return Err(WordsFault::Words);
         }
-        pins.push(pin)?;
+        Ok(Wiring { index, pins })
     }
-    Ok(pins)
-}
 
-/// Reads `I=PINS`, where `parts` has the number of pins of each part that is handed in.
-#[tactic(auto, unfolding(crate::specs::Lists::wiring_of))]
-fn wiring(alloc: Global, parts: &[usize], text: &str) -> Result<Wiring, WordsFault>
-    ensures { Reads wired_in (wiring_of parts.now text.now) result }
-{
-    let (index, pins) = cut('=', text).ok_or(WordsFault::Words)?;
-    let index = number_below(parts.len(), index).ok_or(WordsFault::Words)?;
-    let pins = pins_in(alloc, pins)?;
-    if pins.len() != parts[index as usize] {
-        return Err(WordsFault::Words);
+    fn clashes(&self, other: &Wiring) -> bool
+        ensures { result ≡ share_part (wired_in self.now) (wired_in other.now) }
+    {
+        self.index == other.index
     }
-    Ok(Wiring { index, pins })
-}
-
-/// Whether another entry is of this part.
-fn is_wired(wiring: &Wiring, wirings: &[Wiring]) -> bool
-    ensures { result ≡ list_any (share_part (wired_in wiring.now)) (map wired_in wirings.now) }
-{
-    for other in wirings {
-        if wiring.index == other.index {
-            return true;
-        }
-    }
-    false
-}
-
-/// The entries of `--part`, no part twice, where `parts` has the number of pins of each part that is handed in; none where it is not
-/// given.
-#[tactic(auto, unfolding(crate::specs::Lists::wirings_of))]
-pub fn wirings_in(
-    alloc: Global,
-    parts: &[usize],
-    list: Option<&str>,
-) -> Result<Vec<Wiring>, WordsFault>
-    ensures { Reads (λ found. map wired_in found.items)
-        (list_in (wirings_of parts.now) (option_map (λ text. text.now) list.entry)) result }
-{
-    let mut wirings = Vec::new(alloc);
-    let Some(list) = list else {
-        return Ok(wirings);
-    };
-    for text in &pieces(alloc, ',', list)? {
-        let wiring = wiring(alloc, parts, text)?;
-        if is_wired(&wiring, &wirings) {
-            return Err(WordsFault::Words);
-        }
-        wirings.push(wiring)?;
-    }
-    Ok(wirings)
 }

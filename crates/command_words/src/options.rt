@@ -5,7 +5,7 @@ ghost use Rattle.std.specs.Prelude.{◌≡◌, ◌<◌, ◌≤◌, [], length, m
 ghost use Rattle.std.specs.Option.{option_map};
 ghost use Rattle.std.specs.Str.{bytes_eq};
 ghost use Rattle.std.specs.String.{string_bytes};
-ghost use Rattle.command_words.specs.Numbers.{begins_with, digits_from, number_of, number_within, number_below};
+ghost use Rattle.command_words.specs.Numbers.{digits_from, number_of, number_within, number_below};
 ghost use Rattle.command_words.specs.Table.{dashed};
 ghost use Rattle.command_words.specs.Options.{is_command, is_alone, settings_of, setting_for, is_given, value_for, fits, is_of, are_options, is_normal, number_for};
 ghost use Rattle.command_words.specs.Read.{IsFirst};
@@ -91,18 +91,11 @@ fn is_alone(word: &str) -> bool
     ensures { result ≡ is_alone word.now }
 {
     for (_, name, way) in options() {
-        if *way == Way::Alone && names(word, name) {
+        if fits(*way, None) && names(word, name) {
             return true;
         }
     }
     false
-}
-
-/// Whether a word begins with a dash.
-fn is_dashed(word: &str) -> bool
-    ensures { result ≡ begins_with 45 word.now }
-{
-    word.as_bytes().first() == Some(&b'-')
 }
 
 /// The first option that the words write: its name, its value where it has one, and the words behind them.
@@ -110,15 +103,12 @@ fn first_setting<'a>(words: &'a [String]) -> Option<(&'a str, Option<&'a str>, &
     ensures { MatchOption result (words.now ≡ []) (λ first. IsFirst words.now first.0.now
         (option_map (λ value. value.now) first.1) first.2.now) }
 {
-    let [name, behind @ ..] = words else {
-        return None;
-    };
-    if is_alone(name.as_str()) {
-        return Some((name.as_str(), None, behind));
-    }
-    match behind {
-        [value, rest @ ..] => Some((name.as_str(), Some(value.as_str()), rest)),
-        _ => Some((name.as_str(), None, behind)),
+    match words {
+        [] => None,
+        [name, value, rest @ ..] if !is_alone(name.as_str()) => {
+            Some((name.as_str(), Some(value.as_str()), rest))
+        }
+        [name, rest @ ..] => Some((name.as_str(), None, rest)),
     }
 }
 
@@ -158,7 +148,7 @@ fn fits(way: Way, value: Option<&str>) -> bool
 {
     match (way, value) {
         (Way::Alone, None) => true,
-        (Way::Needed | Way::Valued, Some(value)) => !is_dashed(value),
+        (Way::Needed | Way::Valued, Some(value)) => !value.starts_with('-'),
         _ => false,
     }
 }
@@ -198,7 +188,7 @@ pub fn is_normal(words: &[String]) -> bool
         return false;
     };
     is_command(command.as_str())
-        && !is_dashed(argument.as_str())
+        && !argument.starts_with('-')
         && are_options(command.as_str(), options)
 }
 

@@ -1,11 +1,11 @@
 //! What is refused: the causes, and the line and the status of each.
+#![tactic(auto, unfolding(crate::specs::Refusals::line_of), using(std::proofs::Common::append_assoc))]
 
-ghost use Rattle.std.specs.Prelude.{◌≡◌, ◌++◌, codes, decimal, IfOk};
+ghost use Rattle.std.specs.Prelude.{◌≡◌, ◌++◌, codes, IfOk};
 ghost use Rattle.command_words.specs.Refusals.{meant, then_address, line_of, status_of};
 ghost use Rattle.command_words.specs.Refusals.Refusal.{BadImage, BadScript, BadSource, BadThumb, BadStart};
 
 use arrayvec::ArrayVec;
-use itoa::Buffer;
 use pin_script::ScriptFault;
 use pio_parse::PioFault;
 use startup_blocks::StartFault;
@@ -45,7 +45,7 @@ fn error(alloc: Global, words: &str) -> Result<Vec<u8>, AllocError>
 /// The line of an error at an address.
 fn error_at(alloc: Global, words: &str, address: u32) -> Result<Vec<u8>, AllocError>
     ensures { IfOk result (λ line. line.items
-        ≡ codes "error " ++ (words.now ++ then_address address) ++ codes "\n") }
+        ≡ codes "error " ++ words.now ++ then_address address ++ codes "\n") }
 {
     let mut digits = ArrayVec::<u8, 8>::new();
     push_word(address, &mut digits);
@@ -56,7 +56,6 @@ fn error_at(alloc: Global, words: &str, address: u32) -> Result<Vec<u8>, AllocEr
 }
 
 /// The line of an image's fault.
-#[tactic(auto, unfolding(crate::specs::Refusals::line_of, crate::specs::Refusals::fault_words))]
 fn image_line(alloc: Global, fault: &ImageFault) -> Result<Vec<u8>, AllocError>
     ensures { IfOk result (λ line. line.items ≡ line_of (BadImage fault.now)) }
 {
@@ -70,15 +69,11 @@ fn image_line(alloc: Global, fault: &ImageFault) -> Result<Vec<u8>, AllocError>
         ImageFault::Count(block) => error(alloc, &format!(in alloc; "image 5 Count {block}")?),
         ImageFault::Number(block) => error(alloc, &format!(in alloc; "image 6 Number {block}")?),
         ImageFault::Repeat(block) => error(alloc, &format!(in alloc; "image 7 Repeat {block}")?),
-        ImageFault::Flash(block, target) => {
-            error_at(alloc, &format!(in alloc; "image 8 Flash {block}")?, target)
+        ImageFault::Flash(block, at) => {
+            error_at(alloc, &format!(in alloc; "image 8 Flash {block}")?, at)
         }
-        ImageFault::Address(block, target) => {
-            error_at(
-                alloc,
-                &format!(in alloc; "image 9 Address {block}")?,
-                target,
-            )
+        ImageFault::Address(block, at) => {
+            error_at(alloc, &format!(in alloc; "image 9 Address {block}")?, at)
         }
         ImageFault::Overlap(block) => error(alloc, &format!(in alloc; "image 10 Overlap {block}")?),
         ImageFault::Missing(block) => error(alloc, &format!(in alloc; "image 11 Missing {block}")?),
@@ -88,7 +83,6 @@ fn image_line(alloc: Global, fault: &ImageFault) -> Result<Vec<u8>, AllocError>
 }
 
 /// The line of a script's fault.
-#[tactic(auto, unfolding(crate::specs::Refusals::line_of, crate::specs::Refusals::script_fault_words))]
 fn script_line(alloc: Global, fault: &ScriptFault) -> Result<Vec<u8>, AllocError>
     ensures { IfOk result (λ line. line.items ≡ line_of (BadScript fault.now)) }
 {
@@ -106,7 +100,6 @@ fn script_line(alloc: Global, fault: &ScriptFault) -> Result<Vec<u8>, AllocError
 }
 
 /// The line of a PIO fault.
-#[tactic(auto, unfolding(crate::specs::Refusals::line_of, crate::specs::Refusals::pio_fault_words))]
 fn pio_line(alloc: Global, fault: &PioFault) -> Result<Vec<u8>, AllocError>
     ensures { IfOk result (λ line. line.items ≡ line_of (BadSource fault.now)) }
 {
@@ -127,7 +120,6 @@ fn pio_line(alloc: Global, fault: &PioFault) -> Result<Vec<u8>, AllocError>
 }
 
 /// The line of a Thumb source's fault.
-#[tactic(auto, unfolding(crate::specs::Refusals::line_of, crate::specs::Refusals::thumb_fault_words))]
 fn thumb_line(alloc: Global, fault: &ThumbFault) -> Result<Vec<u8>, AllocError>
     ensures { IfOk result (λ line. line.items ≡ line_of (BadThumb fault.now)) }
 {
@@ -146,7 +138,6 @@ fn thumb_line(alloc: Global, fault: &ThumbFault) -> Result<Vec<u8>, AllocError>
 }
 
 /// The line of an image that cannot be linked.
-#[tactic(auto, unfolding(crate::specs::Refusals::line_of, crate::specs::Refusals::start_fault_words))]
 fn start_line(alloc: Global, fault: &StartFault) -> Result<Vec<u8>, AllocError>
     ensures { IfOk result (λ line. line.items ≡ line_of (BadStart fault.now)) }
 {
@@ -156,28 +147,14 @@ fn start_line(alloc: Global, fault: &StartFault) -> Result<Vec<u8>, AllocError>
     }
 }
 
-/// The line of a file that is longer than its limit.
-fn large_line(alloc: Global, name: &str, length: u64) -> Result<Vec<u8>, AllocError>
-    ensures { IfOk result (λ line. line.items
-        ≡ codes "error large " ++ name.now ++ codes " " ++ decimal length ++ codes "\n") }
-{
-    let mut line = Vec::from_slice(alloc, b"error large ")?;
-    line.extend_from_slice(name.as_bytes())?;
-    line.extend_from_slice(b" ")?;
-    line.extend_from_slice(Buffer::new().format(length).as_bytes())?;
-    line.extend_from_slice(b"\n")?;
-    Ok(line)
-}
-
 /// The line of a refusal.
-#[tactic(auto, unfolding(crate::specs::Refusals::line_of))]
 pub fn refusal_line(alloc: Global, refusal: &Refusal) -> Result<Vec<u8>, AllocError>
     ensures { IfOk result (λ line. line.items ≡ line_of (meant refusal.now)) }
 {
     match refusal {
         Refusal::Words => error(alloc, "words"),
         Refusal::File(name) => error(alloc, &format!(in alloc; "file {name}")?),
-        Refusal::Large(name, length) => large_line(alloc, name.as_str(), *length),
+        Refusal::Large(name, length) => error(alloc, &format!(in alloc; "large {name} {length}")?),
         Refusal::Image(fault) => image_line(alloc, fault),
         Refusal::Script(fault) => script_line(alloc, fault),
         Refusal::Source(fault) => pio_line(alloc, fault),

@@ -8,7 +8,7 @@ ghost use Rattle.command_words.specs.Words.{halves, words_of, side_of, cycles_in
 ghost use Rattle.command_words.specs.Read.{Reads, run_in, command_in};
 
 use crate::line::line_in;
-use crate::lists::{entries_in, targets_in, wirings_in};
+use crate::lists::items_in;
 use crate::options::{is_given, is_normal, number_for, number_within, value_for};
 use crate::reading::{DisWords, GenWords, Reading, RunWords, WordsFault};
 use hex::FromHexError;
@@ -51,15 +51,11 @@ fn side_config(options: &[String]) -> Option<SideConfig>
 {
     let count = number_for("--side", 5, options)?;
     let opt = number_for("--opt", 1, options)?;
-    if count + opt <= 5 {
-        Some(SideConfig {
-            count: count as u8,
-            opt: opt == 1,
-            pindirs: false,
-        })
-    } else {
-        None
-    }
+    (count + opt <= 5).then_some(SideConfig {
+        count: count as u8,
+        opt: opt == 1,
+        pindirs: false,
+    })
 }
 
 /// The limit of cycles among the options of a run.
@@ -78,19 +74,8 @@ fn workers_in(options: &[String]) -> Option<u8>
     Some(number_for("--workers", 8, options)? as u8)
 }
 
-/// A copy of the script's name among the options of a run.
-fn script_in(alloc: Global, options: &[String]) -> Result<Option<String>, AllocError>
-    ensures { IfOk result (λ name. option_map string_bytes name
-        ≡ value_for (codes "--script") (settings_of (map string_bytes options.now))) }
-{
-    match value_for("--script", options) {
-        None => Ok(None),
-        Some(name) => Ok(Some(String::from_str(alloc, name)?)),
-    }
-}
-
 /// Reads `<image> --cycles N [--script FILE] [--pio LIST] [--probe LIST] [--part LIST] [--workers K] [--stats] [--table]`.
-#[tactic(auto, unfolding(crate::specs::Words::run_reading))]
+#[tactic(auto, unfolding(crate::specs::Words::run_reading), using(crate::proofs::Ids::ids))]
 fn run_words(
     alloc: Global,
     probes: usize,
@@ -102,14 +87,18 @@ fn run_words(
         (settings_of (map string_bytes options.now))) result }
 {
     let cycles = cycles_in(options).ok_or(WordsFault::Words)?;
-    let pio = entries_in(alloc, value_for("--pio", options))?;
-    let probes = targets_in(alloc, probes, value_for("--probe", options))?;
-    let parts = wirings_in(alloc, parts, value_for("--part", options))?;
+    let pio = items_in(alloc, (), ',', value_for("--pio", options))?;
+    let probes = items_in(alloc, probes, ',', value_for("--probe", options))?;
+    let parts = items_in(alloc, parts, ',', value_for("--part", options))?;
     let workers = workers_in(options).ok_or(WordsFault::Words)?;
+    let script = match value_for("--script", options) {
+        None => None,
+        Some(name) => Some(String::from_str(alloc, name)?),
+    };
     Ok(RunWords {
         image: String::from_str(alloc, image)?,
         cycles,
-        script: script_in(alloc, options)?,
+        script,
         pio,
         probes,
         parts,
