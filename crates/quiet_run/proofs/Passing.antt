@@ -37,7 +37,7 @@ use Rattle.rp_machine.specs.Events.{events}
 use Rattle.rp_machine.specs.Wantless.{no_turns, core1_launched, wantless_next}
 use Rattle.rp_machine.specs.Run.{states}
 use Rattle.rp_machine.specs.Quiet.{IsQuiet}
-use Rattle.quiet_run.specs.Parts.{ArePartsQuiet, ArePartsQuiet, passed, QuietPartsGoTheirOwnWay}
+use Rattle.quiet_run.specs.Parts.{AreOthersQuiet, ArePartsQuiet, passed, QuietPartsGoTheirOwnWay}
 use Rattle.rp_machine.proofs.Wantless.{wantless_four}
 use Rattle.rp_machine.proofs.Going.{none_after, fewer_cycles}
 use Rattle.rp_machine.proofs.Inward.{TellOn, tell_on, lines_on, pacing_on, outs_on}
@@ -290,7 +290,7 @@ core_fewer lines c cycle n m q le = record {
 }
 
 -- the same where the fields are these
-pub parts_by : (w : Setting) (i s : State) (lines0 lines1 a b c d n at to : ℕ) (seen : SeenOutputs) → i ≡ s → ArePartsQuiet s → at ≡ s.cycle → lines0 ≡ lines_of 0 s → lines1 ≡ lines_of 1 s → seen ≡ (begun s).outer → core_quiet.IsQuiet lines0 i.core0 at a → core_quiet.IsQuiet lines1 i.core1 at b → outer_quiet.IsQuiet w seen i.outer c → AreBlocksQuiet s d → n ≤ a → n ≤ b → n ≤ c → n ≤ d → at + n ≤ to → to ≤ w.limit → ArePartsQuiet w s n
+pub parts_by : (w : Setting) (i s : State) (lines0 lines1 a b c d n at to : ℕ) (seen : SeenOutputs) → i ≡ s → AreOthersQuiet s → at ≡ s.cycle → lines0 ≡ lines_of 0 s → lines1 ≡ lines_of 1 s → seen ≡ (begun s).outer → core_quiet.IsQuiet lines0 i.core0 at a → core_quiet.IsQuiet lines1 i.core1 at b → outer_quiet.IsQuiet w seen i.outer c → AreBlocksQuiet s d → n ≤ a → n ≤ b → n ≤ c → n ≤ d → at + n ≤ to → to ≤ w.limit → ArePartsQuiet w s n
 parts_by w i s lines0 lines1 a b c d n at to seen same rest ea e0 e1 es q0 q1 qo blocks la lb lc ld lt ll =
     let h0 : core_quiet.IsQuiet lines0 s.core0 at a = subst (λ (x : State). core_quiet.IsQuiet lines0 x.core0 at a) same q0 in
     let h1 : core_quiet.IsQuiet lines1 s.core1 at b = subst (λ (x : State). core_quiet.IsQuiet lines1 x.core1 at b) same q1 in

@@ -29,7 +29,7 @@ pub record ArePartsQuiet (w : Setting) (s : State) (n : ℕ) : Type 0 where
   pub limit : s.cycle + n ≤ w.limit
 
 -- of these, what is not counted in cycles
-pub record ArePartsQuiet (s : State) : Type 0 where
+pub record AreOthersQuiet (s : State) : Type 0 where
   pub sio : after_cycle s.sio ≡ s.sio
   pub launcher : offers_of s.sio ≡ false
   pub fabric : has_hold s.fabric ≡ false

@@ -6,7 +6,7 @@ ghost use Rattle.rp_machine.specs.Alone.{AreBlocksQuiet};
 ghost use Rattle.rp_machine.specs.Cycle.{begun};
 ghost use Rattle.rp_machine.specs.Quiet.{IsQuiet};
 ghost use Rattle.rp_machine.specs.Run.{states};
-ghost use Rattle.quiet_run.specs.Parts.{ArePartsQuiet, ArePartsQuiet, IsIdle};
+ghost use Rattle.quiet_run.specs.Parts.{AreOthersQuiet, ArePartsQuiet, IsIdle};
 
 use lane_look::Device;
 use outer_lane::SeenOutputs;
@@ -14,8 +14,8 @@ use rp_machine::{Machine, Steps, World};
 use std::sync::ledger::Ledger;
 
 /// SIO is quiet, and no access lasts.
-fn are_parts_quiet(machine: &Machine) -> bool
-    ensures { result ≡ true → ArePartsQuiet machine.now }
+fn are_others_quiet(machine: &Machine) -> bool
+    ensures { result ≡ true → AreOthersQuiet machine.now }
 {
     machine.sio.is_quiet() && !machine.sio.offers() && !machine.fabric.holds()
 }
@@ -28,7 +28,7 @@ fn quiet<X: Device>(machine: &Machine, world: &World<'_, X>, to: u64) -> u64
     ensures within { 0 < result → machine.now.cycle + result ≤ to }
 {
     let at = machine.number();
-    if to <= at || !are_parts_quiet(machine) {
+    if to <= at || !are_others_quiet(machine) {
         return 0;
     }
     let blocks = machine.quiet_blocks();
@@ -49,7 +49,7 @@ fn least_quiet<X: Device>(
     requires at { at ≡ machine.now.cycle }
     requires room { at ≤ to }
     requires limit { to ≤ world.now.limit }
-    requires rest { ArePartsQuiet machine.now }
+    requires others { AreOthersQuiet machine.now }
     requires blocks { AreBlocksQuiet machine.now blocks }
     ensures parts { ArePartsQuiet (setting X.meaning world.now) machine.now result }
     ensures within { machine.now.cycle + result ≤ to }

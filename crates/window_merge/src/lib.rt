@@ -26,7 +26,7 @@ pub use accepting::{Stranger, accept};
 pub use alone::advance_alone;
 pub use copies::Copies;
 pub use here::window;
-pub use jobs::{back, job, run_by, run_job};
+pub use jobs::{back, job, run_job};
 pub use lane_job::{Crew, LaneJob, LaneReport};
 pub use lane_run::{LaneRun, LaneSet};
 pub use merge::merge_runs;

@@ -1,6 +1,6 @@
 //! What the start of a window answers each lane, while the machine goes on; and looks that compare it with what the machine answers.
 
-ghost use Rattle.std.specs.Prelude.{◌≡◌, ◌<◌, ◌^◌, ◌&&◌, not, true};
+ghost use Rattle.std.specs.Prelude.{◌≡◌, ◌&&◌, not};
 ghost use Rattle.lane_look.specs.Asking.{Runs, answered};
 ghost use Rattle.lane_look.specs.Replay.{asked};
 ghost use Rattle.lane_look.specs.Alone.{differs};

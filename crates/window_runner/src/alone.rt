@@ -1,6 +1,6 @@
 //! A run by windows on one thread.
 
-ghost use Rattle.std.specs.Prelude.{◌≡◌, ◌+◌, ◌<◌, ◌≤◌, ◌^◌, ◌==◌, [], None, length, if◌then◌else◌, false, true, IfOk, OnErr};
+ghost use Rattle.std.specs.Prelude.{◌≡◌, ◌+◌, ◌<◌, ◌≤◌, ◌^◌, ◌==◌, [], None, length, if◌then◌else◌, false, IfOk, OnErr};
 ghost use Rattle.outer_lane.specs.Setting.{setting};
 ghost use Rattle.trace_text.specs.Tape.{Tells};
 ghost use Rattle.rp_machine.specs.Cycle.{begun, stop};

@@ -21,7 +21,7 @@ pub(crate) struct Sets {
     pub(crate) jobs: Six<Option<LaneJob>>,
     /// Room for the notes of a window that is made here.
     pub(crate) notes: Notes,
-    /// Room for what the lanes begin in it.
+    /// What the lanes begin in the next cycle, once a run has begun.
     pub(crate) begun: Begun,
 }
 

@@ -12,5 +12,5 @@ returns-clause-parts g c =
     let lanes = c.min-lanes.ensures in
     let room = c.requires.room in
     parts_by (setting g.X.Device.meaning c.args.world.now) (the_view c.machine.inside) c.args.machine.now c.lines-lines0.result c.lines-lines1.result c.quiet-core0.result c.quiet-core1.result c.quiet-outer.result c.args.blocks c.min.result c.args.at c.args.to c.begin_outer-seen.result
-    c.machine.view_is c.requires.rest c.requires.at c.lines-lines0.ensures c.lines-lines1.ensures c.begin_outer-seen.ensures c.quiet-core0.ensures c.quiet-core1.ensures c.quiet-outer.ensures c.requires.blocks
+    c.machine.view_is c.requires.others c.requires.at c.lines-lines0.ensures c.lines-lines1.ensures c.begin_outer-seen.ensures c.quiet-core0.ensures c.quiet-core1.ensures c.quiet-outer.ensures c.requires.blocks
     (omega arith) (omega arith) (omega arith) (omega arith) (omega arith) c.requires.limit
