@@ -10,7 +10,7 @@ use Rattle.board_parts.specs.Wiring.{Wired, all_fit}
 use Rattle.command_words.specs.Lists.{cut, pieces, items_from, items_of, entry_of, share_machine, target_of, share_probe, wiring_of, share_part}
 use Rattle.command_words.specs.Numbers.{given, number_below, number_within, number_of}
 use Rattle.command_words.specs.Line.{line_in}
-use Rattle.command_words.specs.Options.{Setting, settings_of, is_normal, value_for}
+use Rattle.command_words.specs.Options.{NamedValue, settings_of, is_normal, value_for}
 use Rattle.command_words.specs.Words.{words_of, side_of, Run, Command, IsRead, parts_in, cycles_in, workers_in, run_reading, dis_reading, gen_reading, written, reading}
 
 -- what holds of each value that the next step gives holds of what both give
@@ -78,7 +78,7 @@ wirings_fit parts None = refl
 wirings_fit parts (Some list) = items_keep (wiring_of parts) share_part (AllFit parts) (λ wirings text w is _ h.
     rw (list_all-append _ wirings (w ∷ []), h) (wiring_fits parts text w is)) [] (pieces 44 list) refl
 
-run_fits : (probes : ℕ) (parts image : List ℕ) (settings : List Setting) → IfSome (run_reading probes parts image settings) (λ run. AllFit parts run.parts)
+run_fits : (probes : ℕ) (parts image : List ℕ) (settings : List NamedValue) → IfSome (run_reading probes parts image settings) (λ run. AllFit parts run.parts)
 unfolding run_reading
 run_fits probes parts image settings =
     let P : Run → Type 0 = λ run. AllFit parts run.parts in

@@ -22,7 +22,7 @@ items_from read clash items [] = Some items
 items_from read clash items (text ∷ texts) =
     given (read text) (λ item. if list_any (clash item) items then None else items_from read clash (items ++ item ∷ []) texts)
 
--- the items of a list, and none where it is not given
+-- the items of a list, no two of which clash, if all can be read; the empty list where no list is given
 unfoldable pub items_of : {X : Type 0} → (List ℕ → Option X) → (X → X → Bool) → ℕ → Option (List ℕ) → Option (List X)
 items_of read clash mark None = Some []
 items_of read clash mark (Some list) = items_from read clash [] (pieces mark list)

@@ -26,11 +26,11 @@ abbrev pub is_alone : List ℕ → Bool
 is_alone word = list_any (λ row. fits row.way None && names word row) options
 
 -- an option as it is written: its name, and its value where it has one
-abbrev pub Setting : Type 0
-Setting = List ℕ × Option (List ℕ)
+abbrev pub NamedValue : Type 0
+NamedValue = List ℕ × Option (List ℕ)
 
 -- the options that some words write, one after another: the word behind a name is its value, unless the name stands alone
-abbrev pub settings_of : List (List ℕ) → List Setting
+abbrev pub settings_of : List (List ℕ) → List NamedValue
 settings_of [] = []
 settings_of (name ∷ []) = (name, None) ∷ []
 settings_of (name ∷ value ∷ words) =
@@ -38,26 +38,26 @@ settings_of (name ∷ value ∷ words) =
     else (name, Some value) ∷ settings_of words
 
 -- the option of this name among them
-abbrev pub setting_for : List ℕ → List Setting → Option Setting
+abbrev pub setting_for : List ℕ → List NamedValue → Option NamedValue
 setting_for name settings = find (λ s. bytes_eq s.0 name) settings
 
-abbrev pub is_given : List ℕ → List Setting → Bool
+abbrev pub is_given : List ℕ → List NamedValue → Bool
 is_given name settings = is_some (setting_for name settings)
 
 -- its value
-abbrev pub value_for : List ℕ → List Setting → Option (List ℕ)
+abbrev pub value_for : List ℕ → List NamedValue → Option (List ℕ)
 value_for name settings = option_and_then (λ s. s.1) (setting_for name settings)
 
 -- the option is that of a row
-abbrev pub suits : List ℕ → Setting → Row → Bool
+abbrev pub suits : List ℕ → NamedValue → Row → Bool
 suits command s row = bytes_eq row.command command && names s.0 row && fits row.way s.1
 
 -- the command has the option
-abbrev pub is_of : List ℕ → Setting → Bool
+abbrev pub is_of : List ℕ → NamedValue → Bool
 is_of command s = list_any (suits command s) options
 
 -- these are options of the command, each name at most once
-abbrev pub are_options : List ℕ → List Setting → Bool
+abbrev pub are_options : List ℕ → List NamedValue → Bool
 are_options command [] = true
 are_options command (s ∷ settings) = is_of command s && not (is_given s.0 settings) && are_options command settings
 
@@ -74,5 +74,5 @@ abbrev pub number_or_zero : ℕ → Option (List ℕ) → Option ℕ
 number_or_zero high None = Some 0
 number_or_zero high (Some value) = number_within 0 high value
 
-abbrev pub number_for : List ℕ → ℕ → List Setting → Option ℕ
+abbrev pub number_for : List ℕ → ℕ → List NamedValue → Option ℕ
 number_for name high settings = number_or_zero high (value_for name settings)

@@ -10,7 +10,7 @@ use Rattle.board_parts.specs.Wiring.{Wired}
 use Rattle.command_words.specs.Line.{line_in}
 use Rattle.command_words.specs.Lists.{Entry, items_of, entry_of, share_machine, target_of, share_probe, wiring_of, share_part}
 use Rattle.command_words.specs.Numbers.{given, number_within}
-use Rattle.command_words.specs.Options.{Setting, settings_of, is_given, value_for, is_normal, number_for}
+use Rattle.command_words.specs.Options.{NamedValue, settings_of, is_given, value_for, is_normal, number_for}
 
 -- a run: the image's name, how many cycles it may have, the script's name, the programs for machines, the probes that are aimed, the
 -- parts that are attached, how many workers run its lanes, whether it ends with the line of its windows, and whether the image is
@@ -38,15 +38,16 @@ pub data Command : Type 0 where
   Generate : (number cycles workers : ℕ) → (stats : Bool) → Command
 
 -- the limit of cycles, 1 to 1,000,000,000, which must be given
-abbrev pub cycles_in : List Setting → Option ℕ
+abbrev pub cycles_in : List NamedValue → Option ℕ
 cycles_in settings = given (value_for (codes "--cycles") settings) (number_within 1 1000000000)
 
 -- the number of workers, 0 to 8, and 0 where it is not given
-abbrev pub workers_in : List Setting → Option ℕ
+abbrev pub workers_in : List NamedValue → Option ℕ
 workers_in settings = number_for (codes "--workers") 8 settings
 
--- `<image> --cycles N [--script FILE] [--pio LIST] [--probe LIST] [--part LIST] [--workers K] [--stats] [--table]`
-unfoldable pub run_reading : ℕ → List ℕ → List ℕ → List Setting → Option Run
+-- `<image> --cycles N [--script FILE] [--pio LIST] [--probe LIST] [--part LIST] [--workers K] [--stats] [--table]`; the items of a list are
+-- joined by commas (44), and no machine, no probe and no part stands in one twice
+unfoldable pub run_reading : ℕ → List ℕ → List ℕ → List NamedValue → Option Run
 run_reading probes parts image settings =
     given (cycles_in settings) (λ cycles. given (items_of entry_of share_machine 44 (value_for (codes "--pio") settings)) (λ pio.
     given (items_of (target_of probes) share_probe 44 (value_for (codes "--probe") settings)) (λ targets.
@@ -79,17 +80,17 @@ words_of hex =
     if nat_le 4 (length hex) && nat_le (length hex) 128 && (length hex % 4 == 0) then halves_of (decode_of hex) else None
 
 -- `--side S` and `--opt T`, both 0 where they are not given, at most five bits together
-unfoldable pub side_of : List Setting → Option SideConfig
+unfoldable pub side_of : List NamedValue → Option SideConfig
 side_of settings =
     given (number_for (codes "--side") 5 settings) (λ count. given (number_for (codes "--opt") 1 settings) (λ opt.
     if nat_le (count + opt) 5 then Some (record { count = count; opt = opt == 1; pindirs = false }) else None))
 
 -- `dis <hex> [--side S] [--opt T]`
-unfoldable pub dis_reading : List ℕ → List Setting → Option Command
+unfoldable pub dis_reading : List ℕ → List NamedValue → Option Command
 dis_reading hex settings = given (words_of hex) (λ words. given (side_of settings) (λ side. Some (Disassemble words side)))
 
 -- `gen <number> --cycles N [--workers K] [--stats]`, the number below 2 ^ 64
-unfoldable pub gen_reading : List ℕ → List Setting → Option Command
+unfoldable pub gen_reading : List ℕ → List NamedValue → Option Command
 gen_reading number settings =
     given (number_within 0 (2 ^ 64 - 1) number) (λ number. given (cycles_in settings) (λ cycles.
     given (workers_in settings) (λ workers. Some (Generate number cycles workers (is_given (codes "--stats") settings)))))

@@ -1,9 +1,9 @@
 //! From the words to what they ask for.
 
-ghost use Rattle.std.specs.Prelude.{◌≡◌, ◌≤◌, map, codes, IfOk, IfSome};
+ghost use Rattle.std.specs.Prelude.{◌≡◌, ◌≤◌, map, IfOk, IfSome};
 ghost use Rattle.std.specs.Option.{option_map};
 ghost use Rattle.std.specs.String.{string_bytes};
-ghost use Rattle.command_words.specs.Options.{settings_of, value_for};
+ghost use Rattle.command_words.specs.Options.{settings_of};
 ghost use Rattle.command_words.specs.Words.{halves, words_of, side_of, cycles_in, workers_in, run_reading, dis_reading, gen_reading, written, reading};
 ghost use Rattle.command_words.specs.Read.{Reads, run_in, command_in};
 

@@ -261,8 +261,8 @@ abbrev pub device_in : Board → Command → DeviceMeaning
 device_in b command = beside (parts_in command) b.parts b.device
 
 -- A run and the debugger on it load its image, which is linked where that is asked for, its script and its programs, and a listing and the
--- file of a Thumb source's image their source; the source text of instruction words needs no file. The run of a generated image has no script and no programs. How many workers run the lanes of a
--- run makes no difference.
+-- file of a Thumb source's image their source; the source text of instruction words needs no file. The run of a generated image has no
+-- script and no programs. How many workers take part in a run makes no difference.
 abbrev pub dialogue_of : DeviceMeaning → List Aim → Command → Dialogue
 dialogue_of device aims (RunImage run) = with_run (say_run run.stats aims) device run
 dialogue_of device aims (DebugImage run) = with_run hear_run device run

@@ -96,8 +96,8 @@ pub record ArePlaced (ps : List Placed) (loads : List PioLoad) : Type 0 where
   pub words : ArePrograms (plans_in ps) programs
   pub are : loads ≡ loads_of ps programs
 
--- Programs were placed, and are these loads, or none were in the end; a part of a dialogue leads to the programs of the entries that are
--- left, behind them.
+-- These programs are placed, and where something is answered it holds their loads; what comes behind them and the entries that are left (`rest`,
+-- which is empty in a contract) leads back to this part of a dialogue, or a walk of it ended so that nothing was opened
 pub record Places {V : Type 0} (files : Option Files) (failed failed' : List (List ℕ)) (part : (List Placed → Dialogue) → Dialogue) (rest : List Entry) (loads : V → List PioLoad) (result : Result V Unopened) : Type 0 where
   pub after : List Placed
   pub placed : IfOk result (λ v. ArePlaced after (loads v))

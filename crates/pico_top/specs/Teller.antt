@@ -1,5 +1,5 @@
--- What the events of a run leave in a sink, and with the probes that hear its pins; and what the run of a machine to its stop came to,
--- whoever ran its lanes. The project's own.
+-- What the events of a run leave in a sink, and with the probes that hear its pins; and that a run answers the cause of its stop, and the
+-- counts of its windows where they are asked for. The project's own.
 use Rattle.std.specs.Prelude.{◌≡◌, ℕ, List, [], ◌∷◌, ◌++◌, Option, None, Some, flat_map, map, Bool}
 use Rattle.std.proofs.Common.{refl, sym, ap, ap₂, ◌∙◌}
 use Rattle.std.proofs.lemmas.List.{append-nil, map-id}

@@ -305,8 +305,8 @@ pub fn pico_alone<F: Shelf, I: Source, O: Sink, X: Device, L: Ledger>(
 /// stand at the pads of a run, and the device at the addresses that no block covers. All their words are at most 128 together. Each
 /// cycle of a run, and each that the debugger steps, counts as one of the `steps`.
 ///
-/// Where the words name workers, so many threads run the lanes of a run beside this one, and the `gate` is entered and left round
-/// each piece of a lane; the call then waits for them and for the gate, and what is said here holds if it returns. The text is the
+/// Where the words name workers, so many threads take part in a run beside this one: they run the lanes of some of its windows, and
+/// the `gate` is entered and left round each piece of a lane; the call then waits for them and for the gate, and what is said here holds if it returns. The text is the
 /// same for each number of workers. Without workers nobody is waited for.
 pub fn pico<F: Shelf, I: Source, O: Sink, G: Gate, X: Device, L: Ledger, R>(
     rt: &R,

@@ -1,5 +1,5 @@
-//! A run up to the first state that has a stop, cycle by cycle, or by windows where these are counted or have workers; and where its
-//! events go: each leaves its line in the sink, and each change of a pin is heard by the probes.
+//! A run on the calling thread alone up to the first state that has a stop, cycle by cycle, or by windows where these are counted; what
+//! workers are given; and where its events go: each leaves its line in the sink, and each change of a pin is heard by the probes.
 
 ghost use Rattle.std.specs.Prelude.{◌≡◌, ◌∷◌, ◌<◌, [], ◌+◌, ◌≤◌, IfOk, IfSome};
 ghost use Rattle.trace_text.specs.declared.event.Event.TheVariants.{Pin};
@@ -37,7 +37,7 @@ use trace_text::writer::SinkFault;
 use window_merge::Crew;
 use window_runner::alone::{Ran, run_alone};
 use window_runner::cycles::run_cycles;
-use window_runner::windows::{RunFault, run_windows};
+use window_runner::windows::RunFault;
 
 /// Puts the line of an event.
 fn send_event<O: Sink>(event: &Event, out: &mut O) -> Result<(), SinkFault>
