@@ -6,7 +6,7 @@ use Rattle.std.specs.Int.{bit_at}
 use Rattle.lane_look.proofs.Pairs.{none_adds_nothing, the_first_device_drives}
 use Rattle.board_parts.specs.Part.{at_level}
 use Rattle.board_parts.specs.Parts.{wires_by, wires_of}
-use Rattle.board_parts.specs.PartLaws.{NoPartsAddNothing, TheEarlierPartDrives, PressedInTheSecondHalf, EightClocksFillTheRegister, ALoopShowsItsFirstPin, Clocks, alone, after_clocks}
+use Rattle.board_parts.specs.PartLaws.{NoPartsAddNothing, TheEarlierPartDrives, PressedInTheSecondHalf, EightClocksFillTheRegister, ALoopShowsItsFirstPin, Clocks, drive_alone, after_clocks}
 use Rattle.board_parts.specs.Shift.{shift}
 use Rattle.board_parts.proofs.Levels.{level_at, mask_at, either}
 
@@ -26,7 +26,7 @@ no_parts_add_nothing device =
 
 pub the_earlier_part_drives : TheEarlierPartDrives
 the_earlier_part_drives p others state cycle pads pin word low =
-    let drive = alone p state cycle pads in
+    let drive = drive_alone p state cycle pads in
     let rest = wires_of others (drop p.part.words state) cycle pads in
     record {
       driven = bit_at_or drive.mask rest.mask pin ∙ either (bit_at drive.mask pin) (bit_at rest.mask pin) (bit_at-lt drive.mask pin) (bit_at-lt rest.mask pin);

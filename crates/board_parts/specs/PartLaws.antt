@@ -18,8 +18,8 @@ abbrev pub NoPartsAddNothing : Type 0
 NoPartsAddNothing = (device : DeviceMeaning) → DoTheSame device (paired (parts_device []) device)
 
 -- what a part drives alone, over its own words
-abbrev pub alone : Placed → List ℕ → ℕ → ℕ → Drive
-alone p state cycle pads = p.part.drives p.pins (take p.part.words state) cycle pads
+abbrev pub drive_alone : Placed → List ℕ → ℕ → ℕ → Drive
+drive_alone p state cycle pads = p.part.drives p.pins (take p.part.words state) cycle pads
 
 -- a pin of some wires: what the first drives it has, and every other pin is as the rest have it
 pub record IsFirst (first : Drive) (rest wires : Wires) (pin : ℕ) : Type 0 where
@@ -30,8 +30,8 @@ pub record IsFirst (first : Drive) (rest wires : Wires) (pin : ℕ) : Type 0 whe
 abbrev pub TheEarlierPartDrives : Type 0
 TheEarlierPartDrives =
     (p : Placed) (others : List Placed) (state : List ℕ) (cycle pads pin : ℕ)
-    → (alone p state cycle pads).mask < 2 ^ 32 → pin < 32
-    → IsFirst (alone p state cycle pads) (wires_of others (drop p.part.words state) cycle pads) (wires_of (p ∷ others) state cycle pads) pin
+    → (drive_alone p state cycle pads).mask < 2 ^ 32 → pin < 32
+    → IsFirst (drive_alone p state cycle pads) (wires_of others (drop p.part.words state) cycle pads) (wires_of (p ∷ others) state cycle pads) pin
 
 -- ---- the three parts
 

@@ -11,7 +11,7 @@ use Rattle.command_words.specs.Lists.{cut, pieces, items_from, items_of, entry_o
 use Rattle.command_words.specs.Numbers.{given, number_below, number_within, number_of}
 use Rattle.command_words.specs.Line.{line_in}
 use Rattle.command_words.specs.Options.{NamedValue, settings_of, is_normal, value_for}
-use Rattle.command_words.specs.Words.{words_of, side_of, Run, Command, IsRead, parts_in, cycles_in, workers_in, run_reading, dis_reading, gen_reading, written, reading}
+use Rattle.command_words.specs.Words.{words_of, side_of, Run, Subcommand, IsRead, parts_in, cycles_in, workers_in, run_reading, dis_reading, gen_reading, written, reading}
 
 -- what holds of each value that the next step gives holds of what both give
 given_all : {X Y : Type 0} (P : Y → Type 0) (o : Option X) (next : X → Option Y) → ((x : X) → o ≡ Some x → IfSome (next x) P)
@@ -89,7 +89,7 @@ run_fits probes parts image settings =
     given_all P (workers_in settings) _ (λ _ _. of_some (AllFit parts) _ wirings (wirings_fit parts named) listed)))))
 
 -- the parts of a command fit those with so many pins
-abbrev IsFitting : List ℕ → Command → Type 0
+abbrev IsFitting : List ℕ → Subcommand → Type 0
 IsFitting parts command = AllFit parts (parts_in command)
 
 written_fits : (probes : ℕ) (parts : List ℕ) (words : List (List ℕ)) → IfSome (written probes parts words) (IsFitting parts)
@@ -108,7 +108,7 @@ written_fits probes parts (command ∷ argument ∷ options) =
     (λ _. given_all P (number_within 0 (2 ^ 64 - 1) argument) _ (λ m _. given_all P (cycles_in s) _ (λ n _. given_all P (workers_in s) _ (λ k _. refl)))) (λ _. tt))))))
 
 -- the parts of the command that is read fit those that are handed in
-pub read_parts_fit : (probes : ℕ) (parts : List ℕ) (command : Command) → IsRead probes parts command → all_fit parts (parts_in command) ≡ true
+pub read_parts_fit : (probes : ℕ) (parts : List ℕ) (command : Subcommand) → IsRead probes parts command → all_fit parts (parts_in command) ≡ true
 unfolding reading
 read_parts_fit probes parts command h = of_some (IsFitting parts) (reading probes parts h.0) command
     (either (IsFitting parts) (is_normal h.0) _ _ (λ _. written_fits probes parts h.0) (λ _. given_all (IsFitting parts) (line_in h.0) _ (λ line _. written_fits probes parts line))) h.1

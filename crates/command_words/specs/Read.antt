@@ -12,8 +12,8 @@ use Rattle.command_words.specs.declared.reading.WordsFault.{WordsFault}
 use Rattle.command_words.specs.declared.reading.WordsFault.TheVariants.{Words, Memory}
 use Rattle.command_words.specs.Options.{settings_of}
 use Rattle.command_words.specs.Lists.{Entry}
-use Rattle.command_words.specs.Words.{Run, Command}
-use Rattle.command_words.specs.Words.Command.{RunImage, DebugImage, Disassemble, Assemble, AssembleThumb, Generate}
+use Rattle.command_words.specs.Words.{Run, Subcommand}
+use Rattle.command_words.specs.Words.Subcommand.{RunImage, DebugImage, Disassemble, Assemble, AssembleThumb, Generate}
 
 -- the entry that the words of one stand for
 abbrev pub entry_in : PioEntry → Entry
@@ -34,7 +34,7 @@ run_in r = record {
 }
 
 -- the command that a reading stands for
-abbrev pub command_in : Reading → Command
+abbrev pub command_in : Reading → Subcommand
 command_in (readings.Run r) = RunImage (run_in r)
 command_in (readings.Debug r) = DebugImage (run_in r)
 command_in (readings.Dis d) = Disassemble d.words.items d.side

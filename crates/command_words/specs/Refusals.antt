@@ -108,15 +108,15 @@ start_fault_words (start.Taken address) = codes "1 Taken" ++ then_address addres
 start_fault_words start.Memory = codes "2 Memory"
 
 -- the line of a refusal
-unfoldable pub line_of : Refusal → List ℕ
-line_of BadWords = codes "error words\n"
-line_of (Lost name) = codes "error file " ++ name ++ codes "\n"
-line_of (TooLarge name long) = codes "error large " ++ (name ++ then_number long) ++ codes "\n"
-line_of (BadImage fault) = codes "error image " ++ fault_words fault ++ codes "\n"
-line_of (BadScript fault) = codes "error script " ++ script_fault_words fault ++ codes "\n"
-line_of (BadSource fault) = codes "error pio " ++ pio_fault_words fault ++ codes "\n"
-line_of (BadThumb fault) = codes "error thumb " ++ thumb_fault_words fault ++ codes "\n"
-line_of (BadStart fault) = codes "error start " ++ start_fault_words fault ++ codes "\n"
+unfoldable pub refused_line : Refusal → List ℕ
+refused_line BadWords = codes "error words\n"
+refused_line (Lost name) = codes "error file " ++ name ++ codes "\n"
+refused_line (TooLarge name long) = codes "error large " ++ (name ++ then_number long) ++ codes "\n"
+refused_line (BadImage fault) = codes "error image " ++ fault_words fault ++ codes "\n"
+refused_line (BadScript fault) = codes "error script " ++ script_fault_words fault ++ codes "\n"
+refused_line (BadSource fault) = codes "error pio " ++ pio_fault_words fault ++ codes "\n"
+refused_line (BadThumb fault) = codes "error thumb " ++ thumb_fault_words fault ++ codes "\n"
+refused_line (BadStart fault) = codes "error start " ++ start_fault_words fault ++ codes "\n"
 
 -- its status
 abbrev pub status_of : Refusal → ℕ

@@ -29,13 +29,13 @@ pub record Run : Type 0 where
 -- what the words may ask for: a run, the debugger on a run, the source text of instruction words, the listing of a PIO source, the
 -- image file of a Thumb source, or the run of the image that is generated from a number by so many workers, with or without the line
 -- of its windows
-pub data Command : Type 0 where
-  RunImage : (run : Run) → Command
-  DebugImage : (run : Run) → Command
-  Disassemble : (words : List ℕ) → (side : SideConfig) → Command
-  Assemble : (source : List ℕ) → Command
-  AssembleThumb : (source : List ℕ) → Command
-  Generate : (number cycles workers : ℕ) → (stats : Bool) → Command
+pub data Subcommand : Type 0 where
+  RunImage : (run : Run) → Subcommand
+  DebugImage : (run : Run) → Subcommand
+  Disassemble : (words : List ℕ) → (side : SideConfig) → Subcommand
+  Assemble : (source : List ℕ) → Subcommand
+  AssembleThumb : (source : List ℕ) → Subcommand
+  Generate : (number cycles workers : ℕ) → (stats : Bool) → Subcommand
 
 -- the limit of cycles, 1 to 1,000,000,000, which must be given
 abbrev pub cycles_in : List NamedValue → Option ℕ
@@ -86,17 +86,17 @@ side_of settings =
     if nat_le (count + opt) 5 then Some (record { count = count; opt = opt == 1; pindirs = false }) else None))
 
 -- `dis <hex> [--side S] [--opt T]`
-unfoldable pub dis_reading : List ℕ → List NamedValue → Option Command
+unfoldable pub dis_reading : List ℕ → List NamedValue → Option Subcommand
 dis_reading hex settings = given (words_of hex) (λ words. given (side_of settings) (λ side. Some (Disassemble words side)))
 
 -- `gen <number> --cycles N [--workers K] [--stats]`, the number below 2 ^ 64
-unfoldable pub gen_reading : List ℕ → List NamedValue → Option Command
+unfoldable pub gen_reading : List ℕ → List NamedValue → Option Subcommand
 gen_reading number settings =
     given (number_within 0 (2 ^ 64 - 1) number) (λ number. given (cycles_in settings) (λ cycles.
     given (workers_in settings) (λ workers. Some (Generate number cycles workers (is_given (codes "--stats") settings)))))
 
 -- what a command, its argument and its options ask for
-unfoldable pub written : ℕ → List ℕ → List (List ℕ) → Option Command
+unfoldable pub written : ℕ → List ℕ → List (List ℕ) → Option Subcommand
 written probes parts [] = None
 written probes parts (command ∷ []) = None
 written probes parts (command ∷ argument ∷ options) =
@@ -110,21 +110,21 @@ written probes parts (command ∷ argument ∷ options) =
 
 -- The reading of the words, or none where they are refused. Words in normal form are read as they are written. All others are read as
 -- `clap` reads them.
-unfoldable pub reading : ℕ → List ℕ → List (List ℕ) → Option Command
+unfoldable pub reading : ℕ → List ℕ → List (List ℕ) → Option Subcommand
 reading probes parts words = if is_normal words then written probes parts words else given (line_in words) (written probes parts)
 
 -- how many workers run the lanes of what is asked for; a command without such a number has none
-abbrev pub workers_of : Command → ℕ
+abbrev pub workers_of : Subcommand → ℕ
 workers_of (RunImage run) = run.workers
 workers_of (Generate number cycles workers stats) = workers
 workers_of _ = 0
 
 -- the parts that are attached for what is asked for
-abbrev pub parts_in : Command → List Wired
+abbrev pub parts_in : Subcommand → List Wired
 parts_in (RunImage run) = run.parts
 parts_in (DebugImage run) = run.parts
 parts_in _ = []
 
 -- what was asked for was read from some words, where so many probes were handed in, and parts with so many pins
-abbrev pub IsRead : ℕ → List ℕ → Command → Type 0
+abbrev pub IsRead : ℕ → List ℕ → Subcommand → Type 0
 IsRead probes parts command = (words : List (List ℕ)) × (reading probes parts words ≡ Some command)

@@ -1,8 +1,8 @@
 //! What is refused: the causes, and the line and the status of each.
-#![tactic(auto, unfolding(crate::specs::Refusals::line_of), using(std::proofs::Common::append_assoc))]
+#![tactic(auto, unfolding(crate::specs::Refusals::refused_line), using(std::proofs::Common::append_assoc))]
 
 ghost use Rattle.std.specs.Prelude.{◌≡◌, ◌++◌, codes, IfOk};
-ghost use Rattle.command_words.specs.Refusals.{meant, then_address, line_of, status_of};
+ghost use Rattle.command_words.specs.Refusals.{meant, then_address, refused_line, status_of};
 ghost use Rattle.command_words.specs.Refusals.Refusal.{BadImage, BadScript, BadSource, BadThumb, BadStart};
 
 use arrayvec::ArrayVec;
@@ -57,7 +57,7 @@ fn error_at(alloc: Global, words: &str, address: u32) -> Result<Vec<u8>, AllocEr
 
 /// The line of an image's fault.
 fn image_line(alloc: Global, fault: &ImageFault) -> Result<Vec<u8>, AllocError>
-    ensures { IfOk result (λ line. line.items ≡ line_of (BadImage fault.now)) }
+    ensures { IfOk result (λ line. line.items ≡ refused_line (BadImage fault.now)) }
 {
     match *fault {
         ImageFault::Empty => error(alloc, "image 1 Empty"),
@@ -84,7 +84,7 @@ fn image_line(alloc: Global, fault: &ImageFault) -> Result<Vec<u8>, AllocError>
 
 /// The line of a script's fault.
 fn script_line(alloc: Global, fault: &ScriptFault) -> Result<Vec<u8>, AllocError>
-    ensures { IfOk result (λ line. line.items ≡ line_of (BadScript fault.now)) }
+    ensures { IfOk result (λ line. line.items ≡ refused_line (BadScript fault.now)) }
 {
     match *fault {
         ScriptFault::Form(line) => error(alloc, &format!(in alloc; "script 1 Form {line}")?),
@@ -101,7 +101,7 @@ fn script_line(alloc: Global, fault: &ScriptFault) -> Result<Vec<u8>, AllocError
 
 /// The line of a PIO fault.
 fn pio_line(alloc: Global, fault: &PioFault) -> Result<Vec<u8>, AllocError>
-    ensures { IfOk result (λ line. line.items ≡ line_of (BadSource fault.now)) }
+    ensures { IfOk result (λ line. line.items ≡ refused_line (BadSource fault.now)) }
 {
     match *fault {
         PioFault::Char(line, at) => error(alloc, &format!(in alloc; "pio 1 Char {line} {at}")?),
@@ -121,7 +121,7 @@ fn pio_line(alloc: Global, fault: &PioFault) -> Result<Vec<u8>, AllocError>
 
 /// The line of a Thumb source's fault.
 fn thumb_line(alloc: Global, fault: &ThumbFault) -> Result<Vec<u8>, AllocError>
-    ensures { IfOk result (λ line. line.items ≡ line_of (BadThumb fault.now)) }
+    ensures { IfOk result (λ line. line.items ≡ refused_line (BadThumb fault.now)) }
 {
     match *fault {
         ThumbFault::Char(line) => error(alloc, &format!(in alloc; "thumb 1 Char {line}")?),
@@ -139,7 +139,7 @@ fn thumb_line(alloc: Global, fault: &ThumbFault) -> Result<Vec<u8>, AllocError>
 
 /// The line of an image that cannot be linked.
 fn start_line(alloc: Global, fault: &StartFault) -> Result<Vec<u8>, AllocError>
-    ensures { IfOk result (λ line. line.items ≡ line_of (BadStart fault.now)) }
+    ensures { IfOk result (λ line. line.items ≡ refused_line (BadStart fault.now)) }
 {
     match *fault {
         StartFault::Taken(address) => error_at(alloc, "start 1 Taken", address),
@@ -149,7 +149,7 @@ fn start_line(alloc: Global, fault: &StartFault) -> Result<Vec<u8>, AllocError>
 
 /// The line of a refusal.
 pub fn refusal_line(alloc: Global, refusal: &Refusal) -> Result<Vec<u8>, AllocError>
-    ensures { IfOk result (λ line. line.items ≡ line_of (meant refusal.now)) }
+    ensures { IfOk result (λ line. line.items ≡ refused_line (meant refusal.now)) }
 {
     match refusal {
         Refusal::Words => error(alloc, "words"),

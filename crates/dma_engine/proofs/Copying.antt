@@ -21,7 +21,7 @@ use Rattle.dma_engine.specs.Cycle.{want_of, is_in_flight, after_ends, with_read,
 use Rattle.dma_engine.specs.Timer.{gets_credit, after_timers}
 use Rattle.dma_engine.specs.Transfer.{advanced, moved, data_of, read_of, write_after, request_of}
 use Rattle.dma_engine.specs.State.{State}
-use Rattle.dma_engine.specs.TransferLaws.{copier, alone, told, granted, begun_by, engine_after, written_by, writes, copies, AreInSram, ACopyIsExact, ARingKeepsItsHighBits, AnAbortRaisesNothing}
+use Rattle.dma_engine.specs.TransferLaws.{copier, with_channel_0, memory_answer, granted, begun_by, engine_after, written_by, writes, copies, AreInSram, ACopyIsExact, ARingKeepsItsHighBits, AnAbortRaisesNothing}
 
 -- ---- what is begun
 
@@ -35,7 +35,7 @@ abbrev writing : ℕ → ℕ → Access
 writing address value = access.Write (record { address = address; size = sizes.Word; write = Some value })
 
 abbrev busy : ℕ → ℕ → ℕ → ℕ → Option ℕ → List WaitingWrite → State
-busy m r w k chosen waiting = alone (copier m r w k true) chosen waiting 0
+busy m r w k chosen waiting = with_channel_0 (copier m r w k true) chosen waiting 0
 
 begun_none : (memory : ℕ → ℕ) (m r w k : ℕ) → begun_by memory (busy m r w k None []) ≡ begun_with 0 access.Nothing access.Nothing
 unfolding asks asks_read next_request write_begun
@@ -45,13 +45,13 @@ begun_read : (memory : ℕ → ℕ) (m r w k i b : ℕ) → place_of (r / 4 * 4)
     begun_by memory (busy m r w k (Some 0) []) ≡ begun_with 0 (reading (r / 4 * 4) (memory (r / 4 * 4) % 2 ^ 32)) access.Nothing
 unfolding asks asks_read next_request write_begun read_of
 begun_read memory m r w k i b h =
-    ap (λ p. answered (told memory) (asks_at 0 access.Nothing (record { address = r / 4 * 4; size = sizes.Word; write = None }) p)) h
+    ap (λ p. answered (memory_answer memory) (asks_at 0 access.Nothing (record { address = r / 4 * 4; size = sizes.Word; write = None }) p)) h
 
 begun_both : (memory : ℕ → ℕ) (m r w k i b j c x v : ℕ) → place_of (r / 4 * 4) ≡ spot.Ram i b → place_of x ≡ spot.Ram j c →
     begun_by memory (busy m r w k (Some 0) (pending x v ∷ [])) ≡ begun_with 0 (reading (r / 4 * 4) (memory (r / 4 * 4) % 2 ^ 32)) (writing x v)
 unfolding asks asks_read next_request write_begun read_of request_of
 begun_both memory m r w k i b j c x v h g =
-    ap₂ (λ p q. answered (told memory) (asks_at 0 (write_at (record { address = x; size = sizes.Word; write = Some v }) q) (record { address = r / 4 * 4; size = sizes.Word; write = None }) p)) h g
+    ap₂ (λ p q. answered (memory_answer memory) (asks_at 0 (write_at (record { address = x; size = sizes.Word; write = Some v }) q) (record { address = r / 4 * 4; size = sizes.Word; write = None }) p)) h g
 
 begun_write : (memory : ℕ → ℕ) (m r w k j c x v : ℕ) → place_of x ≡ spot.Ram j c →
     begun_by memory (busy m r w k None (pending x v ∷ [])) ≡ begun_with 0 access.Nothing (writing x v)
@@ -114,16 +114,16 @@ unfolding choice_of first_in_turn is_ready in_turn after_ends after_transfers ne
 write_end m r w y v = refl
 
 the_end : (m r w : ℕ) → next (busy m r w 0 None []) (begun_with 0 access.Nothing access.Nothing) (Done 0 ∷ Done 0 ∷ [])
-    ≡ alone (copier m r w 0 false) None [] 1
+    ≡ with_channel_0 (copier m r w 0 false) None [] 1
 unfolding choice_of first_in_turn is_ready in_turn after_ends after_transfers next after_timers with_read moved data_of write_after with_end with_trigger
 the_end m r w = refl
 
-still : (m r w raised : ℕ) → next (alone (copier m r w 0 false) None [] raised) (begun_with 0 access.Nothing access.Nothing) (Done 0 ∷ Done 0 ∷ [])
-    ≡ alone (copier m r w 0 false) None [] raised
+still : (m r w raised : ℕ) → next (with_channel_0 (copier m r w 0 false) None [] raised) (begun_with 0 access.Nothing access.Nothing) (Done 0 ∷ Done 0 ∷ [])
+    ≡ with_channel_0 (copier m r w 0 false) None [] raised
 unfolding choice_of first_in_turn is_ready in_turn after_ends after_transfers next after_timers with_read moved data_of write_after with_end with_trigger
 still m r w raised = refl
 
-begun_still : (memory : ℕ → ℕ) (m r w raised : ℕ) → begun_by memory (alone (copier m r w 0 false) None [] raised) ≡ begun_with 0 access.Nothing access.Nothing
+begun_still : (memory : ℕ → ℕ) (m r w raised : ℕ) → begun_by memory (with_channel_0 (copier m r w 0 false) None [] raised) ≡ begun_with 0 access.Nothing access.Nothing
 unfolding asks asks_read next_request write_begun
 begun_still memory m r w raised = refl
 
@@ -302,21 +302,21 @@ from_start memory m (suc (suc k)) r w few h g =
 
 -- ---- the end
 
-stays : (memory : ℕ → ℕ) (m r w raised : ℕ) → Steps memory (alone (copier m r w 0 false) None [] raised) (alone (copier m r w 0 false) None [] raised) []
+stays : (memory : ℕ → ℕ) (m r w raised : ℕ) → Steps memory (with_channel_0 (copier m r w 0 false) None [] raised) (with_channel_0 (copier m r w 0 false) None [] raised) []
 stays memory m r w raised =
     steps memory _ _ (begun_with 0 access.Nothing access.Nothing) (begun_still memory m r w raised) (still m r w raised)
 
-writes_none : (memory : ℕ → ℕ) (m r w raised n : ℕ) → writes memory n (alone (copier m r w 0 false) None [] raised) ≡ []
+writes_none : (memory : ℕ → ℕ) (m r w raised n : ℕ) → writes memory n (with_channel_0 (copier m r w 0 false) None [] raised) ≡ []
 writes_none memory m r w raised zero = refl
 writes_none memory m r w raised (suc n) = then_writes memory n _ _ [] (stays memory m r w raised) ∙ writes_none memory m r w raised n
 
-stays_so : (memory : ℕ → ℕ) (m r w raised n : ℕ) → engine_after memory n (alone (copier m r w 0 false) None [] raised) ≡ alone (copier m r w 0 false) None [] raised
+stays_so : (memory : ℕ → ℕ) (m r w raised n : ℕ) → engine_after memory n (with_channel_0 (copier m r w 0 false) None [] raised) ≡ with_channel_0 (copier m r w 0 false) None [] raised
 stays_so memory m r w raised zero = refl
 stays_so memory m r w raised (suc n) = then_after memory n _ _ [] (stays memory m r w raised) ∙ stays_so memory m r w raised n
 
-ends_so : (memory : ℕ → ℕ) (m r w : ℕ) → engine_after memory 1 (busy m r w 0 None []) ≡ alone (copier m r w 0 false) None [] 1
+ends_so : (memory : ℕ → ℕ) (m r w : ℕ) → engine_after memory 1 (busy m r w 0 None []) ≡ with_channel_0 (copier m r w 0 false) None [] 1
 ends_so memory m r w =
-    then_after memory 0 _ _ [] (steps memory (busy m r w 0 None []) (alone (copier m r w 0 false) None [] 1) (begun_with 0 access.Nothing access.Nothing) (begun_none memory m r w 0) (the_end m r w))
+    then_after memory 0 _ _ [] (steps memory (busy m r w 0 None []) (with_channel_0 (copier m r w 0 false) None [] 1) (begun_with 0 access.Nothing access.Nothing) (begun_none memory m r w 0) (the_end m r w))
 
 two_more : (n : ℕ) → n + 2 ≡ suc (suc n)
 two_more n = omega arith
@@ -355,7 +355,7 @@ ring_kept n bytes address h =
 -- ---- an abort
 
 abbrev aborted : ℕ → ℕ → ℕ → State
-aborted m r w = alone (record (copier m r w 0 true) { aborted = true }) None [] 0
+aborted m r w = with_channel_0 (record (copier m r w 0 true) { aborted = true }) None [] 0
 
 abort_is : (m r w n : ℕ) → with_abort 0 (busy m r w n None []) ≡ aborted m r w
 unfolding with_abort
@@ -365,11 +365,11 @@ begun_aborted : (memory : ℕ → ℕ) (m r w : ℕ) → begun_by memory (aborte
 unfolding asks asks_read next_request write_begun
 begun_aborted memory m r w = refl
 
-abort_ends : (m r w : ℕ) → next (aborted m r w) (begun_with 0 access.Nothing access.Nothing) (Done 0 ∷ Done 0 ∷ []) ≡ alone (copier m r w 0 false) None [] 0
+abort_ends : (m r w : ℕ) → next (aborted m r w) (begun_with 0 access.Nothing access.Nothing) (Done 0 ∷ Done 0 ∷ []) ≡ with_channel_0 (copier m r w 0 false) None [] 0
 unfolding choice_of first_in_turn is_ready in_turn after_ends after_transfers next after_timers with_read moved data_of write_after with_end with_trigger
 abort_ends m r w = refl
 
-after_abort : (memory : ℕ → ℕ) (m r w : ℕ) → Steps memory (aborted m r w) (alone (copier m r w 0 false) None [] 0) []
+after_abort : (memory : ℕ → ℕ) (m r w : ℕ) → Steps memory (aborted m r w) (with_channel_0 (copier m r w 0 false) None [] 0) []
 after_abort memory m r w = steps memory _ _ (begun_with 0 access.Nothing access.Nothing) (begun_aborted memory m r w) (abort_ends m r w)
 
 abort_writes : (memory : ℕ → ℕ) (m r w k : ℕ) → writes memory k (aborted m r w) ≡ []

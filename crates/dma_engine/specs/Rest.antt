@@ -2,7 +2,7 @@
 -- Datasheet, 2.5.3.2).
 use Rattle.std.specs.Prelude.{◌≡◌, ℕ, ◌<◌, Bool, true, false, not, ◌&&◌, ◌||◌, ◌==◌, nat_lt, List, length, is_none}
 use Rattle.std.specs.List.{list_all}
-use Rattle.lane_look.specs.Steps.{IsAtRest}
+use Rattle.lane_look.specs.Steps.{NeverActs}
 use Rattle.lane_look.specs.declared.lane.Turn.{Turn}
 use Rattle.dma_engine.specs.declared.channel.Channel.{Channel}
 use Rattle.dma_engine.specs.declared.timer.PacingTimer.{PacingTimer}
@@ -45,5 +45,5 @@ pub record StaysBy (counts : ℕ) (s : State) : Type 0 where
   pub idle : AreIdle counts s 12
 
 -- in its reset state, and so where it is held, the engine asks nothing, wants nothing and stays as it is
-abbrev pub AnEngineRestsAtReset : Type 0
-AnEngineRestsAtReset = IsAtRest (λ s cycle. asks s) wanted next at_reset
+abbrev pub AnEngineAtResetNeverActs : Type 0
+AnEngineAtResetNeverActs = NeverActs (λ s cycle. asks s) wanted next at_reset

@@ -32,8 +32,8 @@ copier reload read write count busy = record {
 }
 
 -- channel 0 is such a one, and the others are as after a reset
-abbrev pub alone : Channel → Option ℕ → List WaitingWrite → ℕ → State
-alone c chosen waiting raised =
+abbrev pub with_channel_0 : Channel → Option ℕ → List WaitingWrite → ℕ → State
+with_channel_0 c chosen waiting raised =
     record at_reset {
       channels = c ∷ replicate 11 idle_channel;
       chosen = chosen;
@@ -43,12 +43,12 @@ alone c chosen waiting raised =
     }
 
 -- a cycle in which the memory answers, and each access is done
-abbrev pub told : (ℕ → ℕ) → Ask → ℕ
-told memory (Word address) = memory address
-told memory _ = 0
+abbrev pub memory_answer : (ℕ → ℕ) → Ask → ℕ
+memory_answer memory (Word address) = memory address
+memory_answer memory _ = 0
 
 abbrev pub begun_by : (ℕ → ℕ) → State → BegunTransfer
-begun_by memory s = answered (told memory) (asks s)
+begun_by memory s = answered (memory_answer memory) (asks s)
 
 abbrev pub granted : (ℕ → ℕ) → State → State
 granted memory s = next s (begun_by memory s) (Done 0 ∷ Done 0 ∷ [])
@@ -84,15 +84,15 @@ pub record AreInSram (n address : ℕ) : Type 0 where
 -- the n words are copied in order, two cycles and one for each; in the next cycle the sequence ends, and INTR has the channel's
 -- bit; in no cycle after that anything is written or raised
 pub record IsCopied (memory : ℕ → ℕ) (n reload read write : ℕ) : Type 0 where
-  pub copied : writes memory (n + 2) (alone (copier reload read write n true) None [] 0) ≡ copies memory n read write
-  pub not_yet : (engine_after memory (n + 2) (alone (copier reload read write n true) None [] 0)).raised ≡ 0
+  pub copied : writes memory (n + 2) (with_channel_0 (copier reload read write n true) None [] 0) ≡ copies memory n read write
+  pub not_yet : (engine_after memory (n + 2) (with_channel_0 (copier reload read write n true) None [] 0)).raised ≡ 0
   pub ended :
-      engine_after memory (n + 3) (alone (copier reload read write n true) None [] 0)
-      ≡ alone (copier reload (read + 4 * n) (write + 4 * n) 0 false) None [] 1
+      engine_after memory (n + 3) (with_channel_0 (copier reload read write n true) None [] 0)
+      ≡ with_channel_0 (copier reload (read + 4 * n) (write + 4 * n) 0 false) None [] 1
   pub still :
-      (m : ℕ) → writes memory m (alone (copier reload (read + 4 * n) (write + 4 * n) 0 false) None [] 1) ≡ []
-      × engine_after memory m (alone (copier reload (read + 4 * n) (write + 4 * n) 0 false) None [] 1)
-      ≡ alone (copier reload (read + 4 * n) (write + 4 * n) 0 false) None [] 1
+      (m : ℕ) → writes memory m (with_channel_0 (copier reload (read + 4 * n) (write + 4 * n) 0 false) None [] 1) ≡ []
+      × engine_after memory m (with_channel_0 (copier reload (read + 4 * n) (write + 4 * n) 0 false) None [] 1)
+      ≡ with_channel_0 (copier reload (read + 4 * n) (write + 4 * n) 0 false) None [] 1
 
 abbrev pub ACopyIsExact : Type 0
 ACopyIsExact =
@@ -115,5 +115,5 @@ ARingKeepsItsHighBits = (n bytes address : ℕ) → 1 ≤ n → IsRing n bytes a
 abbrev pub AnAbortRaisesNothing : Type 0
 AnAbortRaisesNothing =
     (memory : ℕ → ℕ) (n reload read write m : ℕ) →
-    let s = with_abort 0 (alone (copier reload read write n true) None [] 0) in
+    let s = with_abort 0 (with_channel_0 (copier reload read write n true) None [] 0) in
     (writes memory m s ≡ []) × ((engine_after memory m s).raised ≡ 0)

@@ -15,7 +15,7 @@ use std::marker::Model;
 pub struct Dma {
     pub(crate) engine: Engine,
     /// The engine is paused and no timer runs, so that no cycle changes it; it may be false where that is so.
-    pub(crate) at_rest: bool,
+    pub(crate) stays: bool,
     /// `is_paused` of the engine: nothing moves until a register is written or a pacing timer gives a credit.
     pub(crate) paused: bool,
     /// `is_silent` of the engine: no interrupt is raised or forced.
@@ -34,7 +34,7 @@ impl Model for Dma {
 
     ghost view = { λ d. d.engine };
 
-    ghost invariant = { λ d. (d.at_rest ≡ true → Stays d.engine) × (d.paused ≡ is_paused d.engine)
+    ghost invariant = { λ d. (d.stays ≡ true → Stays d.engine) × (d.paused ≡ is_paused d.engine)
         × (d.silent ≡ is_silent d.engine)
         × IfSome d.unmoved_by (λ counts. StaysBy counts d.engine) };
 }
@@ -52,12 +52,12 @@ impl Dma {
         ensures { result ≡ at_reset }
     {
         let engine = Engine::new();
-        let at_rest = engine.stays();
+        let stays = engine.stays();
         let paused = engine.is_paused();
         let silent = engine.is_silent();
         Dma {
             engine,
-            at_rest,
+            stays,
             paused,
             silent,
             unmoved_by: None,
@@ -78,7 +78,7 @@ impl Dma {
         ensures allowed { result ≡ is_word offset }
     {
         let allowed = self.engine.effect(offset, write);
-        self.at_rest = self.engine.stays();
+        self.stays = self.engine.stays();
         self.paused = self.engine.is_paused();
         self.silent = self.engine.is_silent();
         self.unmoved_by = None;
@@ -107,19 +107,19 @@ impl Dma {
         }
     }
 
-    /// The cycle, where this was begun and these turns were given. Whether the engine rests or is paused is found again where
-    /// something moved, and whether it is silent; where only timers stepped it does not rest, and the others are as before.
+    /// The cycle, where this was begun and these turns were given. Whether the engine stays or is paused is found again where
+    /// something moved, and whether it is silent; where only timers stepped it does not stay, and the others are as before.
     #[inline(never)]
     pub(crate) fn move_on(&mut self, begun: &BegunTransfer, turns: &[Turn; 2])
         ensures { self.new ≡ next self.old begun.now turns.now }
     {
         if self.engine.finish(begun, turns) {
-            self.at_rest = self.engine.stays();
+            self.stays = self.engine.stays();
             self.paused = self.engine.is_paused();
             self.silent = self.engine.is_silent();
             self.unmoved_by = None;
         } else {
-            self.at_rest = false;
+            self.stays = false;
             self.unmoved_by = self.engine.stays_by(begun.counts);
         }
     }

@@ -5,7 +5,7 @@ ghost use Rattle.std.specs.Prelude.{◌≡◌, ◌<◌, ℕ, false, true, length
 ghost use Rattle.std.specs.List.{list_all, list_any};
 ghost use Rattle.lane_look.specs.declared.lane.Turn.{Turn};
 ghost use Rattle.dma_engine.specs.Control.{treq_of};
-ghost use Rattle.dma_engine.specs.Choice.{is_candidate, choice_of};
+ghost use Rattle.dma_engine.specs.Choice.{is_candidate};
 ghost use Rattle.dma_engine.specs.Requests.{pace_of};
 ghost use Rattle.dma_engine.specs.declared.begun.Access.TheVariants as Access;
 ghost use Rattle.dma_engine.specs.State.{channel_at};

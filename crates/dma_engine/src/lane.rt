@@ -59,7 +59,7 @@ impl Lane<()> for Dma {
     #[inline(always)]
     #[tactic(auto, using(crate::proofs::Rest::unmoved))]
     fn finish(&mut self, _env: &(), begun: &BegunTransfer, turns: [Turn; 2], _marks: &mut Marks) {
-        if self.at_rest || self.is_unmoved_by(begun) {
+        if self.stays || self.is_unmoved_by(begun) {
             return;
         }
         self.move_on(begun, &turns);
@@ -67,7 +67,7 @@ impl Lane<()> for Dma {
 
     fn copy_from(&mut self, other: &Dma) {
         self.engine.copy_from(&other.engine);
-        self.at_rest = other.at_rest;
+        self.stays = other.stays;
         self.paused = other.paused;
         self.silent = other.silent;
         self.unmoved_by = other.unmoved_by;

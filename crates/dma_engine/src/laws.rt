@@ -3,7 +3,7 @@
 ghost use Rattle.dma_engine.specs.Laws.{TheChoiceComesFirst};
 ghost use Rattle.dma_engine.specs.Pace.{CountsAreTakenAsPacked};
 ghost use Rattle.dma_engine.specs.TransferLaws.{ACopyIsExact, ARingKeepsItsHighBits, AnAbortRaisesNothing};
-ghost use Rattle.dma_engine.specs.Rest.{AnEngineRestsAtReset};
+ghost use Rattle.dma_engine.specs.Rest.{AnEngineAtResetNeverActs};
 ghost use Rattle.dma_engine.specs.InterruptLaws.{WhatIsEnabledOrForcedIsShown};
 ghost use Rattle.dma_engine.specs.Words.{EachRegisterIsAtItsOffset, AnEngineThatIsHeldIsStill};
 
@@ -46,8 +46,8 @@ pub fn each_register_is_at_its_offset()
 {}
 
 /// In its reset state the engine asks nothing, wants nothing and stays as it is: so does one that is held.
-pub fn an_engine_rests_at_reset()
-    ensures { AnEngineRestsAtReset }
+pub fn an_engine_at_reset_never_acts()
+    ensures { AnEngineAtResetNeverActs }
 {}
 
 /// An engine that is held reads 0, and no access changes it.

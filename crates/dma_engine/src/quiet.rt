@@ -128,7 +128,7 @@ impl Dma {
             return;
         }
         self.engine.pass_timers(n);
-        self.at_rest = false;
+        self.stays = false;
         self.unmoved_by = None;
     }
 }

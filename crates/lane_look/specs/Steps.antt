@@ -1,4 +1,4 @@
--- What a lane's step reads of its turns, and what a lane at rest is.
+-- What a lane's step reads of its turns, and what a lane that never acts is.
 use Rattle.std.specs.Prelude.{◌≡◌, ℕ, List, [], ◌∷◌}
 use Rattle.lane_look.specs.declared.lane.Want.{Want}
 use Rattle.lane_look.specs.declared.lane.Want.TheVariants as want
@@ -17,9 +17,9 @@ abbrev pub without_words : List Want → List Turn → List Turn
 without_words (want ∷ wants) (turn ∷ turns) = without_word want turn ∷ without_words wants turns
 without_words wants turns = turns
 
--- a lane at rest: in no cycle does it ask anything, want anything or change
-abbrev pub IsAtRest : {S B : Type 0} → (S → ℕ → Asking B) → (B → List Want) → (S → B → List Turn → S) → S → Type 0
-IsAtRest {S} {B} asks wanted next s =
+-- a lane that never acts: in no cycle does it ask anything, want anything or change
+abbrev pub NeverActs : {S B : Type 0} → (S → ℕ → Asking B) → (B → List Want) → (S → B → List Turn → S) → S → Type 0
+NeverActs {S} {B} asks wanted next s =
     (cycle : ℕ) → (begun : B)
     × (asks s cycle ≡ Ready begun)
     × (wanted begun ≡ want.Nothing ∷ want.Nothing ∷ [])

@@ -176,7 +176,7 @@ fn alone_in<E, S: Lane<E>, W: Around>(report: &mut Report<S>, env: &E, around: W
 
 /// The run alone of a lane from the report's `before` and `start`, of at most so many cycles, in the report: nothing of it is
 /// moved. Gives what is left around the lane.
-pub fn run_alone<E, S: Lane<E>, W: Around>(
+pub fn run_lane_alone<E, S: Lane<E>, W: Around>(
     report: &mut Report<S>,
     env: &E,
     around: W,

@@ -14,7 +14,7 @@ pub mod marks;
 pub mod pair;
 pub mod replay;
 
-pub use alone::{Around, run_alone};
+pub use alone::{Around, run_lane_alone};
 pub use device::{Device, NoDevice, Wires};
 pub use lane::{Ask, Lane, Look, Turn, Want};
 pub use log::{Log, LogLook};

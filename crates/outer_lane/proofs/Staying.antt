@@ -3,14 +3,13 @@ use Rattle.std.proofs.Common.{◌≡◌, ◌<◌, ℕ, ◌-◌, ◌^◌, List, [
 use Rattle.io_bank.specs.declared.outputs.Outs.{Outs}
 use Rattle.io_bank.specs.State.{State as Bank}
 use Rattle.io_bank.specs.Edges.{edges_of}
-use Rattle.io_bank.specs.Levels.{by_sets, levels_of, uart_outputs}
+use Rattle.io_bank.specs.Levels.{by_sets, levels_of}
 use Rattle.io_bank.specs.Step.{after_step, with_edges, with_levels}
 use Rattle.lane_look.specs.declared.device.Wires.{Wires}
 use Rattle.lane_look.specs.declared.marks.Mark.{Mark}
 use Rattle.pin_script.specs.declared.entry.Entry.{Entry}
 use Rattle.pin_script.specs.declared.script.Drives.{Drives}
 use Rattle.pin_script.specs.Levels.{drive_at}
-use Rattle.rp_uart.specs.Step.{output_of}
 use Rattle.outer_lane.specs.declared.drivers.Drivers.{Drivers}
 use Rattle.outer_lane.specs.declared.world.SeenOutputs.{SeenOutputs}
 use Rattle.outer_lane.specs.BroughtUp.{blocks_of, blocks_stepped}

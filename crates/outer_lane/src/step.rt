@@ -46,11 +46,11 @@ pub(crate) fn driven_by<X: Device>(
 }
 
 impl Outer {
-    ghost use Rattle.std.specs.Prelude.{◌≡◌, ◌<◌, ℕ, true, ◌∷◌, ◌++◌, [], length};
+    ghost use Rattle.std.specs.Prelude.{◌≡◌, ◌<◌, true, ◌∷◌, ◌++◌, [], length};
     ghost use Rattle.io_bank.specs.Levels.{by_sets, levels_of};
     ghost use Rattle.outer_lane.specs.BroughtUp.{blocks_of, blocks_outs, blocks_stepped};
     ghost use Rattle.outer_lane.specs.Rest.{outs_by, pads_after, pads_driven, next_driven, marked_driven};
-    ghost use Rattle.outer_lane.specs.Step.{outs_of, outside_of, byte_of, next_by, marked_by};
+    ghost use Rattle.outer_lane.specs.Step.{outs_of, byte_of, next_by, marked_by};
 
     /// What the UARTs put out, by pin: levels and enables.
     #[inline(always)]

@@ -1,5 +1,5 @@
 -- The causes of a call's status, from the ending of its walk; the status over files and bytes that are told; and the whole text.
-use Rattle.pico_top.proofs.Names.{◌≡◌, ◌⊎◌, ℕ, List, Option, None, Result, Ok, Err, refl, sym, inl, inr, ◌∙◌, subst, arith, ◌+◌, ◌-◌, ◌<◌, ◌≤◌, nat_le, Bool, true, false, not, ◌&&◌, if◌then◌else◌, [], ◌∷◌, ◌++◌, length, take, Some, IfSome, ap, length-append, SinkFault, Command, Refusal, line_of, status_of, BadWords, Way, Closed, Ended, Broken, Full, way_status, BearsOut, MayEnd, IsTaken, Board, Sunk, Outside, dialogue_from, Dialogue, Ending, Walks, failed_names, Verdict, verdict, status_over, Said, Heard, Refused, NoMemory, Puts, RunsOut, Ends, Takes, Writes, sent_status, memory_line, ConversesIn, append-nil, take_at, Files, Appends, closes, Refuses, Says, Hears}
+use Rattle.pico_top.proofs.Names.{◌≡◌, ◌⊎◌, ℕ, List, Option, None, Result, Ok, Err, refl, sym, inl, inr, ◌∙◌, subst, arith, ◌+◌, ◌-◌, ◌<◌, ◌≤◌, nat_le, Bool, true, false, not, ◌&&◌, if◌then◌else◌, [], ◌∷◌, ◌++◌, length, take, Some, IfSome, ap, length-append, SinkFault, Subcommand, Refusal, refused_line, status_of, BadWords, Way, Closed, Ended, Broken, Full, way_status, BearsOut, MayEnd, IsTaken, Board, Sunk, Outside, dialogue_from, Dialogue, Ending, Walks, failed_names, Verdict, verdict, status_over, Said, Heard, Refused, NoMemory, Puts, RunsOut, Ends, Takes, Writes, sent_status, memory_line, ConversesIn, append-nil, take_at, Files, Appends, closes, Refuses, Says, Hears}
 use Rattle.rp_ports.specs.Fault.{Rose}
 use Rattle.rp_ports.specs.Source.{IsAtEnd}
 use Rattle.pico_top.specs.Causes.{HasCause, HasHeard, IsStatus, Causes, Fulfils, Completes, HasRunOut, DoesNotFail, SaysAll, AnswersAll}
@@ -36,7 +36,7 @@ out_comes a b status own h = elim (sent_is a b status 9 memory_line h.0 h.1 h.2)
 ends_comes : (a b : Sunk) (status : ℕ) (e : Ending) → Ends a b status e → ComesOf a b status (ending_status e)
 ends_comes a b status (Said reply) h = told_comes a b status 0 reply.text h
 ends_comes a b status (Heard bytes way reply) h = told_comes a b status (way_status way) reply.text h
-ends_comes a b status (Refused refusal) h = elim h [ inl w ↦ told_comes a b status (status_of refusal) (line_of refusal) w | inr w ↦ out_comes a b status (status_of refusal) w ]
+ends_comes a b status (Refused refusal) h = elim h [ inl w ↦ told_comes a b status (status_of refusal) (refused_line refusal) w | inr w ↦ out_comes a b status (status_of refusal) w ]
 ends_comes a b status NoMemory h = out_comes a b status 9 h
 
 -- ---- the causes
@@ -49,7 +49,7 @@ sink_cause a b status own other h seven = elim h [
 ]
 
 -- of the statuses that no refusal has those of a failed source and of a full input have a cause
-no_refusal : (b : Board) (asked : Option Command) (before after : Outside) (status own : ℕ) → (own ≡ 0) ⊎ ((own ≡ 9) ⊎ ((own ≡ 8) ⊎ (own ≡ 10))) → ComesOf before.sink after.sink status own
+no_refusal : (b : Board) (asked : Option Subcommand) (before after : Outside) (status own : ℕ) → (own ≡ 0) ⊎ ((own ≡ 9) ⊎ ((own ≡ 8) ⊎ (own ≡ 10))) → ComesOf before.sink after.sink status own
     → (own ≡ 8 → HasHeard (dialogue_from b asked) before after status Broken) → (own ≡ 10 → HasHeard (dialogue_from b asked) before after status Full) → HasCause b asked before after status
 no_refusal b asked before after status own plain comes broken full = record {
   words = λ e. absurd (grind (arith, comes, plain, e));
@@ -70,7 +70,7 @@ only_words refusal e = grind (arith, e)
 apart : (refusal : Refusal) → ((status_of refusal ≡ 7) → ⊥) × ((status_of refusal ≡ 8) → ⊥) × ((status_of refusal ≡ 10) → ⊥)
 apart refusal = (λ e. grind (arith, e), λ e. grind (arith, e), λ e. grind (arith, e))
 
-caused : (b : Board) (asked : Option Command) (before after : Outside) (status : ℕ) (e : Ending) → EndedIn (dialogue_from b asked) before after status e
+caused : (b : Board) (asked : Option Subcommand) (before after : Outside) (status : ℕ) (e : Ending) → EndedIn (dialogue_from b asked) before after status e
     → ComesOf before.sink after.sink status (ending_status e) → HasCause b asked before after status
 caused b asked before after status (Said reply) ended comes = no_refusal b asked before after status 0 (inl refl) comes (λ e. absurd (cc e)) (λ e. absurd (cc e))
 caused b asked before after status (Heard bytes Closed reply) ended comes = no_refusal b asked before after status 0 (inl refl) comes (λ e. absurd (cc e)) (λ e. absurd (cc e))
@@ -169,7 +169,7 @@ fulfils (Some f) d before after e status walk names takes is = λ same. elim (wa
 ]
 
 -- words that are refused end so, or memory ran out
-refused_status : (files : Option Files) (b : Board) (asked : Option Command) (e : Ending) (status : ℕ) → Walks files (dialogue_from b asked) e → IsStatus status (ending_status e) → asked ≡ None → IsStatus status 2
+refused_status : (files : Option Files) (b : Board) (asked : Option Subcommand) (e : Ending) (status : ℕ) → Walks files (dialogue_from b asked) e → IsStatus status (ending_status e) → asked ≡ None → IsStatus status 2
 refused_status files b None e status walk is none = elim walk [
   | inl x ↦ subst (λ (x : Ending). IsStatus status (ending_status x)) x is
   | inr x ↦ none_is status 2 (subst (λ (x : Ending). IsStatus status (ending_status x)) x is)

@@ -3,10 +3,10 @@ pub use Rattle.board_parts.specs.Hearing.{Aim, seen}
 pub use Rattle.board_parts.specs.Wiring.{Wired, counts_of, placed_by, wired_in}
 pub use Rattle.command_words.proofs.Fitting.{read_parts_fit}
 pub use Rattle.command_words.specs.Read.{entry_in}
-pub use Rattle.command_words.specs.Refusals.{Refusal, line_of, status_of}
+pub use Rattle.command_words.specs.Refusals.{Refusal, refused_line, status_of}
 pub use Rattle.command_words.specs.Refusals.Refusal.{BadImage, BadScript, BadSource, BadStart, BadThumb, BadWords, Lost, TooLarge}
-pub use Rattle.command_words.specs.Words.{Command, Run, reading}
-pub use Rattle.command_words.specs.Words.Command.{Assemble, AssembleThumb, DebugImage, Disassemble, Generate, RunImage}
+pub use Rattle.command_words.specs.Words.{Subcommand, Run, reading}
+pub use Rattle.command_words.specs.Words.Subcommand.{Assemble, AssembleThumb, DebugImage, Disassemble, Generate, RunImage}
 pub use Rattle.command_words.specs.declared.reading.PioEntry.{PioEntry}
 pub use Rattle.lane_look.specs.Device.{DeviceMeaning, paired}
 pub use Rattle.outer_lane.specs.Setting.{Setting, setting_of}
@@ -22,7 +22,7 @@ pub use Rattle.pico_top.specs.declared.outcome.Unopened.TheVariants.{Memory, Ref
 pub use Rattle.pin_script.specs.Script.{script_of}
 pub use Rattle.pio_asm.specs.Listing.{listing, plans_of}
 pub use Rattle.reverse_debug.specs.Debugger.{quits, talk_of}
-pub use Rattle.reverse_debug.specs.Hear.{BearsOut, IsTaken, MayEnd, lines_heard, way_line, way_status}
+pub use Rattle.reverse_debug.specs.Hearing.{BearsOut, IsTaken, MayEnd, lines_heard, way_line, way_status}
 pub use Rattle.reverse_debug.specs.Lines.{closes}
 pub use Rattle.reverse_debug.specs.Session.{OpensAt, Standing, first_of}
 pub use Rattle.reverse_debug.specs.declared.way.Way.{Way}

@@ -1,5 +1,5 @@
 -- What was opened and told, the whole call, and what a run puts.
-use Rattle.pico_top.proofs.Names.{◌<◌, ◌≡◌, ℕ, ◌+◌, ◌≤◌, List, [], ◌∷◌, ◌++◌, length, map, arith, Option, Some, Result, Ok, Err, refl, sym, ap, ap₂, inl, inr, ◌∙◌, subst, Bool, false, DeviceMeaning, paired, Aim, Wired, placed_by, wired_in, Setting, SinkFault, part_of_longer, part_behind, sends_part, sends_then, asked_by, State, Standing, first_of, OpensAt, Way, Closed, Ended, Broken, Full, lines_heard, way_line, way_status, BearsOut, IsTaken, quits, talk_of, Command, Opened, Unopened, Refusing, Memory, Board, Drawn, Sunk, Outside, Dialogue, Reply, aims_in, beside, device_in, dialogue_of, hear, input_limit, plain, run_reply, say, session_reply, Ending, heard_as, Said, Heard, Refused, NoMemory, Puts, RunsOut, Takes, Ends, Counts, IsCounted, Writes, ConversesIn, ConversesFor, Converses, opened_dialogue, EndsAs, EndsUnopened, Leads, PutsRefusal, Concludes}
+use Rattle.pico_top.proofs.Names.{◌<◌, ◌≡◌, ℕ, ◌+◌, ◌≤◌, List, [], ◌∷◌, ◌++◌, length, map, arith, Option, Some, Result, Ok, Err, refl, sym, ap, ap₂, inl, inr, ◌∙◌, subst, Bool, false, DeviceMeaning, paired, Aim, Wired, placed_by, wired_in, Setting, SinkFault, part_of_longer, part_behind, sends_part, sends_then, asked_by, State, Standing, first_of, OpensAt, Way, Closed, Ended, Broken, Full, lines_heard, way_line, way_status, BearsOut, IsTaken, quits, talk_of, Subcommand, Opened, Unopened, Refusing, Memory, Board, Drawn, Sunk, Outside, Dialogue, Reply, aims_in, beside, device_in, dialogue_of, hear, input_limit, plain, run_reply, say, session_reply, Ending, heard_as, Said, Heard, Refused, NoMemory, Puts, RunsOut, Takes, Ends, Counts, IsCounted, Writes, ConversesIn, ConversesFor, Converses, opened_dialogue, EndsAs, EndsUnopened, Leads, PutsRefusal, Concludes}
 use Rattle.board_parts.specs.declared.wiring.Wiring.{Wiring}
 use Rattle.board_parts.specs.Part.{PartMeaning}
 use Rattle.board_parts.specs.Parts.{parts_device}
@@ -60,14 +60,14 @@ pub out_converses : (d : Dialogue) (before after : Outside) (status : ℕ) → a
 out_converses d before after status failed = unopened_converses d before after Memory status (NoMemory, no_memory before.files d, failed, tt)
 
 -- with the device of the board
-pub served : (b : Board) (command : Command) (before after : Outside) (status : ℕ) (device : DeviceMeaning) → device ≡ device_in b command
+pub served : (b : Board) (command : Subcommand) (before after : Outside) (status : ℕ) (device : DeviceMeaning) → device ≡ device_in b command
     → ConversesIn (dialogue_of device (aims_in b.probes command) command) before after status → ConversesFor b (Some command) before after status
 served b command before after status device is h =
     subst (λ (x : DeviceMeaning). ConversesIn (dialogue_of x (aims_in b.probes command) command) before after status) is h
 
 -- for words that ask for this
-pub read_converses : (b : Board) (words : List (List ℕ)) (asked : Option Command) (before after : Outside) (status : ℕ) → asked_by b words ≡ asked → ConversesFor b asked before after status → Converses b words before after status
-read_converses b words asked before after status is h = subst (λ (a : Option Command). ConversesFor b a before after status) (sym is) h
+pub read_converses : (b : Board) (words : List (List ℕ)) (asked : Option Subcommand) (before after : Outside) (status : ℕ) → asked_by b words ≡ asked → ConversesFor b asked before after status → Converses b words before after status
+read_converses b words asked before after status is h = subst (λ (a : Option Subcommand). ConversesFor b a before after status) (sym is) h
 
 -- the device of a run without parts: ws are those that are attached
 pub beside_none : (ws : List Wiring) (ps : List Wired) (parts : List PartMeaning) (own : DeviceMeaning) → length ws < 1 → map wired_in ws ≡ ps → own ≡ beside ps parts own

@@ -1,5 +1,5 @@
 -- Walks of dialogues, what was opened and where its walk ended, and the programs of a run, one behind another.
-use Rattle.pico_top.proofs.Names.{◌≡◌, ℕ, ◌<◌, ◌≤◌, List, [], ◌∷◌, length, Bool, true, false, nat_le, Option, Some, None, Result, Ok, Err, refl, sym, ap, ap₂, subst, inl, inr, ◌⊎◌, arith, IsSomeAnd, IsErrAnd, map, ◌∙◌, ◌==◌, if◌then◌else◌, zero, suc, ◌+◌, ◌++◌, drop, get_or, IfOk, IfErr, Vec, Global, DeviceMeaning, Files, Answers, Done, Large, Failed, Aim, Setting, setting_of, image_of, Image, image_of_source, script_of, plans_of, Command, Run, RunImage, DebugImage, Disassemble, Assemble, AssembleThumb, Generate, Refusal, line_of, status_of, BadWords, Lost, TooLarge, BadImage, BadScript, BadSource, BadThumb, BadStart, Memory, Refusing, closes, Way, MayEnd, Board, Sunk, Reply, Dialogue, Use, judge, say, hear, aims_in, device_in, dialogue_of, dialogue_from, with_first, with_program, with_programs, with_script, with_linked, with_run, say_run, hear_run, run_reply, input_limit, listing, plain, session_reply, source_limit, Load, Refuse, Say, Hear, Ending, IsHeard, AfterLoad, Walks, Verdict, heard_as, on_held, verdict, failed_names, Refuses, Says, Hears, Said, Heard, Refused, NoMemory, EndsUnopened, Leads, PutsRefusal, Judges, Boots, use_for, opened_dialogue, ArePlaced, Places, taken_by, at_drop_more, State, PioLoad, Opened, first_of, Unopened, quits, Puts, PioEntry, entry_in}
+use Rattle.pico_top.proofs.Names.{◌≡◌, ℕ, ◌<◌, ◌≤◌, List, [], ◌∷◌, length, Bool, true, false, nat_le, Option, Some, None, Result, Ok, Err, refl, sym, ap, ap₂, subst, inl, inr, ◌⊎◌, arith, IsSomeAnd, IsErrAnd, map, ◌∙◌, ◌==◌, if◌then◌else◌, zero, suc, ◌+◌, ◌++◌, drop, get_or, IfOk, IfErr, Vec, Global, DeviceMeaning, Files, Answers, Done, Large, Failed, Aim, Setting, setting_of, image_of, Image, image_of_source, script_of, plans_of, Subcommand, Run, RunImage, DebugImage, Disassemble, Assemble, AssembleThumb, Generate, Refusal, refused_line, status_of, BadWords, Lost, TooLarge, BadImage, BadScript, BadSource, BadThumb, BadStart, Memory, Refusing, closes, Way, MayEnd, Board, Sunk, Reply, Dialogue, Use, judge, say, hear, aims_in, device_in, dialogue_of, dialogue_from, with_first, with_program, with_programs, with_script, with_linked, with_run, say_run, hear_run, run_reply, input_limit, listing, plain, session_reply, source_limit, Load, Refuse, Say, Hear, Ending, IsHeard, AfterLoad, Walks, Verdict, heard_as, on_held, verdict, failed_names, Refuses, Says, Hears, Said, Heard, Refused, NoMemory, EndsUnopened, Leads, PutsRefusal, Judges, Boots, use_for, opened_dialogue, ArePlaced, Places, taken_by, at_drop_more, State, PioLoad, Opened, first_of, Unopened, quits, Puts, PioEntry, entry_in}
 use Rattle.rp_ports.specs.declared.shelf.Loaded.{Loaded}
 use Rattle.rp_ports.specs.declared.shelf.Loaded.TheVariants.{Memory as Starved}
 use Rattle.startup_blocks.specs.Table.{linked, HaveBytes}
@@ -97,7 +97,7 @@ run_keeps use_run device run on = λ bytes.
     judge_keeps (image_of bytes) BadImage _ (λ fault e. cc e)
     (λ read. linked_keeps run.table _ read (λ image. script_keeps run.script _ (λ script. programs_keep run.pio [] _ (on _ image))))
 
-command_keeps : (device : DeviceMeaning) (aims : List Aim) (command : Command) → KeepsWords (dialogue_of device aims command)
+command_keeps : (device : DeviceMeaning) (aims : List Aim) (command : Subcommand) → KeepsWords (dialogue_of device aims command)
 command_keeps device aims (RunImage run) = run_keeps (say_run run.stats aims) device run (λ w image ps. tt)
 command_keeps device aims (DebugImage run) = run_keeps hear_run device run (λ w image ps. tt)
 command_keeps device aims (Disassemble words side) = tt
@@ -105,7 +105,7 @@ command_keeps device aims (Assemble name) = λ bytes. judge_keeps (plans_of byte
 command_keeps device aims (AssembleThumb name) = λ bytes. judge_keeps (image_of_source bytes) BadThumb _ (λ fault e. cc e) (λ image. tt)
 command_keeps device aims (Generate number cycles workers stats) = tt
 
-pub words_refused : (files : Option Files) (b : Board) (asked : Option Command) → Walks files (dialogue_from b asked) (Refused BadWords) → asked ≡ None
+pub words_refused : (files : Option Files) (b : Board) (asked : Option Subcommand) → Walks files (dialogue_from b asked) (Refused BadWords) → asked ≡ None
 words_refused files b None h = refl
 words_refused files b (Some command) h = absurd (walk_keeps files (dialogue_from b (Some command)) (command_keeps (device_in b command) (aims_in b.probes command) command) h)
 
@@ -252,9 +252,9 @@ boots_leads aims ForDebug files failed device script limit image ps loads (Ok op
     }
 
 -- the line of a refusal was put with its status
-pub refuses_by : (a b : Sunk) (status : ℕ) (refusal : Written) (unopened : Unopened) (wanted : ℕ) (text : List ℕ) → unopened ≡ Refusing refusal → wanted ≡ status_of (meant refusal) → text ≡ line_of (meant refusal) → Puts a b status wanted text → PutsRefusal a b status unopened
+pub refuses_by : (a b : Sunk) (status : ℕ) (refusal : Written) (unopened : Unopened) (wanted : ℕ) (text : List ℕ) → unopened ≡ Refusing refusal → wanted ≡ status_of (meant refusal) → text ≡ refused_line (meant refusal) → Puts a b status wanted text → PutsRefusal a b status unopened
 refuses_by a b status refusal unopened wanted text is w t puts =
-    rw is (inl (subst (λ (x : ℕ). Puts a b status x (line_of (meant refusal))) w (subst (λ (x : List ℕ). Puts a b status wanted x) t puts)))
+    rw is (inl (subst (λ (x : ℕ). Puts a b status x (refused_line (meant refusal))) w (subst (λ (x : List ℕ). Puts a b status wanted x) t puts)))
 
 -- ---- addresses that are taken
 

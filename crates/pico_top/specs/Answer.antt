@@ -5,16 +5,16 @@ use Rattle.rp_ports.specs.declared.shelf.Loaded.{Loaded}
 use Rattle.rp_ports.specs.declared.shelf.Loaded.TheVariants.{Done, Large, Failed, Memory}
 use Rattle.pio_asm.specs.Assembly.{ArePrograms}
 use Rattle.pio_program.specs.declared.program.Program.{Program}
-use Rattle.command_words.specs.Refusals.{Refusal, line_of, status_of}
+use Rattle.command_words.specs.Refusals.{Refusal, refused_line, status_of}
 use Rattle.command_words.specs.Refusals.Refusal.{Lost, TooLarge}
 use Rattle.reverse_debug.specs.Lines.{closes}
 use Rattle.reverse_debug.specs.declared.way.Way.{Way}
-use Rattle.reverse_debug.specs.Hear.{MayEnd, lines_heard, way_line, way_status, IsTaken}
+use Rattle.reverse_debug.specs.Hearing.{MayEnd, lines_heard, way_line, way_status, IsTaken}
 use Rattle.pico_top.specs.Dialogue.{Reply, Dialogue, Cost, dialogue_from, Board, asked_by, Drawn, Sunk, Outside}
 use Rattle.pico_top.specs.Dialogue.Dialogue.{Load, Refuse, Say, Hear}
 use Rattle.trace_text.specs.Sent.{Sends}
 use Rattle.trace_text.specs.declared.writer.SinkFault.{SinkFault}
-use Rattle.command_words.specs.Words.{Command}
+use Rattle.command_words.specs.Words.{Subcommand}
 use Rattle.pico_top.specs.Dialogue.Cost.{Exactly, AtMost}
 
 -- how a walk ends: its text was said, these bytes were heard up to an end and this was told, an input was refused with every
@@ -109,7 +109,7 @@ RunsOut a b status = Puts a b status 9 memory_line
 abbrev pub Ends : Sunk → Sunk → ℕ → Ending → Type 0
 Ends a b status (Said reply) = Puts a b status 0 reply.text
 Ends a b status (Heard bytes way reply) = Puts a b status (way_status way) reply.text
-Ends a b status (Refused refusal) = Puts a b status (status_of refusal) (line_of refusal) ⊎ RunsOut a b status
+Ends a b status (Refused refusal) = Puts a b status (status_of refusal) (refused_line refusal) ⊎ RunsOut a b status
 Ends a b status NoMemory = RunsOut a b status
 
 -- ---- the steps
@@ -155,7 +155,7 @@ pub record ConversesIn (d : Dialogue) (before after : Outside) (status : ℕ) : 
   pub counted : Counts ending status before.steps after.steps
 
 -- a call for what is asked
-abbrev pub ConversesFor : Board → Option Command → Outside → Outside → ℕ → Type 0
+abbrev pub ConversesFor : Board → Option Subcommand → Outside → Outside → ℕ → Type 0
 ConversesFor b asked before after status = ConversesIn (dialogue_from b asked) before after status
 
 -- a call for words

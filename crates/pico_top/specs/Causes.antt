@@ -4,11 +4,11 @@ use Rattle.rp_ports.specs.Fault.{Rose}
 use Rattle.rp_ports.specs.Shelf.{Files}
 use Rattle.rp_ports.specs.Sink.{Appends}
 use Rattle.rp_ports.specs.Source.{Consumes, IsAtEnd}
-use Rattle.command_words.specs.Words.{Command}
+use Rattle.command_words.specs.Words.{Subcommand}
 use Rattle.command_words.specs.Refusals.{Refusal, status_of}
 use Rattle.reverse_debug.specs.declared.way.Way.{Way}
 use Rattle.reverse_debug.specs.declared.way.Way.TheVariants.{Closed, Ended, Broken, Full}
-use Rattle.reverse_debug.specs.Hear.{IsTaken}
+use Rattle.reverse_debug.specs.Hearing.{IsTaken}
 use Rattle.pico_top.specs.Dialogue.{Board, Outside, Dialogue, Reply, dialogue_from}
 use Rattle.pico_top.specs.Answer.{ConversesFor, ConversesIn, memory_line, Verdict, Walks, verdict, status_over, failed_names}
 use Rattle.pico_top.specs.Answer.Verdict.{Refuses, Says, Hears}
@@ -42,7 +42,7 @@ pub record IsOfRefusal (status : ℕ) : Type 0 where
 -- 2 comes only where the words are refused, 7 only where the sink's count of faults rose, 8 only where a take failed, 10 only where
 -- the limit of the bytes was reached and no last line was complete; and every other status but 0 and 9 only of the words, the file
 -- or the input at which the walk ended, as the refusal's own
-pub record HasCause (b : Board) (asked : Option Command) (before after : Outside) (status : ℕ) : Type 0 where
+pub record HasCause (b : Board) (asked : Option Subcommand) (before after : Outside) (status : ℕ) : Type 0 where
   pub words : status ≡ 2 → asked ≡ None
   pub refused : IsOfRefusal status → IsRefused (dialogue_from b asked) before after status
   pub sink : status ≡ 7 → Rose before.sink.faults after.sink.faults
@@ -65,7 +65,7 @@ Fulfils before after status (Hears limit last) =
 
 -- where the words are refused, the status is 2; where the shelf tells its files and no load failed, it is that of the dialogue over
 -- these files
-pub record IsComplete (b : Board) (asked : Option Command) (before after : Outside) (status : ℕ) : Type 0 where
+pub record IsComplete (b : Board) (asked : Option Subcommand) (before after : Outside) (status : ℕ) : Type 0 where
   pub refused : asked ≡ None → IsStatus status 2
   pub fulfils : IfSome before.files (λ files. after.failed ≡ before.failed → Fulfils before after status (verdict files (dialogue_from b asked)))
 
@@ -105,13 +105,13 @@ pub record DoesNotFail (files : Files) (before after : Outside) : Type 0 where
 -- every status has its cause
 abbrev pub Causes : Type 0
 Causes =
-    (b : Board) (asked : Option Command) (before after : Outside) (status : ℕ)
+    (b : Board) (asked : Option Subcommand) (before after : Outside) (status : ℕ)
     → ConversesFor b asked before after status → HasCause b asked before after status
 
 -- the status of what is told is its own
 abbrev pub Completes : Type 0
 Completes =
-    (b : Board) (asked : Option Command) (before after : Outside) (status : ℕ)
+    (b : Board) (asked : Option Subcommand) (before after : Outside) (status : ℕ)
     → ConversesFor b asked before after status → IsComplete b asked before after status
 
 -- words and files that are accepted are answered with the whole text, where the outside does not fail, or memory runs out

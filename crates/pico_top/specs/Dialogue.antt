@@ -9,7 +9,7 @@ use Rattle.rp_ports.specs.declared.sink.Sink.{Ghosts as SinkMeaning}
 use Rattle.board_parts.specs.Part.{PartMeaning}
 use Rattle.board_parts.specs.Probe.{ProbeMeaning}
 use Rattle.board_parts.specs.Wiring.{counts_of, Wired, placed_by}
-use Rattle.command_words.specs.Words.{Command, reading, Run, parts_in}
+use Rattle.command_words.specs.Words.{Subcommand, reading, Run, parts_in}
 use Rattle.pio_parse.specs.declared.fault.PioFault.{PioFault}
 use Rattle.pio_asm.specs.Assembly.{Plan}
 use Rattle.pio_program.specs.declared.program.Program.{Program}
@@ -35,7 +35,7 @@ use Rattle.rp_machine.specs.State.{State}
 use Rattle.rp_machine.specs.Boot.{start}
 use Rattle.command_words.specs.Refusals.{Refusal}
 use Rattle.command_words.specs.Refusals.Refusal.{BadWords, BadImage, BadScript, BadSource, BadThumb, BadStart}
-use Rattle.command_words.specs.Words.Command.{RunImage, DebugImage, Disassemble, Assemble, AssembleThumb, Generate}
+use Rattle.command_words.specs.Words.Subcommand.{RunImage, DebugImage, Disassemble, Assemble, AssembleThumb, Generate}
 use Rattle.reverse_debug.specs.Talk.{text_from, cost_from}
 use Rattle.reverse_debug.specs.Debugger.{quits, talk_of}
 use Rattle.pico_top.specs.RunText.{run_text, run_cycles}
@@ -50,7 +50,7 @@ abbrev pub board : DeviceMeaning → List ProbeMeaning → List PartMeaning → 
 board device probes parts = record { device = device; probes = probes; parts = parts }
 
 -- what words ask for, or none where they are refused
-abbrev pub asked_by : Board → List (List ℕ) → Option Command
+abbrev pub asked_by : Board → List (List ℕ) → Option Subcommand
 asked_by b words = reading (length b.probes) (counts_of b.parts) words
 
 -- the bytes that a source has left, where it tells them, and its count of faults
@@ -243,12 +243,12 @@ with_run use_run device run =
     (use_run (setting_of script device run.cycles) image))))
 
 -- which probes a command aims at which pins: a run those that its words name, and no other command any
-abbrev pub targets_in : Command → List Target
+abbrev pub targets_in : Subcommand → List Target
 targets_in (RunImage run) = run.probes
 targets_in _ = []
 
 -- the probes that are aimed, of those that are handed in
-abbrev pub aims_in : List ProbeMeaning → Command → List Aim
+abbrev pub aims_in : List ProbeMeaning → Subcommand → List Aim
 aims_in probes command = aims_of probes (targets_in command)
 
 -- the parts that are attached, of those that are handed in, and beside them the device at the pads; this alone, where none is attached
@@ -257,13 +257,13 @@ beside [] parts device = device
 beside (w ∷ ws) parts device = paired (parts_device (placed_by parts (w ∷ ws))) device
 
 -- the device of what is asked for
-abbrev pub device_in : Board → Command → DeviceMeaning
+abbrev pub device_in : Board → Subcommand → DeviceMeaning
 device_in b command = beside (parts_in command) b.parts b.device
 
 -- A run and the debugger on it load its image, which is linked where that is asked for, its script and its programs, and a listing and the
 -- file of a Thumb source's image their source; the source text of instruction words needs no file. The run of a generated image has no
 -- script and no programs. How many workers take part in a run makes no difference.
-abbrev pub dialogue_of : DeviceMeaning → List Aim → Command → Dialogue
+abbrev pub dialogue_of : DeviceMeaning → List Aim → Subcommand → Dialogue
 dialogue_of device aims (RunImage run) = with_run (say_run run.stats aims) device run
 dialogue_of device aims (DebugImage run) = with_run hear_run device run
 dialogue_of device aims (Disassemble words side) = say (plain (source_text side words))
@@ -272,6 +272,6 @@ dialogue_of device aims (AssembleThumb name) = with_thumb name (λ image. say (p
 dialogue_of device aims (Generate number cycles workers stats) = say_run stats aims (setting_of [] device cycles) (image_of_number number) []
 
 -- the dialogue of what words ask for, or their refusal
-abbrev pub dialogue_from : Board → Option Command → Dialogue
+abbrev pub dialogue_from : Board → Option Subcommand → Dialogue
 dialogue_from b None = Refuse BadWords
 dialogue_from b (Some command) = dialogue_of (device_in b command) (aims_in b.probes command) command

@@ -1,8 +1,8 @@
 -- What the opening of a call gives, by the walks of its dialogue: the project's own.
 use Rattle.std.specs.Prelude.{◌≡◌, ◌⊎◌, ◌==◌, ℕ, if◌then◌else◌, List, [], ◌∷◌, length, Option, Result, Ok, Err, IfOk, IfErr}
 use Rattle.rp_ports.specs.Shelf.{Files}
-use Rattle.command_words.specs.Words.{Command}
-use Rattle.command_words.specs.Refusals.{Refusal, line_of, status_of, meant}
+use Rattle.command_words.specs.Words.{Subcommand}
+use Rattle.command_words.specs.Refusals.{Refusal, refused_line, status_of, meant}
 use Rattle.pico_top.specs.Dialogue.{Drawn, Sunk, Placed, loads_of, plans_in, Use, Dialogue, say, hear, plain, dialogue_of, run_reply, say_run, hear_run, input_limit, session_reply, with_programs}
 use Rattle.pico_top.specs.Answer.{Puts, RunsOut, Takes, Ends, Counts, Ending, Walks, failed_names}
 use Rattle.lane_look.specs.Device.{DeviceMeaning}
@@ -60,7 +60,7 @@ abbrev pub Passes : {V : Type 0} → Option Files → List (List ℕ) → List (
 Passes {V} files failed failed' part result = (next : V → Dialogue) → Leads files failed failed' next (part next) result
 
 -- the same of the dialogue of a command, whatever probes hear it
-abbrev pub OpensFor : Option Files → List (List ℕ) → List (List ℕ) → DeviceMeaning → Command → Result Opened Unopened → Type 0
+abbrev pub OpensFor : Option Files → List (List ℕ) → List (List ℕ) → DeviceMeaning → Subcommand → Result Opened Unopened → Type 0
 OpensFor files failed failed' device command result =
     (aims : List Aim) → Leads files failed failed' (opened_dialogue device aims) (dialogue_of device aims command) result
 
@@ -105,7 +105,7 @@ pub record Places {V : Type 0} (files : Option Files) (failed failed' : List (Li
 
 -- the line of a refusal was put, or memory ran out
 abbrev pub PutsRefusal : Sunk → Sunk → ℕ → Unopened → Type 0
-PutsRefusal a b status (Refusing refusal) = Puts a b status (status_of (meant refusal)) (line_of (meant refusal)) ⊎ RunsOut a b status
+PutsRefusal a b status (Refusing refusal) = Puts a b status (status_of (meant refusal)) (refused_line (meant refusal)) ⊎ RunsOut a b status
 PutsRefusal a b status Memory = RunsOut a b status
 
 -- what is left of a dialogue was told, or memory ran out before: a walk of it ended so, whatever the files, no load failed, and what

@@ -11,7 +11,7 @@ ghost use Rattle.startup_blocks.specs.Table.{HaveBytes};
 ghost use Rattle.rp_machine.specs.Boot.{AreLoads, start};
 ghost use Rattle.board_parts.specs.Hearing.{Aim};
 ghost use Rattle.command_words.specs.Refusals.Refusal.{BadScript};
-ghost use Rattle.command_words.specs.Words.Command.{Assemble, AssembleThumb, Disassemble, Generate};
+ghost use Rattle.command_words.specs.Words.Subcommand.{Assemble, AssembleThumb, Disassemble, Generate};
 ghost use Rattle.command_words.specs.Read.{run_in, command_in, entry_in};
 ghost use Rattle.pico_top.specs.Dialogue.{Dialogue, with_image, with_linked, with_run, with_script, with_program, with_programs, Placed};
 ghost use Rattle.pico_top.specs.Dialogue.Dialogue.{Load};
@@ -42,10 +42,10 @@ const IMAGE_LIMIT: usize = 16_777_216;
 const SCRIPT_LIMIT: usize = 4_194_304;
 
 /// A source file has at most 1 MiB.
-pub const SOURCE_LIMIT: usize = 1_048_576;
+const SOURCE_LIMIT: usize = 1_048_576;
 
 /// Loads a file of at most so many bytes.
-pub fn load<F: Shelf>(
+fn load<F: Shelf>(
     alloc: Global,
     name: &str,
     limit: usize,
@@ -313,7 +313,7 @@ fn open_program<F: Shelf>(
 }
 
 /// Loads the programs of all entries, each behind those before it.
-pub fn open_programs<F: Shelf>(
+fn open_programs<F: Shelf>(
     alloc: Global,
     entries: &[PioEntry],
     files: &mut F,

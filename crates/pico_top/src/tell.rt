@@ -8,7 +8,7 @@ ghost use Rattle.pico_top.specs.Answer.{Writes, Puts, RunsOut, sent_status};
 ghost use Rattle.pico_top.specs.RunText.{counts_text, end_text, probe_lines};
 ghost use Rattle.outer_lane.specs.Setting.{setting_of};
 ghost use Rattle.reverse_debug.specs.Debugger.{quits};
-ghost use Rattle.reverse_debug.specs.Hear.{way_line, way_status};
+ghost use Rattle.reverse_debug.specs.Hearing.{way_line, way_status};
 ghost use Rattle.reverse_debug.specs.Session.{first_of};
 ghost use Rattle.pico_top.specs.Opening.{PutsRefusal, Concludes};
 

@@ -2,7 +2,7 @@
 -- (2.14), and no FIFO holds more words than it has room for (3.5.3), whatever happens to the block.
 use Rattle.std.specs.Prelude.{◌≡◌, ℕ, ◌<◌, List, [], ◌∷◌, length, Option}
 use Rattle.std.specs.Int.{bit_at}
-use Rattle.lane_look.specs.Steps.{IsAtRest}
+use Rattle.lane_look.specs.Steps.{NeverActs}
 use Rattle.pio_machine.specs.declared.machine.Machine1.{Machine1}
 use Rattle.pio_machine.specs.declared.machine.Seen.{Seen}
 use Rattle.pio_machine.specs.declared.machine.Done.{Done}
@@ -41,8 +41,8 @@ TheHighestMachineDecides =
 -- ---- the reset state
 
 -- in it, and so where it is held, a block asks nothing, wants nothing and stays as it is
-abbrev pub ABlockRestsAtReset : Type 0
-ABlockRestsAtReset = IsAtRest (λ s cycle. asks s) (λ begun. wanted) (λ s begun turns. next begun s) at_reset
+abbrev pub ABlockAtResetNeverActs : Type 0
+ABlockAtResetNeverActs = NeverActs (λ s cycle. asks s) (λ begun. wanted) (λ s begun turns. next begun s) at_reset
 
 -- ---- the FIFOs
 

@@ -1,6 +1,6 @@
 //! The laws of a block, each the contract of a function without arguments.
 
-ghost use Rattle.pio_block.specs.Laws.{TheHighestMachineDecides, ABlockRestsAtReset, NoFifoHoldsTooMuch};
+ghost use Rattle.pio_block.specs.Laws.{TheHighestMachineDecides, ABlockAtResetNeverActs, NoFifoHoldsTooMuch};
 ghost use Rattle.pio_block.specs.Quiet.{AQuietBlockShowsTheSame};
 ghost use Rattle.pio_block.specs.InstrLaws.{AWrittenWordComesNext};
 ghost use Rattle.pio_block.specs.InterruptLaws.{WhatIsEnabledOrForcedIsShown};
@@ -12,8 +12,8 @@ pub fn the_highest_machine_decides()
 {}
 
 /// In its reset state a block asks nothing, wants nothing and stays as it is: so does one that is held.
-pub fn a_block_rests_at_reset()
-    ensures { ABlockRestsAtReset }
+pub fn a_block_at_reset_never_acts()
+    ensures { ABlockAtResetNeverActs }
 {}
 
 /// A block that is held reads 0, and no access changes it.

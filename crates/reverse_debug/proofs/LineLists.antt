@@ -1,16 +1,16 @@
 -- Lines of texts that stand one behind another.
 use Rattle.std.proofs.Common.{◌≡◌, ℕ, Bool, true, false, ◌==◌, ◌||◌, if◌then◌else◌, List, [], ◌∷◌, ◌++◌, refl, sym, ap, ◌∙◌, append_assoc}
 use Rattle.std.proofs.lemmas.List.{append-nil}
-use Rattle.reverse_debug.specs.Lines.{line_of, complete_from, open_from, complete_lines, open_line, unless_empty, all_lines, has_last, closes, until}
+use Rattle.reverse_debug.specs.Lines.{without_cr, complete_from, open_from, complete_lines, open_line, unless_empty, all_lines, has_last, closes, until}
 use Rattle.reverse_debug.specs.NextLine.{HasNoEnd}
 
 -- the complete lines of two texts are those of the first, and those of the second behind the line that the first leaves open
 pub complete_append : (held xs ys : List ℕ) → complete_from held (xs ++ ys) ≡ complete_from held xs ++ complete_from (open_from held xs) ys
 complete_append held [] ys = refl
 complete_append held (b ∷ bs) ys =
-    elim (b == 10) as (λ t. (if t then line_of held ∷ complete_from [] (bs ++ ys) else complete_from (held ++ b ∷ []) (bs ++ ys))
-    ≡ (if t then line_of held ∷ complete_from [] bs else complete_from (held ++ b ∷ []) bs) ++ complete_from (if t then open_from [] bs else open_from (held ++ b ∷ []) bs) ys) [
-      | true ↦ ap (λ l. line_of held ∷ l) (complete_append [] bs ys)
+    elim (b == 10) as (λ t. (if t then without_cr held ∷ complete_from [] (bs ++ ys) else complete_from (held ++ b ∷ []) (bs ++ ys))
+    ≡ (if t then without_cr held ∷ complete_from [] bs else complete_from (held ++ b ∷ []) bs) ++ complete_from (if t then open_from [] bs else open_from (held ++ b ∷ []) bs) ys) [
+      | true ↦ ap (λ l. without_cr held ∷ l) (complete_append [] bs ys)
       | false ↦ complete_append (held ++ b ∷ []) bs ys
     ]
 
@@ -25,11 +25,11 @@ open_append held (b ∷ bs) ys =
 -- ---- the bytes of one line more
 
 -- up to its LF
-pub complete_line : (held line rest : List ℕ) → HasNoEnd line → complete_from held (line ++ 10 ∷ rest) ≡ line_of (held ++ line) ∷ complete_from [] rest
-complete_line held [] rest none = ap (λ l. line_of l ∷ complete_from [] rest) (sym (append-nil held))
-complete_line held (b ∷ bs) rest none = elim (b == 10) as (λ t. t ≡ false → (if t then line_of held ∷ complete_from [] (bs ++ 10 ∷ rest) else complete_from (held ++ b ∷ []) (bs ++ 10 ∷ rest)) ≡ line_of (held ++ b ∷ bs) ∷ complete_from [] rest) [
+pub complete_line : (held line rest : List ℕ) → HasNoEnd line → complete_from held (line ++ 10 ∷ rest) ≡ without_cr (held ++ line) ∷ complete_from [] rest
+complete_line held [] rest none = ap (λ l. without_cr l ∷ complete_from [] rest) (sym (append-nil held))
+complete_line held (b ∷ bs) rest none = elim (b == 10) as (λ t. t ≡ false → (if t then without_cr held ∷ complete_from [] (bs ++ 10 ∷ rest) else complete_from (held ++ b ∷ []) (bs ++ 10 ∷ rest)) ≡ without_cr (held ++ b ∷ bs) ∷ complete_from [] rest) [
   | true ↦ λ e. absurd (cc e)
-  | false ↦ λ e. complete_line (held ++ b ∷ []) bs rest none.1 ∙ ap (λ l. line_of l ∷ complete_from [] rest) (append_assoc held (b ∷ []) bs)
+  | false ↦ λ e. complete_line (held ++ b ∷ []) bs rest none.1 ∙ ap (λ l. without_cr l ∷ complete_from [] rest) (append_assoc held (b ∷ []) bs)
 ] none.0
 
 open_behind : (held line rest : List ℕ) → HasNoEnd line → open_from held (line ++ 10 ∷ rest) ≡ open_from [] rest
@@ -42,7 +42,7 @@ open_behind held (b ∷ bs) rest none = elim (b == 10) as (λ t. t ≡ false →
 -- without an LF
 complete_none : (held line : List ℕ) → HasNoEnd line → complete_from held line ≡ []
 complete_none held [] none = refl
-complete_none held (b ∷ bs) none = elim (b == 10) as (λ t. t ≡ false → (if t then line_of held ∷ complete_from [] bs else complete_from (held ++ b ∷ []) bs) ≡ []) [
+complete_none held (b ∷ bs) none = elim (b == 10) as (λ t. t ≡ false → (if t then without_cr held ∷ complete_from [] bs else complete_from (held ++ b ∷ []) bs) ≡ []) [
   | true ↦ λ e. absurd (cc e)
   | false ↦ λ e. complete_none (held ++ b ∷ []) bs none.1
 ] none.0
@@ -55,7 +55,7 @@ open_none held (b ∷ bs) none = elim (b == 10) as (λ t. t ≡ false → (if t 
 ] none.0
 
 -- behind whole lines
-pub lines_more : (seen line : List ℕ) → open_line seen ≡ [] → HasNoEnd line → complete_lines (seen ++ (line ++ 10 ∷ [])) ≡ complete_lines seen ++ line_of line ∷ []
+pub lines_more : (seen line : List ℕ) → open_line seen ≡ [] → HasNoEnd line → complete_lines (seen ++ (line ++ 10 ∷ [])) ≡ complete_lines seen ++ without_cr line ∷ []
 lines_more seen line whole none =
     complete_append [] seen (line ++ 10 ∷ []) ∙ ap (λ h. complete_lines seen ++ complete_from h (line ++ 10 ∷ [])) whole ∙ ap (λ l. complete_lines seen ++ l) (complete_line [] line [] none)
 

@@ -12,7 +12,7 @@ use Rattle.reverse_debug.specs.declared.way.Way.TheVariants.{Closed, Ended, Brok
 use Rattle.reverse_debug.specs.declared.reader.Next.TheVariants as read
 use Rattle.reverse_debug.specs.Lines.{complete_lines, open_line, unless_empty, all_lines, until, has_last, closes}
 use Rattle.reverse_debug.specs.NextLine.{Ahead, behind, HasNoEnd, given_bytes, Reads}
-use Rattle.reverse_debug.specs.Hear.{MayEnd, lines_heard, BearsOut}
+use Rattle.reverse_debug.specs.Hearing.{MayEnd, lines_heard, BearsOut}
 use Rattle.reverse_debug.specs.Talk.{Talk, text_from, cycle_after, cost_from, Hears}
 use Rattle.reverse_debug.specs.Way.{Answered, Along, CutOff, IsClosed, Feeds, Finishes, Taking, IsAfterLine}
 use Rattle.reverse_debug.proofs.NextLines.{consumes_none, consumes_both}

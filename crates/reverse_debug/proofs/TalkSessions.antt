@@ -14,7 +14,7 @@ use Rattle.reverse_debug.specs.Session.{Standing, StandsFor}
 use Rattle.reverse_debug.proofs.Moves.{quits_exactly}
 use Rattle.reverse_debug.specs.Talk.{spent_on, moved_by}
 use Rattle.reverse_debug.specs.Debugger.{quits, talk_of}
-use Rattle.reverse_debug.specs.Lines.{line_of}
+use Rattle.reverse_debug.specs.Lines.{without_cr}
 use Rattle.reverse_debug.specs.NextLine.{given_bytes}
 use Rattle.reverse_debug.proofs.Talks.{Alike}
 
@@ -89,12 +89,12 @@ less_by_one line = elim (slice_index line (length line - 1) == 13) as (λ b. len
 ]
 
 -- the bytes that are given of a longer line are no command, as the line is none
-same_line : (whole : List ℕ) (b : Bool) → nat_le (length whole) given_bytes ≡ b → command_of (line_of (take given_bytes whole)) ≡ command_of (line_of whole)
-same_line whole true is = ap (λ x. command_of (line_of x)) (take_all given_bytes whole (grind (arith, is)))
+same_line : (whole : List ℕ) (b : Bool) → nat_le (length whole) given_bytes ≡ b → command_of (without_cr (take given_bytes whole)) ≡ command_of (without_cr whole)
+same_line whole true is = ap (λ x. command_of (without_cr x)) (take_all given_bytes whole (grind (arith, is)))
 same_line whole false is =
     let long : given_bytes < length whole = grind (arith, is) in
     let first : length (take given_bytes whole) ≡ 257 = omega (arith, length-take given_bytes whole, long) in
-    too_long (line_of (take given_bytes whole)) (omega (arith, less_by_one (take given_bytes whole), first)) ∙ sym (too_long (line_of whole) (omega (arith, less_by_one whole, long)))
+    too_long (without_cr (take given_bytes whole)) (omega (arith, less_by_one (take given_bytes whole), first)) ∙ sym (too_long (without_cr whole) (omega (arith, less_by_one whole, long)))
 
 same_open : (whole : List ℕ) (b : Bool) → nat_le (length whole) given_bytes ≡ b → command_of (take given_bytes whole) ≡ command_of whole
 same_open whole true is = ap command_of (take_all given_bytes whole (grind (arith, is)))
@@ -103,7 +103,7 @@ same_open whole false is =
     let first : length (take given_bytes whole) ≡ 257 = omega (arith, length-take given_bytes whole, long) in
     too_long (take given_bytes whole) (omega (arith, first)) ∙ sym (too_long whole (omega (arith, long)))
 
-pub line_alike : (w : Setting) (f : State) (whole : List ℕ) → Alike (talk_of w f) (line_of (take given_bytes whole)) (line_of whole)
+pub line_alike : (w : Setting) (f : State) (whole : List ℕ) → Alike (talk_of w f) (without_cr (take given_bytes whole)) (without_cr whole)
 line_alike w f whole = alike w f _ _ (same_line whole (nat_le (length whole) given_bytes) refl)
 
 pub open_alike : (w : Setting) (f : State) (whole : List ℕ) → Alike (talk_of w f) (take given_bytes whole) whole

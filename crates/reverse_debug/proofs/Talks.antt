@@ -6,7 +6,7 @@ use Rattle.rp_ports.proofs.Pieces.{appends_both}
 use Rattle.trace_text.specs.Sent.{AppendsPart, Sends}
 use Rattle.trace_text.proofs.Sending.{part_behind, rose_later}
 use Rattle.trace_text.specs.declared.writer.SinkFault.{SinkFault}
-use Rattle.reverse_debug.specs.Lines.{line_of, complete_from, complete_lines, open_line, has_last, until}
+use Rattle.reverse_debug.specs.Lines.{without_cr, complete_from, complete_lines, open_line, has_last, until}
 use Rattle.reverse_debug.specs.NextLine.{HasNoEnd}
 use Rattle.reverse_debug.specs.Talk.{Talk, text_from, cycle_after, cost_from, said_to, spent_on, moved_by}
 use Rattle.reverse_debug.specs.Way.{Answered, Along, CutOff, IsClosed, Feeds}
@@ -113,9 +113,9 @@ pub answered_same : (t : Talk) (cycle : ℕ) (xs ys : List (List ℕ)) (old new 
 answered_same t cycle xs ys old new before now steps steps' at e a = subst (λ (l : List (List ℕ)). Answered t cycle l old new before now steps steps' at) e a
 
 -- what came of one line more
-pub along_line : (t : Talk) (cycle : ℕ) (seen whole : List ℕ) (old new later : Option (List ℕ)) (before now last steps steps' more : ℕ) (at at' : ℕ) (result : Result Bool SinkFault) → HasNoEnd whole → Along t cycle seen old new before now steps steps' at → Answers t at at' (line_of whole) new later now last steps' more result → Feeds t cycle (seen ++ (whole ++ 10 ∷ [])) old later before last steps more at' result
+pub along_line : (t : Talk) (cycle : ℕ) (seen whole : List ℕ) (old new later : Option (List ℕ)) (before now last steps steps' more : ℕ) (at at' : ℕ) (result : Result Bool SinkFault) → HasNoEnd whole → Along t cycle seen old new before now steps steps' at → Answers t at at' (without_cr whole) new later now last steps' more result → Feeds t cycle (seen ++ (whole ++ 10 ∷ [])) old later before last steps more at' result
 along_line t cycle seen whole old new later before now last steps steps' more at at' (Ok true) none a h =
-    let line = line_of whole in
+    let line = without_cr whole in
     let differs : t.last line ≡ false = not_true (t.last line) h.more in
     let lines : complete_lines (seen ++ (whole ++ 10 ∷ [])) ≡ complete_lines seen ++ line ∷ [] = lines_more seen whole a.whole none in
     let here : cycle_after t cycle (complete_lines seen) ≡ at = sym a.answered.stands in
@@ -133,7 +133,7 @@ along_line t cycle seen whole old new later before now last steps steps' more at
       whole = open_more seen whole none;
     }
 along_line t cycle seen whole old new later before now last steps steps' more at at' (Ok false) none a h =
-    let line = line_of whole in
+    let line = without_cr whole in
     let ends : t.last line ≡ true = not_false (t.last line) h.more in
     let lines : complete_lines (seen ++ (whole ++ 10 ∷ [])) ≡ complete_lines seen ++ line ∷ [] = lines_more seen whole a.whole none in
     let cut : until t.last (complete_lines (seen ++ (whole ++ 10 ∷ []))) ≡ complete_lines seen = ap (until t.last) lines ∙ until_last t.last (complete_lines seen) [] line a.none ends in
@@ -149,7 +149,7 @@ along_line t cycle seen whole old new later before now last steps steps' more at
       });
     }
 along_line t cycle seen whole old new later before now last steps steps' more at at' (Err fault) none a h =
-    let line = line_of whole in
+    let line = without_cr whole in
     let lines : complete_lines (seen ++ (whole ++ 10 ∷ [])) ≡ complete_lines seen ++ line ∷ [] = lines_more seen whole a.whole none in
     let here : cycle_after t cycle (complete_lines seen) ≡ at = sym a.answered.stands in
     let part : AppendsPart new later (t.reply (cycle_after t cycle (complete_lines seen)) line) = subst (λ p. AppendsPart new later (t.reply p line)) (sym here) (subst (λ x. AppendsPart new later x) (other_text t at line h.other) h.sends.err) in

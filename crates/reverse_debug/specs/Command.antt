@@ -98,8 +98,8 @@ abbrev pub prev_of : Option ℕ → Option ℕ → Command
 prev_of (Some count) (Some core) = if nat_le core 1 then Before (Begun core None) count else Bad
 prev_of _ _ = Bad
 
-abbrev pub alone : List ℕ → Command
-alone name =
+abbrev pub bare_command : List ℕ → Command
+bare_command name =
     if bytes_eq name (codes "step") then Step 1
     else if bytes_eq name (codes "back") then Back 1
     else if bytes_eq name (codes "end") then End
@@ -174,7 +174,7 @@ with_two name first second =
 
 unfoldable pub command_by : List (List ℕ) → Command
 command_by [] = Bad
-command_by (name ∷ []) = alone name
+command_by (name ∷ []) = bare_command name
 command_by (name ∷ word ∷ []) = with_one name word
 command_by (name ∷ first ∷ second ∷ []) = with_two name first second
 command_by (name ∷ first ∷ second ∷ word ∷ more) = Bad

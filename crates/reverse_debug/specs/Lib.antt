@@ -6,7 +6,7 @@ pub mod Search
 pub mod Session
 pub mod Sight
 pub mod Debugger
-pub mod Hear
+pub mod Hearing
 pub mod Laws
 pub mod Lines
 pub mod NextLine

@@ -3,13 +3,13 @@ use Rattle.std.specs.Prelude.{ℕ, Bool, false, ◌==◌, ◌||◌, if◌then◌
 use Rattle.std.specs.Str.Lines.{strip_carriage_return}
 
 -- the line of the bytes before an LF
-abbrev pub line_of : List ℕ → List ℕ
-line_of bytes = strip_carriage_return bytes
+abbrev pub without_cr : List ℕ → List ℕ
+without_cr bytes = strip_carriage_return bytes
 
 -- the complete lines of a text that goes on with an open line
 abbrev pub complete_from : List ℕ → List ℕ → List (List ℕ)
 complete_from held [] = []
-complete_from held (b ∷ bs) = if b == 10 then line_of held ∷ complete_from [] bs else complete_from (held ++ b ∷ []) bs
+complete_from held (b ∷ bs) = if b == 10 then without_cr held ∷ complete_from [] bs else complete_from (held ++ b ∷ []) bs
 
 -- and what stands behind the last LF
 abbrev pub open_from : List ℕ → List ℕ → List ℕ

@@ -4,7 +4,7 @@ use Rattle.trace_text.specs.Sent.{Sends}
 use Rattle.trace_text.specs.declared.writer.SinkFault.{SinkFault}
 use Rattle.reverse_debug.specs.declared.way.Way.{Way}
 use Rattle.reverse_debug.specs.Lines.{closes}
-use Rattle.reverse_debug.specs.Hear.{MayEnd, IsTaken, lines_heard, status_by}
+use Rattle.reverse_debug.specs.Hearing.{MayEnd, IsTaken, lines_heard, status_by}
 
 -- Who answers stands at a cycle. To a line there it has a reply, goes to a next cycle, and takes at most so many steps.
 -- A last line ends the talk and has no reply.

@@ -2,7 +2,7 @@
 
 ghost use Rattle.std.specs.Prelude.{◌≡◌, not, IfSome};
 ghost use Rattle.std.specs.Option.{option_map};
-ghost use Rattle.reverse_debug.specs.Command.{is_quit, command_of, alone, with_one, with_two, mem_of, word_of, pin_of, begun_at, next_of, prev_of, until_of, last_of, peek_of, pio_of};
+ghost use Rattle.reverse_debug.specs.Command.{is_quit, command_of, bare_command, with_one, with_two, mem_of, word_of, pin_of, begun_at, next_of, prev_of, until_of, last_of, peek_of, pio_of};
 ghost use Rattle.reverse_debug.specs.Reading.{meant, sought, Fits, IsThere};
 
 use crate::watch::Watched;
@@ -126,8 +126,8 @@ fn peek_of(address: Option<u32>) -> Command
 }
 
 /// A command of one word.
-fn alone(name: &[u8]) -> Command
-    ensures meaning { meant result ≡ alone name.now }
+fn bare_command(name: &[u8]) -> Command
+    ensures meaning { meant result ≡ bare_command name.now }
     ensures fits { Fits result }
 {
     if is(name, b"step") {
@@ -269,7 +269,7 @@ pub(crate) fn command_of(line: &[u8]) -> Command
         return Command::Bad;
     }
     let Some((name, operands)) = first_word(line) else {
-        return alone(line);
+        return bare_command(line);
     };
     let Some((first, rest)) = first_word(operands) else {
         return with_one(name, operands);

@@ -43,7 +43,7 @@ use Rattle.rp_machine.specs.Registers.{Part, part_of, part_word}
 use Rattle.rp_machine.specs.Registers.Part.{Resets, Fabric, Dma, Pio0, Pio1, Outer}
 use Rattle.rp_machine.specs.Cycle.{begun, wanted, wanted_by, cause_in, pins_of, with_sio, ended, after_deed, mark, stop, next}
 use Rattle.rp_machine.specs.Wantless.{core1_launched}
-use Rattle.rp_machine.specs.Alone.{Blocks, AreBlocksQuiet, blocks_after, with_blocks, IsAlone, alone_next, granted_alone, with_grant, with_store}
+use Rattle.rp_machine.specs.Alone.{Blocks, AreBlocksQuiet, blocks_after, with_blocks, IsCore0Alone, alone_next, granted_alone, with_grant, with_store}
 use Rattle.rp_machine.specs.Inward.{with_beside, is_theirs, is_peripheral, is_inward, core0_want, goes_inward, inward_turn, inward_deed, core0_stepped, inward_wantless, inward_next, TellsSame, GoesAlone, GoesOn, inward_cycle, inward_after, StaysInward, onward_after, GoesOnward, Core0GoesOnAlone}
 use Rattle.rp_machine.specs.Events.{events}
 use Rattle.rp_machine.specs.Run.{states}
@@ -161,7 +161,7 @@ inward_same w p q o s b seen (want.Outward request) h pins e =
 inward_same w p q o s b seen want.Signal h pins e = cc
 inward_same w p q o s b seen (want.Stopped cause) h pins e = cc
 
-pub onward : (w : Setting) (p q : Blocks) (o : OuterState) (s : State) → GoesAlone s → IsAlone (with_beside p o s) q → TellsSame p o s → goes_inward s ≡ true
+pub onward : (w : Setting) (p q : Blocks) (o : OuterState) (s : State) → GoesAlone s → IsCore0Alone (with_beside p o s) q → TellsSame p o s → goes_inward s ≡ true
     → next w (with_beside p o s) ≡ with_beside q (outer.next w o (begun (with_beside p o s)).outer) (inward_next (begun s).core0 (core0_want s) s)
 onward w p q o s h alone same inward =
     next_alone w (with_beside p o s) q alone
@@ -181,7 +181,7 @@ no_cause w seen s granted (want.Outward request) e =
 no_cause w seen s granted want.Signal e = cc
 no_cause w seen s granted (want.Stopped cause) e = cc
 
-pub onward_runs : (w : Setting) (p q : Blocks) (o : OuterState) (s : State) → IsAlone (with_beside p o s) q → TellsSame p o s → goes_inward s ≡ true
+pub onward_runs : (w : Setting) (p q : Blocks) (o : OuterState) (s : State) → IsCore0Alone (with_beside p o s) q → TellsSame p o s → goes_inward s ≡ true
     → cause_in w (begun (with_beside p o s)) (wanted (begun (with_beside p o s))) (with_beside p o s) ≡ None
 onward_runs w p q o s alone same inward =
     cause_alone w (with_beside p o s) q alone
@@ -210,7 +210,7 @@ nothing_inward b s e nothing = ap (by_begun s) (sym e) ∙ ap (λ x. is_inward (
 pub inward_by : (b : Doing) (s : State) → b ≡ (begun s).core0 → is_inward (granted_alone (core.want_of b) s) (core.want_of b) ≡ true → goes_inward s ≡ true
 inward_by b s e inward = ap (by_begun s) (sym e) ∙ inward
 
-goes_on : (w : Setting) (p q : Blocks) (o : OuterState) (s : State) → GoesAlone s → IsAlone (with_beside p o s) q → TellsSame p o s → goes_inward s ≡ true → GoesOn w p q o s
+goes_on : (w : Setting) (p q : Blocks) (o : OuterState) (s : State) → GoesAlone s → IsCore0Alone (with_beside p o s) q → TellsSame p o s → goes_inward s ≡ true → GoesOn w p q o s
 goes_on w p q o s h alone same inward = record { cause = onward_runs w p q o s alone same inward; state = onward w p q o s h alone same inward }
 
 -- ---- one cycle after another
@@ -333,7 +333,7 @@ told_both s t u h i = record {
 
 -- in a cycle of these the blocks come to what they are in the next
 alone_by : (w : Setting) (s t : State) (n k : ℕ) → k < n → t.core1.asleep ≡ true → AreBlocksQuiet s n → pacing_of (beside_after w s k t) ≡ pacing_of s
-    → IsAlone (beside_after w s k t) (blocks_after (suc k) s)
+    → IsCore0Alone (beside_after w s k t) (blocks_after (suc k) s)
 unfolding begun
 alone_by w s t n k lt asleep blocks pacing =
     let u = beside_after w s k t in

@@ -23,11 +23,11 @@ use Rattle.rp_machine.specs.Cycle.{begun, wanted, wanted_by, first_cause, cause_
 use Rattle.rp_machine.specs.Wantless.{is_nothing, core1_launched, wantless_next}
 use Rattle.rp_machine.proofs.Wantless.{both, nothing, wantless_four}
 use Rattle.rp_machine.specs.declared.wanted.Wanted.{Wanted}
-use Rattle.rp_machine.specs.Alone.{Blocks, IsAlone, beside, stepped_alone, alone_next, first_next, is_first_alone}
+use Rattle.rp_machine.specs.Alone.{Blocks, IsCore0Alone, beside, stepped_alone, alone_next, first_next, is_first_alone}
 
 -- ---- what the others begin
 
-begun_core1 : (s : State) (p : Blocks) → IsAlone s p → (begun s).core1.act ≡ act.Asleep
+begun_core1 : (s : State) (p : Blocks) → IsCore0Alone s p → (begun s).core1.act ≡ act.Asleep
 unfolding begun core_asks.asks
 begun_core1 s p h = rw h.asleep refl
 
@@ -37,7 +37,7 @@ first_want a b e = ap (λ (xs : List Want). slice_index_or xs 0 want.Nothing) e
 pub second_want : (a b : Want) → a ∷ b ∷ [] ≡ want.Nothing ∷ want.Nothing ∷ [] → b ≡ want.Nothing
 second_want a b e = ap (λ (xs : List Want). slice_index_or xs 1 want.Nothing) e
 
-pub wanted_alone : (s : State) (p : Blocks) → IsAlone s p → wanted (begun s) ≡ beside (core.want_of (begun s).core0)
+pub wanted_alone : (s : State) (p : Blocks) → IsCore0Alone s p → wanted (begun s) ≡ beside (core.want_of (begun s).core0)
 unfolding wanted
 wanted_alone s p h = rw (begun_core1 s p h, first_want _ _ h.wants, second_want _ _ h.wants) refl
 
@@ -51,7 +51,7 @@ cause_beside : (w : Setting) (b : Begun) (x : Want) (s : State) → cause_in w b
 unfolding cause_in cause_of
 cause_beside w b x s = alone_first _
 
-pub cause_alone : (w : Setting) (s : State) (p : Blocks) → IsAlone s p
+pub cause_alone : (w : Setting) (s : State) (p : Blocks) → IsCore0Alone s p
     → cause_in w (begun s) (wanted (begun s)) s ≡ cause_of w (begun s).outer s (wanted_by master.Core0 (core.want_of (begun s).core0))
 cause_alone w s p h =
     ap (λ xs. cause_in w (begun s) xs s) (wanted_alone s p h) ∙ cause_beside w (begun s) (core.want_of (begun s).core0) s
@@ -71,7 +71,7 @@ turns_by : (w : Setting) (p : Blocks) (b : Begun) (ts : List Turn) (t : State)
 unfolding with_turns
 turns_by w p b ts t e1 e2 e3 e4 = rw (e1, e2, e3, e4) refl
 
-steps_alone : (w : Setting) (ts : List Turn) (s t : State) (p : Blocks) → IsAlone s p → t.core1 ≡ s.core1 → t.dma ≡ s.dma → t.pio0 ≡ s.pio0 → t.pio1 ≡ s.pio1
+steps_alone : (w : Setting) (ts : List Turn) (s t : State) (p : Blocks) → IsCore0Alone s p → t.core1 ≡ s.core1 → t.dma ≡ s.dma → t.pio0 ≡ s.pio0 → t.pio1 ≡ s.pio1
     → with_turns w (begun s) ts t ≡ stepped_alone w p (begun s).core0 (begun s).outer (turn_for ts master.Core0) t
 steps_alone w ts s t p h core1 same_dma same_pio0 same_pio1 =
     turns_by w p (begun s) ts t
@@ -93,14 +93,14 @@ ends_alone : (w : Setting) (p : Blocks) (b : Begun) (x : Want) (s : State)
 unfolding granted asked asked_of turns turn_of deeds deed_of after_deeds after_deed core1_launched alone_next
 ends_alone w p b x s = refl
 
-next_beside : (w : Setting) (x : Want) (s : State) (p : Blocks) → IsAlone s p → next_by w (begun s) (beside x) s ≡ alone_next w p (begun s).core0 (begun s).outer x s
+next_beside : (w : Setting) (x : Want) (s : State) (p : Blocks) → IsCore0Alone s p → next_by w (begun s) (beside x) s ≡ alone_next w p (begun s).core0 (begun s).outer x s
 unfolding next_by stepped
 next_beside w x s p h =
     ap (ending w (begun s) x s)
     (steps_alone w (turns w (begun s) (beside x) s (granted (beside x) s)) s (with_grants (beside x) s) p h refl refl refl refl)
     ∙ ends_alone w p (begun s) x s
 
-pub next_alone : (w : Setting) (s : State) (p : Blocks) → IsAlone s p → next w s ≡ alone_next w p (begun s).core0 (begun s).outer (core.want_of (begun s).core0) s
+pub next_alone : (w : Setting) (s : State) (p : Blocks) → IsCore0Alone s p → next w s ≡ alone_next w p (begun s).core0 (begun s).outer (core.want_of (begun s).core0) s
 unfolding next
 next_alone w s p h =
     ap (λ xs. next_by w (begun s) xs s) (wanted_alone s p h) ∙ next_beside w (core.want_of (begun s).core0) s p h

@@ -55,7 +55,7 @@ abbrev pub with_blocks : Blocks → State → State
 with_blocks p s = record s { dma = with_block s.dma p.dma; pio0 = with_block s.pio0 p.pio0; pio1 = with_block s.pio1 p.pio1 }
 
 -- core 1 sleeps, the DMA engine wants nothing, and it and both PIO blocks come to these, whatever the bus gives
-pub record IsAlone (s : State) (p : Blocks) : Type 0 where
+pub record IsCore0Alone (s : State) (p : Blocks) : Type 0 where
   pub asleep : s.core1.asleep ≡ true
   pub wants : dma.wanted (begun s).dma ≡ want.Nothing ∷ want.Nothing ∷ []
   pub dma : (turns : List Turn) → dma.next s.dma.block (begun s).dma turns ≡ p.dma
@@ -118,5 +118,5 @@ is_first_alone (x ∷ xs) = list_all wants_nothing xs
 -- a cycle of a machine in which core 0 alone is at work
 abbrev pub OneCoreGoesAlone : Type 0
 OneCoreGoesAlone =
-    (w : Setting) (s : State) (p : Blocks) → IsAlone s p
+    (w : Setting) (s : State) (p : Blocks) → IsCore0Alone s p
     → next w s ≡ alone_next w p (begun s).core0 (begun s).outer (core.want_of (begun s).core0) s

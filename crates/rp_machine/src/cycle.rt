@@ -60,7 +60,7 @@ fn asked(wants: &[Wanted; 4], spots: &[Spot; 4]) -> [Option<(u8, bool)>; 4]
 }
 
 /// The limit is a number of 64 bits: its type keeps it.
-pub fn is_bounded<X: Device>(world: &World<'_, X>)
+pub fn fact_limit_is_bounded<X: Device>(world: &World<'_, X>)
     ensures { world.now.limit < 2 ^ 64 }
 {
     let _limit = world.limit;

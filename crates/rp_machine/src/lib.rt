@@ -26,7 +26,7 @@ pub mod steps;
 pub mod wanted;
 
 pub use access::asked_of;
-pub use cycle::is_bounded;
+pub use cycle::fact_limit_is_bounded;
 pub use load::PioLoad;
 pub use machine::Machine;
 pub use outer_lane::World;

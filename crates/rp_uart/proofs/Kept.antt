@@ -9,7 +9,7 @@ use Rattle.rp_uart.specs.declared.receiver.Receiver.TheVariants as receivers
 use Rattle.rp_uart.specs.declared.sender.Sending.{Sending}
 use Rattle.rp_uart.specs.declared.sender.Sender.{Sender}
 use Rattle.rp_uart.specs.declared.sender.Sender.TheVariants as senders
-use Rattle.rp_uart.specs.Interrupts.{depth_of, receive_trigger, transmit_trigger, receive_interrupt, transmit_interrupt, error_interrupts, told}
+use Rattle.rp_uart.specs.Interrupts.{depth_of, receive_trigger, transmit_trigger, receive_interrupt, transmit_interrupt, error_interrupts, raised}
 use Rattle.rp_uart.specs.Receiver.{byte_heard, errors_of, with_overrun, stored, with_waited, after_byte, after_more_waiting, after_waiting, with_receiver, can_receive, is_false_start, is_stop, after_sample, after_line, is_byte_due, after_receiving}
 use Rattle.rp_uart.specs.Sender.{bit_time, is_over, elapsed_after, is_last_bit, with_sender, with_first, can_send, next_frame, after_bit, after_sender, after_sending}
 use Rattle.rp_uart.specs.State.{State}
@@ -39,7 +39,7 @@ framed byte elapsed s = record s {
   to_send = drop 1 s.to_send;
 }
 
-pub first-by : (P : State → Type 0) (byte elapsed : ℕ) (s : State) → P (told transmit_interrupt (framed byte elapsed s)) → P (framed byte elapsed s)
+pub first-by : (P : State → Type 0) (byte elapsed : ℕ) (s : State) → P (raised transmit_interrupt (framed byte elapsed s)) → P (framed byte elapsed s)
     → P (with_first (Some byte) elapsed s)
 first-by P byte elapsed s p q = either-way P (length (framed byte elapsed s).to_send == transmit_trigger (framed byte elapsed s)) p q
 
@@ -86,12 +86,12 @@ Hears s t =
 
 -- a byte is stored, whether or not that is told
 abbrev pub entered : ℕ → Errors → State → State
-entered byte e s = told (error_interrupts e) (record s {
+entered byte e s = raised (error_interrupts e) (record s {
   received = s.received ++ record { byte = byte; errors = with_overrun s.lost e } ∷ [];
   lost = false;
 })
 
-pub stored-by : (P : State → Type 0) (byte : ℕ) (e : Errors) (s : State) → P (told receive_interrupt (entered byte e s)) → P (entered byte e s)
+pub stored-by : (P : State → Type 0) (byte : ℕ) (e : Errors) (s : State) → P (raised receive_interrupt (entered byte e s)) → P (entered byte e s)
     → P (stored byte e s)
 stored-by P byte e s p q = either-way P (length (entered byte e s).received == receive_trigger (entered byte e s)) p q
 

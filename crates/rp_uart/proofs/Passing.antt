@@ -11,7 +11,7 @@ use Rattle.rp_uart.specs.declared.sender.Sender.TheVariants as senders
 use Rattle.rp_uart.specs.Interrupts.{is_line_high}
 use Rattle.rp_uart.specs.Quiet.{after_cycles, IsQuiet, sent_longer, heard_longer, waited_longer, passed, has_frame, SendsOn, HearsOn, WaitsOn, GoesOn}
 use Rattle.rp_uart.specs.Receiver.{can_receive, first_heard, is_stop, after_sample, after_more_waiting, after_waiting, after_line, is_byte_due, after_receiving, with_receiver, with_waited}
-use Rattle.rp_uart.specs.Interrupts.{told, timeout_interrupt}
+use Rattle.rp_uart.specs.Interrupts.{raised, timeout_interrupt}
 use Rattle.rp_uart.specs.Sender.{bit_time, is_over, level_of, can_send, is_last_bit, with_sender, with_first, next_frame, after_bit, after_sender, after_sending, ended_byte}
 use Rattle.rp_uart.specs.State.{State}
 use Rattle.rp_uart.specs.Step.{is_running, output_of, heard_of, after_step, sent_byte, pacing_of}
@@ -59,7 +59,7 @@ hears (receivers.Frame g) level s e h =
 waits : (waited : Option ℕ) (s : State) → s.waited ≡ waited → WaitsOn 1 waited s.divisor → after_more_waiting waited s ≡ record s { waited = waited_longer 4 waited }
 waits None s e h = ap (λ (x : Option ℕ). record s { waited = x }) e
 waits (Some elapsed) s e h =
-    ap (λ (b : Bool). cond b (with_waited (Some (elapsed + 4)) s) (told timeout_interrupt (with_waited None s)))
+    ap (λ (b : Bool). cond b (with_waited (Some (elapsed + 4)) s) (raised timeout_interrupt (with_waited None s)))
     (is-below (elapsed + 4) (32 * bit_time s.divisor) h)
 
 one : (line : Bool) (s : State) → GoesOn line s 1 → after_step line s ≡ passed 1 s

@@ -46,11 +46,11 @@ transmit_trigger s = if s.line.fifos then trigger_of (s.levels % 8) else 0
 abbrev pub with_raw : ℕ → State → State
 with_raw raw s = record s { raw = raw }
 
-abbrev pub told : ℕ → State → State
-told set s = with_raw (bit_or s.raw set) s
+abbrev pub raised : ℕ → State → State
+raised set s = with_raw (bit_or s.raw set) s
 
-abbrev pub told_if : Bool → ℕ → State → State
-told_if comes set s = if comes then told set s else s
+abbrev pub raised_if : Bool → ℕ → State → State
+raised_if comes set s = if comes then raised set s else s
 
 abbrev pub cleared : ℕ → State → State
 cleared set s = with_raw (minus s.raw set) s

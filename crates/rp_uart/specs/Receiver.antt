@@ -9,7 +9,7 @@ use Rattle.rp_uart.specs.declared.receiver.Hearing.{Hearing}
 use Rattle.rp_uart.specs.declared.receiver.Receiver.{Receiver}
 use Rattle.rp_uart.specs.declared.receiver.Receiver.TheVariants as receivers
 use Rattle.rp_uart.specs.Frame.{width_of, parity_bit, parity_at, stop_at}
-use Rattle.rp_uart.specs.Interrupts.{depth_of, receive_trigger, receive_interrupt, timeout_interrupt, error_interrupts, told, told_if}
+use Rattle.rp_uart.specs.Interrupts.{depth_of, receive_trigger, receive_interrupt, timeout_interrupt, error_interrupts, raised, raised_if}
 use Rattle.rp_uart.specs.Sender.{bit_time, is_over, elapsed_after}
 use Rattle.rp_uart.specs.State.{State}
 
@@ -44,11 +44,11 @@ stored byte e s =
       received = s.received ++ record { byte = byte; errors = with_overrun s.lost e } ∷ [];
       lost = false;
     } in
-    told_if (length kept.received == receive_trigger kept) receive_interrupt (told (error_interrupts e) kept)
+    raised_if (length kept.received == receive_trigger kept) receive_interrupt (raised (error_interrupts e) kept)
 
 -- the byte is lost
 abbrev pub dropped : Errors → State → State
-dropped e s = told (error_interrupts (with_overrun true e)) (record s { lost = true; overrun = true })
+dropped e s = raised (error_interrupts (with_overrun true e)) (record s { lost = true; overrun = true })
 
 abbrev pub with_waited : Option ℕ → State → State
 with_waited waited s = record s { waited = waited }
@@ -64,7 +64,7 @@ abbrev pub after_more_waiting : Option ℕ → State → State
 after_more_waiting None s = s
 after_more_waiting (Some elapsed) s =
     if nat_lt (elapsed + 4) (32 * bit_time s.divisor) then with_waited (Some (elapsed + 4)) s
-    else told timeout_interrupt (with_waited None s)
+    else raised timeout_interrupt (with_waited None s)
 
 unfoldable pub after_waiting : State → State
 after_waiting s = after_more_waiting s.waited s

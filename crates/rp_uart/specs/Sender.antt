@@ -8,7 +8,7 @@ use Rattle.rp_uart.specs.declared.sender.Sending.{Sending}
 use Rattle.rp_uart.specs.declared.sender.Sender.{Sender}
 use Rattle.rp_uart.specs.declared.sender.Sender.TheVariants as senders
 use Rattle.rp_uart.specs.Frame.{level_at, frame_length}
-use Rattle.rp_uart.specs.Interrupts.{transmit_trigger, transmit_interrupt, told_if}
+use Rattle.rp_uart.specs.Interrupts.{transmit_trigger, transmit_interrupt, raised_if}
 use Rattle.rp_uart.specs.State.{State}
 
 -- how long a bit lasts
@@ -38,7 +38,7 @@ with_first (Some byte) elapsed s =
       sender = senders.Frame (record { byte = byte; bit = 0; elapsed = elapsed });
       to_send = drop 1 s.to_send;
     } in
-    told_if (length rest.to_send == transmit_trigger rest) transmit_interrupt rest
+    raised_if (length rest.to_send == transmit_trigger rest) transmit_interrupt rest
 
 -- a frame begins only where the UART and its transmitter are enabled
 abbrev pub can_send : State → Bool

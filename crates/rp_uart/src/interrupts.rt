@@ -2,7 +2,7 @@
 
 ghost use Rattle.std.specs.Prelude.{◌≡◌, ◌≤◌};
 ghost use Rattle.rp_uart.specs.State.{no_errors};
-ghost use Rattle.rp_uart.specs.Interrupts.{depth_of, trigger_of, receive_trigger, transmit_trigger, error_bits, error_interrupts, told, told_if, cleared, cleared_if, settled};
+ghost use Rattle.rp_uart.specs.Interrupts.{depth_of, trigger_of, receive_trigger, transmit_trigger, error_bits, error_interrupts, raised, raised_if, cleared, cleared_if, settled};
 
 use crate::receiver::Errors;
 use crate::uart::Uart;
@@ -47,8 +47,8 @@ impl Uart {
     }
 
     /// Interrupts come.
-    pub(crate) fn tell(&mut self, set: u32)
-        ensures { self.new ≡ told set self.old }
+    pub(crate) fn raise(&mut self, set: u32)
+        ensures { self.new ≡ raised set self.old }
     {
         self.raw |= set;
     }

@@ -165,17 +165,17 @@ impl Uart {
         requires { length self.old.received < 32 }
         ensures { self.new ≡ stored byte errors self.old }
     {
-        let told = Errors {
+        let errors = Errors {
             framing: errors.framing,
             parity: errors.parity,
             break_line: errors.break_line,
             overrun: self.lost,
         };
-        self.received.push(Received { byte, errors: told });
+        self.received.push(Received { byte, errors });
         self.lost = false;
-        self.tell(errors.bits() << 7);
+        self.raise(errors.bits() << 7);
         if self.received.len() == self.receive_trigger() {
-            self.tell(RECEIVE);
+            self.raise(RECEIVE);
         }
     }
 
@@ -185,13 +185,13 @@ impl Uart {
     {
         self.lost = true;
         self.overrun = true;
-        let told = Errors {
+        let errors = Errors {
             framing: errors.framing,
             parity: errors.parity,
             break_line: errors.break_line,
             overrun: true,
         };
-        self.tell(told.bits() << 7);
+        self.raise(errors.bits() << 7);
     }
 
     /// The timeout's cycle.
@@ -204,7 +204,7 @@ impl Uart {
                 self.waited = Some(elapsed + 4);
             } else {
                 self.waited = None;
-                self.tell(TIMEOUT);
+                self.raise(TIMEOUT);
             }
         }
     }

@@ -94,7 +94,7 @@ impl Uart {
                 elapsed,
             });
             if self.to_send.len() == self.transmit_trigger() {
-                self.tell(TRANSMIT);
+                self.raise(TRANSMIT);
             }
         }
     }

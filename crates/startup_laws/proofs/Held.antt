@@ -12,16 +12,16 @@ use Rattle.lane_look.specs.declared.lane.Ask.{Ask}
 use Rattle.lane_look.specs.declared.lane.Turn.{Turn}
 use Rattle.lane_look.specs.declared.lane.Want.{Want}
 use Rattle.lane_look.specs.Asking.{Asking, answered}
-use Rattle.lane_look.specs.Steps.{IsAtRest}
+use Rattle.lane_look.specs.Steps.{NeverActs}
 use Rattle.dma_engine.specs.Asks as dma_asks
 use Rattle.dma_engine.specs.Cycle as dma_steps
 use Rattle.dma_engine.specs.State as dma
 use Rattle.dma_engine.specs.Words as dma_words
-use Rattle.dma_engine.specs.Rest.{AnEngineRestsAtReset}
+use Rattle.dma_engine.specs.Rest.{AnEngineAtResetNeverActs}
 use Rattle.pio_block.specs.Cycle as pio_steps
 use Rattle.pio_block.specs.State as pio
 use Rattle.pio_block.specs.Words as pio_words
-use Rattle.pio_block.specs.Laws.{ABlockRestsAtReset}
+use Rattle.pio_block.specs.Laws.{ABlockAtResetNeverActs}
 use Rattle.bus_fabric.specs.Masters.{masters}
 use Rattle.sio_block.specs.declared.Launch.{Launch}
 use Rattle.sio_block.specs.State.{State as SioState}
@@ -48,9 +48,9 @@ set first false r = λ e. absurd (true≢false (sym e))
 accessed : {S : Type 0} (first after : S) (r : Resettable S) → IsReset first r → IsReset first (unless_held_becomes r after)
 accessed first after r h = λ e. ap (λ (held : Bool). if held then r.block else after) e ∙ h e
 
--- what a lane that rests in its reset state has begun leaves it there
+-- what a lane that never acts in its reset state has begun leaves it there
 rests : {S B : Type 0} (asks : S → ℕ → Asking B) (wants : B → List Want) (steps : S → B → List Turn → S) (first s : S) (answer : Ask → ℕ) (turns : List Turn)
-    → IsAtRest asks wants steps first → s ≡ first → steps s (answered answer (asks s 0)) turns ≡ first
+    → NeverActs asks wants steps first → s ≡ first → steps s (answered answer (asks s 0)) turns ≡ first
 rests {S} asks wants steps first s answer turns law e =
     let rest = law 0 in
     ap (λ (x : S). steps x (answered answer (asks x 0)) turns) e ∙ ap (λ tree. steps first (answered answer tree) turns) rest.1 ∙ rest.3 turns
@@ -126,7 +126,7 @@ all_deeds w ds s h =
     let after = after_masters w s.sio masters ds s in
     sio _ _ (same after _ refl refl refl (by_masters w s.sio masters ds s h))
 
-steps : (w : Setting) (s : State) → AnEngineRestsAtReset → ABlockRestsAtReset → HeldAreReset s → HeldAreReset (stepped w (begun s) (wanted (begun s)) s)
+steps : (w : Setting) (s : State) → AnEngineAtResetNeverActs → ABlockAtResetNeverActs → HeldAreReset s → HeldAreReset (stepped w (begun s) (wanted (begun s)) s)
 unfolding stepped with_turns begun
 steps w s engine block h =
     let ts = turns w (begun s) (wanted (begun s)) s (granted (wanted (begun s)) s) in
@@ -163,7 +163,7 @@ block1_still s e = record {
   accesses = λ offset write. ap (λ p. record s { pio1 = p }) (unchanged _ s.pio1 e);
 }
 
-pub held_stays : AnEngineRestsAtReset → ABlockRestsAtReset → AHeldBlockStays
+pub held_stays : AnEngineAtResetNeverActs → ABlockAtResetNeverActs → AHeldBlockStays
 unfolding first_state next next_by
 held_stays engine block = record {
   first = λ device image. record {

@@ -4,8 +4,8 @@
 ghost use Rattle.startup_laws.specs.Held.{AHeldBlockStays};
 ghost use Rattle.startup_laws.specs.Waits.{AStartUpWaitsForNothing};
 
-use dma_engine::laws::an_engine_rests_at_reset;
-use pio_block::laws::a_block_rests_at_reset;
+use dma_engine::laws::an_engine_at_reset_never_acts;
+use pio_block::laws::a_block_at_reset_never_acts;
 use startup_blocks::laws::{
     clocks_are_selected_at_once, oscillator_and_plls_are_ready, the_tick_runs_at_once,
 };
@@ -25,6 +25,6 @@ pub fn a_start_up_waits_for_nothing()
 pub fn a_held_block_stays()
     ensures { AHeldBlockStays }
 {
-    an_engine_rests_at_reset();
-    a_block_rests_at_reset();
+    an_engine_at_reset_never_acts();
+    a_block_at_reset_never_acts();
 }

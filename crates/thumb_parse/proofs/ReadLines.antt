@@ -19,7 +19,7 @@ use Rattle.thumb_parse.specs.declared.item.Item.{Item}
 use Rattle.thumb_parse.specs.declared.item.Item.TheVariants.{Instruction, BranchIf}
 use Rattle.thumb_parse.specs.declared.statement.Statement.{Statement}
 use Rattle.thumb_parse.specs.FormOps.{alone_op, number_op, branch_op, low_op, three_op, byte_op, small_op, index_op, offset_op, stack_op, adjust_op, shift_op}
-use Rattle.thumb_parse.specs.descent.Forms.{alone, form_of, immediate_register, index_immediate, index_register, register_and_list, register_immediate, register_name, registers_immediate, short, three_registers, two_registers, with_immediate, with_list, with_name, with_number, with_register, with_sum, write_back}
+use Rattle.thumb_parse.specs.descent.Forms.{bare_item, form_of, immediate_register, index_immediate, index_register, register_and_list, register_immediate, register_name, registers_immediate, short, three_registers, two_registers, with_immediate, with_list, with_name, with_number, with_register, with_sum, write_back}
 use Rattle.thumb_parse.specs.Forms.{condition_of, field, is_low, judged, ldm_item, ldm_listed_item, name_text, pop_item, push_item, stm_item, unit_of, units}
 use Rattle.thumb_parse.specs.Grammar.{IsItem, IsLine, IsList}
 use Rattle.thumb_parse.specs.Grammar.IsItem.{nothing, word_number, word_name, word_sum, half_number, space_number, align_alone as align_form, no_operand, cpsie_i, cpsid_i, b_name, bl_name, b_if_name, ldr_name, adr_name, number, msr_number, mrs_number, register, low_pair, cmp_low, cmp_high, add_pair, mov_pair, three, byte, adjust, small, shift_left, shift_right, add_stack, indexed, stack, offset, push_list, pop_list, stm_back, ldm_back, ldm_listed}
@@ -111,7 +111,7 @@ module _ {code : List ℕ} {tokens : List Token} {item : Item} where
   mapped None f h forms = no_answer h
 
 module _ {code : List ℕ} {item : Item} where
-  is_alone : (w : Mnemonic) → alone w ≡ Some item → IsItem code (Word' w ∷ []) item
+  is_alone : (w : Mnemonic) → bare_item w ≡ Some item → IsItem code (Word' w ∷ []) item
   is_alone AlignDirective h = is_same align_form h
   is_alone w h = mapped (alone_op w) Instruction h (λ op e. no_operand e)
 
@@ -313,7 +313,7 @@ is_line code tokens statement h =
 
 -- ---- what is of a form is read
 
-not_align : (w : Mnemonic) (op : Op) → alone_op w ≡ Some op → alone w ≡ Some (Instruction op)
+not_align : (w : Mnemonic) (op : Op) → alone_op w ≡ Some op → bare_item w ≡ Some (Instruction op)
 not_align AlignDirective op h = no_answer h
 not_align w op h = ap (option_map Instruction) h
 

@@ -2,7 +2,7 @@
 
 ghost use Rattle.std.specs.Prelude.{◌≡◌, ◌≤◌, ◌<◌, ◌&&◌, true, IfSome};
 ghost use Rattle.thumb_parse.specs.FormOps.{low_op};
-ghost use Rattle.thumb_parse.specs.descent.Forms.{adjust_stack, alone, compare, for_interrupts, form_of, immediate_register, index_immediate, index_register, register_and_list, register_immediate, register_name, registers_immediate, read_special, shift_left, shift_right, short, small_number, with_byte, from_stack, three_registers, two_registers, with_immediate, with_list, with_name, with_number, with_register, with_sum, write_back};
+ghost use Rattle.thumb_parse.specs.descent.Forms.{adjust_stack, bare_item, compare, for_interrupts, form_of, immediate_register, index_immediate, index_register, register_and_list, register_immediate, register_name, registers_immediate, read_special, shift_left, shift_right, short, small_number, with_byte, from_stack, three_registers, two_registers, with_immediate, with_list, with_name, with_number, with_register, with_sum, write_back};
 ghost use Rattle.thumb_parse.specs.Forms.{condition_of, field, holds_list, is_listed, is_low, is_special_register, judged, name_text, word, half, space, unit_of, units};
 
 use crate::form_ops::{
@@ -82,8 +82,8 @@ fn short(ranged: bool, held: bool, op: Option<Op>) -> Option<Item>
 }
 
 /// `nop` and the like, `.align`.
-fn alone(mnemonic: Mnemonic) -> Option<Item>
-    ensures { result ≡ alone mnemonic }
+fn bare_item(mnemonic: Mnemonic) -> Option<Item>
+    ensures { result ≡ bare_item mnemonic }
 {
     match mnemonic {
         Mnemonic::Align => Some(Item::Align),
@@ -499,7 +499,7 @@ pub(crate) fn form_of(line: &[u8], mnemonic: Mnemonic, operands: Operands) -> Op
     ensures { result ≡ form_of line.now mnemonic operands }
 {
     match operands {
-        Operands::Empty => alone(mnemonic),
+        Operands::Empty => bare_item(mnemonic),
         Operands::Number(k) => with_number(mnemonic, k),
         Operands::Name(name) => with_name(line, mnemonic, name),
         Operands::NamePlus(name, k) => with_sum(mnemonic, name, k),

@@ -12,7 +12,7 @@ use crate::jobs::{length_of, log_of, longest_by, start_of};
 use crate::lane_job::LaneReport;
 use crate::lane_run::LaneRun;
 use crate::questions::questions_of;
-use crate::walk::{Comparison, compare_run};
+use crate::walk::{Agreement, compare_run};
 use dma_engine::Dma;
 use lane_look::{Lane, Report};
 use m0_core::Core;
@@ -32,7 +32,7 @@ pub struct Stranger {
 }
 
 /// What a comparison says of a report that begins where the lane stands.
-fn verdict(outcome: Comparison) -> Result<(), Option<u16>>
+fn verdict(outcome: Agreement) -> Result<(), Option<u16>>
     ensures alone { is_ok result ≡ outcome.same_length && is_none outcome.other }
     ensures entry { IfErr result (λ entry. entry ≡ outcome.other) }
 {

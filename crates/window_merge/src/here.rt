@@ -10,7 +10,7 @@ ghost use Rattle.window_merge.specs.Start.{goes_first};
 ghost use Rattle.window_merge.specs.Window.{longest, window_length};
 ghost use Rattle.window_merge.specs.Merging.{marks_in};
 
-use crate::merge::{is_known, longest};
+use crate::merge::{fact_copies_are_known, longest};
 use crate::notes::Notes;
 use crate::pass::{goes_by, is_launching, step_noted, try_later};
 use crate::start::Start;
@@ -47,7 +47,7 @@ fn go<X: Device, L: Ledger>(
     ensures steps { steps.new ≡ steps.old + result }
     ensures begun { lanes.new ≡ begun machine.new }
 {
-    is_known(machine);
+    fact_copies_are_known(machine);
     let start = Start::of(machine);
     notes.clear();
     step_noted(machine, world, notes, lanes, marks);
@@ -83,7 +83,7 @@ pub fn window<X: Device, L: Ledger>(
     ensures steps { steps.new ≡ steps.old + result }
     ensures begun { lanes.new ≡ begun machine.new }
 {
-    is_known(machine);
+    fact_copies_are_known(machine);
     marks.clear();
     let most = longest(machine, world);
     if most == 0 {

@@ -13,7 +13,7 @@ use crate::copies::Copies;
 use crate::lane_job::{LaneJob, LaneReport};
 use crate::lane_run::{LaneRun, LaneSet};
 use dma_engine::Dma;
-use lane_look::{Device, Lane, Log, Report, run_alone};
+use lane_look::{Device, Lane, Log, Report, run_lane_alone};
 use m0_core::Core;
 use outer_lane::{Outer, World};
 use pio_block::PioBlock;
@@ -77,7 +77,7 @@ fn run_lane<E, S: Lane<E>>(
         at_most room.new }
 {
     room.start = start;
-    run_alone(room, env, copies, at_most)
+    run_lane_alone(room, env, copies, at_most)
 }
 
 /// Runs a core alone: for no cycle where it is core 1 and has a word of its launcher to take.

@@ -110,7 +110,7 @@ pub(crate) fn longest<X: Device>(machine: &Machine, world: &World<'_, X>) -> u16
 }
 
 /// What the lanes keep of SIO is what it holds, and SRAM has its words: the machine's type keeps it.
-pub(crate) fn is_known(machine: &Machine)
+pub(crate) fn fact_copies_are_known(machine: &Machine)
     ensures pins { machine.now.outer.sio ≡ pins_of machine.now.sio }
     ensures offer { machine.now.core1.offer ≡ offers_of machine.now.sio }
     ensures sram { length machine.now.sram ≡ 67584 }
@@ -136,7 +136,7 @@ pub fn merge_runs<X: Device, L: Ledger>(
     ensures marks { marks.new ≡ marks_in (setting X.meaning world.now) machine.old result }
     ensures steps { steps.new ≡ steps.old + result }
 {
-    is_known(machine);
+    fact_copies_are_known(machine);
     marks.clear();
     let longest = longest(machine, world);
     let mut indices = Indices::first();

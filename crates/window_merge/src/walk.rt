@@ -225,7 +225,7 @@ fn is_length<S: Lane<()>>(
 
 /// What a comparison came to.
 #[derive(Clone, Copy)]
-pub(crate) struct Comparison {
+pub(crate) struct Agreement {
     /// The run alone has as many cycles.
     pub(crate) same_length: bool,
     /// The first entry of the log that is not one of the run alone, in as many cycles.
@@ -240,7 +240,7 @@ pub(crate) fn compare_run<S: Lane<()> + Drop>(
     log: &Log,
     cycles: u16,
     at_most: u16,
-) -> Comparison
+) -> Agreement
     requires cycles { cycles ≤ 256 }
     requires number { machine.now.cycle + cycles < 2 ^ 64 }
     ensures length { Decides result.same_length (cycles ≡ alone_length
@@ -261,5 +261,5 @@ pub(crate) fn compare_run<S: Lane<()> + Drop>(
     let ended = walk(&mut lane, machine.at, cycles, &mut walker);
     let other = first_other(log, walker.index, walker.same);
     let same_length = is_length(&lane, machine.at, &mut walker, ended, cycles, at_most);
-    Comparison { same_length, other }
+    Agreement { same_length, other }
 }

@@ -14,7 +14,7 @@ use crate::events::tell_marks;
 use lane_look::{Device, Marks};
 use outer_lane::World;
 use rp_base::Why;
-use rp_machine::{Machine, Steps, is_bounded};
+use rp_machine::{Machine, Steps, fact_limit_is_bounded};
 use std::sync::ledger::Ledger;
 use trace_text::tape::Tape;
 use trace_text::writer::SinkFault;
@@ -103,7 +103,7 @@ fn step<X: Device, T: Tape, L: Ledger>(
     ensures crew { IsWhole crew.new }
     ensures begun { crew.new.begun ≡ begun machine.new }
 {
-    is_bounded(world);
+    fact_limit_is_bounded(world);
     let cycle = machine.number();
     let before = machine.pads();
     match advance(machine, world, crew, counts.after_empty, marks, steps) {

@@ -21,14 +21,14 @@ use crate::worker::pass;
 use lane_look::{Device, Marks};
 use outer_lane::World;
 use rp_base::Why;
-use rp_machine::{Machine, Steps, is_bounded};
+use rp_machine::{Machine, Steps, fact_limit_is_bounded};
 use rp_ports::gate::Gate;
 use std::sync::Wait;
 use std::sync::ledger::Ledger;
 use trace_text::tape::Tape;
 use trace_text::writer::SinkFault;
 use turn_board::{Board, Gather, Master, Seat, See, Six, Ticket};
-use window_merge::here::window as window_here;
+use window_merge::here::window;
 use window_merge::reports::merge;
 use window_merge::{LaneJob, LaneReport, Moved};
 
@@ -194,12 +194,12 @@ fn window_over<'w, X: Device, G: Gate, H: Wait, L: Ledger>(
         machine.begin_into(desk.world, begun);
         return length;
     }
-    window_here(machine, desk.world, notes, begun, marks, steps)
+    window(machine, desk.world, notes, begun, marks, steps)
 }
 
 /// Moves the machine by a window, and gives its length: over the board where it goes over it, and else in one pass, as on one thread. What
 /// the lanes begin is known, before and after.
-fn window<'w, X: Device, G: Gate, H: Wait, L: Ledger>(
+fn next_window<'w, X: Device, G: Gate, H: Wait, L: Ledger>(
     desk: &Desk<'_, 'w, X, G, H>,
     lead: &mut Lead<'w, X>,
     machine: &mut Machine,
@@ -224,7 +224,7 @@ fn window<'w, X: Device, G: Gate, H: Wait, L: Ledger>(
         return window_over(desk, lead, machine, marks, steps);
     }
     let Sets { notes, begun, .. } = &mut *lead.sets;
-    let length = window_here(machine, desk.world, notes, begun, marks, steps);
+    let length = window(machine, desk.world, notes, begun, marks, steps);
     if length >= LONG {
         lead.left = lead.left.saturating_sub(1);
     }
@@ -262,7 +262,7 @@ fn go<'w, X: Device, G: Gate, H: Wait, L: Ledger>(
     if let Some(why) = machine.stop_of(desk.world, begun) {
         return Moved::Stopped(why);
     }
-    Moved::Window(window(desk, lead, machine, marks, steps))
+    Moved::Window(next_window(desk, lead, machine, marks, steps))
 }
 
 /// Goes to the next position of a run and tells the events on the way, or finds a stop and changes nothing.
@@ -296,7 +296,7 @@ fn step<'w, X: Device, G: Gate, H: Wait, T: Tape, L: Ledger>(
         lead.new.kept lead.new.master lead.new.seat }
     ensures begun { lead.new.sets.value.begun ≡ begun machine.new }
 {
-    is_bounded(desk.world);
+    fact_limit_is_bounded(desk.world);
     let cycle = machine.number();
     let before = machine.pads();
     match go(desk, lead, machine, counts.after_empty, marks, steps) {

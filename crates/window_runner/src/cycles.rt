@@ -15,7 +15,7 @@ use outer_lane::World;
 use quiet_run::{Pace, pass_paced};
 use rp_base::Why;
 use rp_machine::begun::Begun;
-use rp_machine::{Machine, Steps, is_bounded};
+use rp_machine::{Machine, Steps, fact_limit_is_bounded};
 use std::sync::ledger::Ledger;
 use trace_text::tape::Tape;
 use trace_text::writer::SinkFault;
@@ -49,7 +49,7 @@ pub fn run_cycles<X: Device, T: Tape, L: Ledger>(
     let mut marks = Marks::new();
     let mut pace = Pace::default();
     'cycles: loop {
-        is_bounded(world);
+        fact_limit_is_bounded(world);
         let cycle = machine.number();
         let before = machine.pads();
         machine.begin_into(world, &mut begun);

@@ -21,9 +21,9 @@ abbrev pub short : Bool → Bool → Option Op → Option Item
 short ranged held op = option_map (judged 2 ranged held) op
 
 -- `nop` and the like, `.align`
-abbrev pub alone : Mnemonic → Option Item
-alone AlignDirective = Some Align
-alone mnemonic = option_map Instruction (alone_op mnemonic)
+abbrev pub bare_item : Mnemonic → Option Item
+bare_item AlignDirective = Some Align
+bare_item mnemonic = option_map Instruction (alone_op mnemonic)
 
 abbrev pub with_number : Mnemonic → Number → Option Item
 with_number WordDirective k = Some (word k)
@@ -160,7 +160,7 @@ register_and_list mnemonic n list = None
 
 -- the item of a mnemonic and its operands on this line
 unfoldable pub form_of : List ℕ → Mnemonic → Operands → Option Item
-form_of line mnemonic NoOperand = alone mnemonic
+form_of line mnemonic NoOperand = bare_item mnemonic
 form_of line mnemonic (NumberOperand k) = with_number mnemonic k
 form_of line mnemonic (Name name) = with_name line mnemonic name
 form_of line mnemonic (NamePlus name k) = with_sum mnemonic name k

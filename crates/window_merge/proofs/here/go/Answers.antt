@@ -13,7 +13,7 @@ pub loop-k-init : goal.loop-k-init
 loop-k-init g c =
     let w = setting_of c.args.world.now.script.now (g.X.Device.meaning c.args.world.now.device.now) c.args.world.now.limit in
     let s = c.args.machine.now in
-    let first : First s c.args.marks.now = record { free = c.requires.free; knows = record { pins = c.is_known.ensures.pins; offer = c.is_known.ensures.offer }; none = c.requires.marks; long = c.is_known.ensures.sram } in
+    let first : First s c.args.marks.now = record { free = c.requires.free; knows = record { pins = c.fact_copies_are_known.ensures.pins; offer = c.fact_copies_are_known.ensures.offer }; none = c.requires.marks; long = c.fact_copies_are_known.ensures.sram } in
     let some = c.requires.some in
     let most = c.requires.most in
     record {

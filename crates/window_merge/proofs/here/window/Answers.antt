@@ -9,7 +9,7 @@ use Rattle.window_merge.proofs.here.window.Goals as goal
 pub returns-then-most-eq0-clause-length : goal.returns-then-most-eq0-clause-length
 returns-then-most-eq0-clause-length g c =
     let w = setting_of c.args.world.now.script.now (g.X.Device.meaning c.args.world.now.device.now) c.args.world.now.limit in
-    let first : First c.args.machine.now c.clear.new.self = record { free = c.requires.free; knows = record { pins = c.is_known.ensures.pins; offer = c.is_known.ensures.offer }; none = c.clear.ensures; long = c.is_known.ensures.sram } in
+    let first : First c.args.machine.now c.clear.new.self = record { free = c.requires.free; knows = record { pins = c.fact_copies_are_known.ensures.pins; offer = c.fact_copies_are_known.ensures.offer }; none = c.clear.ensures; long = c.fact_copies_are_known.ensures.sram } in
     closed_at_once w c.args.machine.now c.clear.new.self first (sym c.longest-most.ensures.value ∙ c.if-most-eq0.true)
 
 pub returns-then-most-eq0-clause-state : goal.returns-then-most-eq0-clause-state
@@ -23,7 +23,7 @@ returns-then-most-eq0-clause-marks g c =
 pub returns-then-is_launching-clause-length : goal.returns-then-is_launching-clause-length
 returns-then-is_launching-clause-length g c =
     let w = setting_of c.args.world.now.script.now (g.X.Device.meaning c.args.world.now.device.now) c.args.world.now.limit in
-    let first : First c.args.machine.now c.clear.new.self = record { free = c.requires.free; knows = record { pins = c.is_known.ensures.pins; offer = c.is_known.ensures.offer }; none = c.clear.ensures; long = c.is_known.ensures.sram } in
+    let first : First c.args.machine.now c.clear.new.self = record { free = c.requires.free; knows = record { pins = c.fact_copies_are_known.ensures.pins; offer = c.fact_copies_are_known.ensures.offer }; none = c.clear.ensures; long = c.fact_copies_are_known.ensures.sram } in
     let some = c.if-most-eq0.false in
     let most = c.longest-most.ensures.value in
     let family : State → Type 0 = λ s. c.is_launching.result ≡ is_launching s.core1 in
@@ -41,7 +41,7 @@ returns-then-is_launching-clause-marks g c =
 pub returns-then-not-goes_by-clause-length : goal.returns-then-not-goes_by-clause-length
 returns-then-not-goes_by-clause-length g c =
     let w = setting_of c.args.world.now.script.now (g.X.Device.meaning c.args.world.now.device.now) c.args.world.now.limit in
-    let first : First c.args.machine.now c.clear.new.self = record { free = c.requires.free; knows = record { pins = c.is_known.ensures.pins; offer = c.is_known.ensures.offer }; none = c.clear.ensures; long = c.is_known.ensures.sram } in
+    let first : First c.args.machine.now c.clear.new.self = record { free = c.requires.free; knows = record { pins = c.fact_copies_are_known.ensures.pins; offer = c.fact_copies_are_known.ensures.offer }; none = c.clear.ensures; long = c.fact_copies_are_known.ensures.sram } in
     let some = c.if-most-eq0.false in
     let most = c.longest-most.ensures.value in
     let family : State → Type 0 = λ s. c.is_launching.result ≡ is_launching s.core1 in

@@ -9,7 +9,7 @@ pub loop-k-init : goal.loop-k-init
 loop-k-init g c =
     let w = setting_of c.args.world.now.script.now (g.X.Device.meaning c.args.world.now.device.now) c.args.world.now.limit in
     record {
-      stands = rw c.first-indices.ensures (stands_at_first w c.args.machine.now c.args.runs.now c.clear.new.self c.requires.free (record { pins = c.is_known.ensures.pins; offer = c.is_known.ensures.offer }) c.requires.runs c.clear.ensures);
+      stands = rw c.first-indices.ensures (stands_at_first w c.args.machine.now c.args.runs.now c.clear.new.self c.requires.free (record { pins = c.fact_copies_are_known.ensures.pins; offer = c.fact_copies_are_known.ensures.offer }) c.requires.runs c.clear.ensures);
       within = rw c.first-indices.ensures (within_first c.args.runs.now);
       counted = omega arith;
     }

@@ -10,25 +10,25 @@ pub count_window-requires-clause-windows : goal.count_window-requires-clause-win
 count_window-requires-clause-windows g c =
     let h = c.in-Window.ensures.moved in
     one_window_more (setting_of c.args.world.now.script.now (g.X.Device.meaning c.args.world.now.device.now) c.args.world.now.limit)
-    c.args.machine.now c.args.counts.now _ c.is_bounded.ensures h.0 c.requires.number h.1 c.requires.windows
+    c.args.machine.now c.args.counts.now _ c.fact_limit_is_bounded.ensures h.0 c.requires.number h.1 c.requires.windows
 
 pub count_window-requires-clause-cycles : goal.count_window-requires-clause-cycles
 count_window-requires-clause-cycles g c =
     let h = c.in-Window.ensures.moved in
     cycles_more (setting_of c.args.world.now.script.now (g.X.Device.meaning c.args.world.now.device.now) c.args.world.now.limit)
-    c.args.machine.now c.advance.new.machine _ _ _ c.is_bounded.ensures c.requires.number h.3 h.6 c.requires.cycles
+    c.args.machine.now c.advance.new.machine _ _ _ c.fact_limit_is_bounded.ensures c.requires.number h.3 h.6 c.requires.cycles
 
 pub tell_step-requires : goal.tell_step-requires
 tell_step-requires g c =
     let h = c.in-Window.ensures.moved in
     marks_behind (setting_of c.args.world.now.script.now (g.X.Device.meaning c.args.world.now.device.now) c.args.world.now.limit)
-    c.args.machine.now c.advance.new.machine _ _ _ _ c.is_bounded.ensures c.requires.number h.3 h.6 c.number-cycle.ensures h.4
+    c.args.machine.now c.advance.new.machine _ _ _ _ c.fact_limit_is_bounded.ensures c.requires.number h.3 h.6 c.number-cycle.ensures h.4
 
 pub tell_step-requires-in-Cycle : goal.tell_step-requires-in-Cycle
 tell_step-requires-in-Cycle g c =
     let h = c.in-Cycle.ensures.moved in
     mark_behind (setting_of c.args.world.now.script.now (g.X.Device.meaning c.args.world.now.device.now) c.args.world.now.limit)
-    c.args.machine.now _ _ _ c.is_bounded.ensures h.0 c.requires.number c.number-cycle.ensures h.3
+    c.args.machine.now _ _ _ c.fact_limit_is_bounded.ensures h.0 c.requires.number c.number-cycle.ensures h.3
 
 pub returns-in-Stopped-clause-told : goal.returns-in-Stopped-clause-told
 returns-in-Stopped-clause-told g c = tells_none _ _ _ _ _ _ g.met.T.Tape.takes_none shown_none

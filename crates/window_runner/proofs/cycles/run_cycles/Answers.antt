@@ -20,7 +20,7 @@ pub tell_marks-requires : goal.tell_marks-requires
 tell_marks-requires g c =
     let w = setting_of c.args.world.now.script.now (g.X.Device.meaning c.args.world.now.device.now) c.args.world.now.limit in
     let h = c.in-None.ensures in
-    mark_behind w c.cycles.machine _ _ _ c.is_bounded.ensures (sym h.cause) c.cycles.invariant.0.within c.number-cycle.ensures h.marks
+    mark_behind w c.cycles.machine _ _ _ c.fact_limit_is_bounded.ensures (sym h.cause) c.cycles.invariant.0.within c.number-cycle.ensures h.marks
 
 pub cycles-smaller : goal.cycles-smaller
 cycles-smaller g c =

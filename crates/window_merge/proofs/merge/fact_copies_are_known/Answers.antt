@@ -2,7 +2,7 @@ use Rattle.std.proofs.Common.{◌≡◌, subst}
 use Rattle.sio_block.specs.Launcher.{offers_of}
 use Rattle.rp_machine.specs.State.{State}
 use Rattle.rp_machine.specs.Cycle.{pins_of}
-use Rattle.window_merge.proofs.merge.is_known.Goals as goal
+use Rattle.window_merge.proofs.merge.fact_copies_are_known.Goals as goal
 
 pub returns-clause-pins : goal.returns-clause-pins
 returns-clause-pins c =

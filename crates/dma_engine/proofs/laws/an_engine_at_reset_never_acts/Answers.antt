@@ -3,7 +3,7 @@ use Rattle.dma_engine.specs.Asks.{idle_begun}
 use Rattle.dma_engine.specs.Rest.{is_paused}
 use Rattle.dma_engine.specs.State.{at_reset}
 use Rattle.dma_engine.proofs.Rest.{asks-paused, stays-paused}
-use Rattle.dma_engine.proofs.laws.an_engine_rests_at_reset.Goals as goal
+use Rattle.dma_engine.proofs.laws.an_engine_at_reset_never_acts.Goals as goal
 
 pub returns : goal.returns
 unfolding is_paused

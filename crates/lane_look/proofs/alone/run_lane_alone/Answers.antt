@@ -2,7 +2,7 @@ use Rattle.std.proofs.Common.{sym, arith}
 use Rattle.lane_look.specs.Replay.{meaning}
 use Rattle.lane_look.specs.Alone.{surroundings}
 use Rattle.lane_look.proofs.RunsAlone.{alone_true}
-use Rattle.lane_look.proofs.alone.run_alone.Goals as goal
+use Rattle.lane_look.proofs.alone.run_lane_alone.Goals as goal
 
 pub returns-clause-holds : goal.returns-clause-holds
 returns-clause-holds g c =
