@@ -165,15 +165,15 @@ impl Uart {
         requires { length self.old.received < 32 }
         ensures { self.new ≡ stored byte errors self.old }
     {
-        let errors = Errors {
+        let seen = Errors {
             framing: errors.framing,
             parity: errors.parity,
             break_line: errors.break_line,
             overrun: self.lost,
         };
-        self.received.push(Received { byte, errors });
+        self.received.push(Received { byte, errors: seen });
         self.lost = false;
-        self.raise(errors.bits() << 7);
+        self.raise(seen.bits() << 7);
         if self.received.len() == self.receive_trigger() {
             self.raise(RECEIVE);
         }
@@ -185,13 +185,13 @@ impl Uart {
     {
         self.lost = true;
         self.overrun = true;
-        let errors = Errors {
+        let seen = Errors {
             framing: errors.framing,
             parity: errors.parity,
             break_line: errors.break_line,
             overrun: true,
         };
-        self.raise(errors.bits() << 7);
+        self.raise(seen.bits() << 7);
     }
 
     /// The timeout's cycle.
