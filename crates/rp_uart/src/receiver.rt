@@ -173,7 +173,7 @@ impl Uart {
         };
         self.received.push(Received { byte, errors: seen });
         self.lost = false;
-        self.raise(seen.bits() << 7);
+        self.raise(errors.bits() << 7);
         if self.received.len() == self.receive_trigger() {
             self.raise(RECEIVE);
         }
