@@ -1,18 +1,22 @@
 -- What was begun is carried to the end of the cycle with the lines and the cycle's number.
-use Rattle.std.proofs.Common.{◌≡◌, ◌∙◌, ℕ, ◌%◌, ◌^◌, false, cond, Some, refl, ap}
+use Rattle.std.proofs.Common.{◌≡◌, ◌∙◌, ℕ, ◌%◌, ◌^◌, Bool, true, false, cond, Option, Some, None, refl, ap}
 use Rattle.std.specs.Prelude.{slice_get, unwrap_or}
+use Rattle.rp_base.specs.Access.{master_of}
+use Rattle.rp_base.specs.declared.Why.TheVariants as why
 use Rattle.rp_base.specs.declared.op.Op.{Op}
 use Rattle.m0_beats.specs.declared.timing.Beat.{Beat}
 use Rattle.m0_beats.specs.declared.timing.Beat.TheVariants.{Inner}
 use Rattle.m0_beats.specs.Instructions.{beats_of}
 use Rattle.lane_look.specs.declared.lane.Ask.{Ask}
-use Rattle.lane_look.specs.declared.lane.Ask.TheVariants.{Lines}
+use Rattle.lane_look.specs.declared.lane.Ask.TheVariants.{Lines, Half}
 use Rattle.lane_look.specs.Asking.{Asking, Runs, answered}
 use Rattle.lane_look.specs.Asking.Asking.{Ready, Question}
 use Rattle.m0_core.specs.declared.doing.Act.{Act}
 use Rattle.m0_core.specs.declared.doing.Act.TheVariants as act
 use Rattle.m0_core.specs.declared.doing.Work.TheVariants as works
-use Rattle.m0_core.specs.Fetch.{asks, asks_awake, asks_next, asks_beat, beat_of, in_beat, carried, ends_with}
+use Rattle.m0_core.specs.Fetch.{asks, asks_awake, asks_next, asks_boundary, asks_taken, asks_first, asks_second, asks_beat, beat_of, in_beat, carried, ends_with, is_ram, stopped, taken_of}
+use Rattle.m0_core.specs.declared.doing.Work.{Work}
+use Rattle.m0_core.specs.Begins.{begins}
 use Rattle.m0_core.specs.State.{State}
 
 pub runs_carried : {K : Type 0} (answers : K → Ask → ℕ → K → Type 0) (lines cycle : ℕ) (tree : Asking Act) (old new : K) (begun : Act) → Runs answers old tree begun new → Runs answers old (carried lines cycle tree) (ends_with lines cycle begun) new
@@ -43,3 +47,23 @@ unfolding asks_awake asks_beat beat_of
 begun_on f cycle s op b awake going at =
     begun_from f cycle s awake
     ∙ ap (ends_with (f Lines % 2 ^ 32) cycle) (ap (λ w. answered f (asks_next w s)) going ∙ ap (λ o. answered f (in_beat (works.Instruction op) s (unwrap_or o Inner))) at)
+
+-- the instruction of a halfword, between two instructions
+parts : (s : State) (pc : ℕ) (asleep : Bool) (work : Option Work) (taken : Option ℕ) (ram : Bool) → s.asleep ≡ asleep → s.work ≡ work → taken_of s ≡ taken → is_ram s.regs.pc ≡ ram
+    → begins s ≡ Some pc → (s.asleep ≡ false) × (s.work ≡ None) × (taken_of s ≡ None) × (is_ram s.regs.pc ≡ true) × (s.regs.pc ≡ pc)
+unfolding begins
+parts s pc true work taken ram a w t r h = absurd (cc (a, h))
+parts s pc false (Some x) taken ram a w t r h = absurd (cc (a, w, h))
+parts s pc false None (Some n) ram a w t r h = absurd (cc (a, w, t, h))
+parts s pc false None None false a w t r h = absurd (cc (a, w, t, r, h))
+parts s pc false None None true a w t r h = (a, w, t, r, cc)
+
+pub begun_short : (f : Ask → ℕ) (cycle : ℕ) (s : State) (pc : ℕ) (a : Act) → begins s ≡ Some pc → asks_second (f (Half pc) % 2 ^ 16) s ≡ Ready a
+    → answered f (asks s cycle) ≡ ends_with (f Lines % 2 ^ 32) cycle a
+unfolding asks_awake asks_boundary asks_first
+begun_short f cycle s pc a here short =
+    let p = parts s pc s.asleep s.work (taken_of s) (is_ram s.regs.pc) refl refl refl refl here in
+    begun_from f cycle s p.0
+    ∙ ap (ends_with (f Lines % 2 ^ 32) cycle)
+    (ap (λ w. answered f (asks_next w s)) p.1 ∙ ap (λ t. answered f (asks_taken t s)) p.2 ∙ ap (λ r. answered f (cond r (Question (Half s.regs.pc) (λ half. asks_second (half % 2 ^ 16) s)) (stopped (why.Outside (master_of s.number) s.regs.pc)))) p.3
+    ∙ ap (λ pc. answered f (asks_second (f (Half pc) % 2 ^ 16) s)) p.4 ∙ ap (answered f) short)

@@ -1,5 +1,5 @@
 -- A plain instruction begins with an inner beat in Thumb state, and its end begins no return, calls nothing and waits for nothing.
-use Rattle.std.proofs.Common.{◌≡◌, ◌+◌, ℕ, zero, suc, Bool, true, false, not, ◌||◌, ◌&&◌, cond, nat_lt, refl, ap, arith, rules, ◌≤◌, ◌∙◌}
+use Rattle.std.proofs.Common.{◌≡◌, ◌+◌, ℕ, zero, suc, Bool, true, false, not, ◌||◌, ◌&&◌, cond, nat_lt, nat_le, refl, ap, arith, rules, ◌≤◌, ◌∙◌}
 use Rattle.std.specs.Prelude.{slice_get, unwrap_or, length, List, [], Option, None, ◌==◌}
 use Rattle.std.specs.List.{list_any}
 use Rattle.std.proofs.Math.Bool.{and-false, and-true}
@@ -11,7 +11,7 @@ use Rattle.rp_base.specs.declared.Why.TheVariants as why
 use Rattle.m0_beats.specs.declared.registers.Regs.{Regs}
 use Rattle.m0_beats.specs.declared.timing.Beat.{Beat}
 use Rattle.m0_beats.specs.declared.timing.Beat.TheVariants.{Inner}
-use Rattle.m0_beats.specs.Beats.{inner, is_unaligned_beat, single}
+use Rattle.m0_beats.specs.Beats.{inner, inner_to, is_unaligned_beat, single}
 use Rattle.m0_beats.specs.Instructions.{beats_of, is_unaligned_of, effect_of, return_of}
 use Rattle.m0_beats.specs.Conditions.{condition_holds}
 use Rattle.m0_nvic.specs.Exceptions.{SVCALL}
@@ -82,6 +82,10 @@ ordinary : {o : Op} → is_breakpoint o ≡ false → is_undefined o ≡ false �
     awaits_interrupt o ≡ false → ((g : Regs) (read : List ℕ) → return_of o g read ≡ None) → Ordinary o
 ordinary b u c e i r = record { breakpoint = b; undefined = u; call = c; event = e; interrupt = i; returns = r }
 
+-- of a move to a register that may be PC
+low : (d : ℕ) → nat_lt d 15 ≡ true → inner_to d ≡ inner 1
+low d h = let less : nat_le 15 d ≡ false = grind (arith, nat_tests) in ap (λ b. cond b (inner 2) (inner 1)) less
+
 -- one that is no branch has one beat
 singly : (o : Op) → is_single o ≡ true → Ordinary o × ((g : Regs) → beats_of o g ≡ inner 1)
 unfolding beats_of return_of
@@ -121,6 +125,7 @@ singly (op.Uxtb m d) h = (ordinary refl refl refl refl refl (λ g read. refl), �
 singly (op.Rev m d) h = (ordinary refl refl refl refl refl (λ g read. refl), λ g. refl)
 singly (op.Rev16 m d) h = (ordinary refl refl refl refl refl (λ g read. refl), λ g. refl)
 singly (op.Revsh m d) h = (ordinary refl refl refl refl refl (λ g read. refl), λ g. refl)
+singly (op.MovHigh d m) h = (ordinary refl refl refl refl refl (λ g read. refl), λ g. low d (and_parts (nat_lt d 15) true h).0)
 singly _ h = absurd (cc h)
 
 branches : (o : Op) → is_branch o ≡ true → Ordinary o × ((g : Regs) → (n : ℕ) × (beats_of o g ≡ inner n))

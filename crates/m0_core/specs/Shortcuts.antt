@@ -1,7 +1,7 @@
 -- The instructions for which the body has a shorter way. No other definition stands on these.
-use Rattle.std.specs.Prelude.{Bool, true, false, not, ◌&&◌}
+use Rattle.std.specs.Prelude.{Bool, true, false, not, ◌&&◌, nat_lt}
 use Rattle.rp_base.specs.declared.op.Op.{Op}
-use Rattle.rp_base.specs.declared.op.Op.TheVariants.{LslImm, LsrImm, AsrImm, AddReg, SubReg, AddImm3, SubImm3, MovImm, CmpImm, AddImm8, SubImm8, And, Eor, LslReg, LsrReg, AsrReg, Adc, Sbc, Ror, Tst, Rsb, Cmp, Cmn, Orr, Mul, Bic, Mvn, CmpHigh, SubSpImm, Sxth, Sxtb, Uxth, Uxtb, Rev, Rev16, Revsh, BCond, B, Bl}
+use Rattle.rp_base.specs.declared.op.Op.TheVariants.{LslImm, LsrImm, AsrImm, AddReg, SubReg, AddImm3, SubImm3, MovImm, CmpImm, AddImm8, SubImm8, And, Eor, LslReg, LsrReg, AsrReg, Adc, Sbc, Ror, Tst, Rsb, Cmp, Cmn, Orr, Mul, Bic, Mvn, CmpHigh, SubSpImm, Sxth, Sxtb, Uxth, Uxtb, Rev, Rev16, Revsh, MovHigh, BCond, B, Bl}
 
 -- an instruction with inner beats alone, which does not fault in Thumb state
 abbrev pub is_plain : Op → Bool
@@ -41,6 +41,7 @@ is_plain (Uxtb m d) = true
 is_plain (Rev m d) = true
 is_plain (Rev16 m d) = true
 is_plain (Revsh m d) = true
+is_plain (MovHigh d m) = nat_lt d 15
 is_plain (BCond c i) = true
 is_plain (B i) = true
 is_plain (Bl s i j) = true

@@ -8,7 +8,7 @@ ghost use Rattle.lane_look.specs.Asking.Asking.{Ready};
 ghost use Rattle.rp_base.specs.Access.{master_of};
 ghost use Rattle.m0_beats.specs.Instructions.{beats_of};
 ghost use Rattle.m0_core.specs.Begins.{begins};
-ghost use Rattle.m0_beats.specs.Shapes.{beats_of_shape, is_one_access};
+ghost use Rattle.m0_beats.specs.Shapes.{beats_of_shape};
 ghost use Rattle.m0_core.specs.Fetch.{is_ram, is_locked, asks_fault, is_callable, is_faulty, beat_of, beat_of_work, in_ram, in_private, at_spot, in_beat, asks_beat, locks_last, asks_return, asks_decoded, asks_second, asks_first, taken_of, asks_boundary, asks_work, asks_awake, asks};
 
 use crate::doing::{Act, Doing, Work};
@@ -18,7 +18,7 @@ use crate::placed::Placed;
 use crate::processor::Core;
 use crate::returns::{is_misfit, value_at};
 use lane_look::{Ask, Look};
-use m0_beats::{Beat, Shape, beat_at, is_one_access, shape_beat, shape_is_unaligned, shape_of};
+use m0_beats::{Beat, Shape, beat_at, shape_beat, shape_is_unaligned, shape_of};
 use m0_nvic::numbers::SVCALL;
 use rp_base::access::{master_of, word_written};
 use rp_base::map::{Spot, place};
@@ -221,31 +221,12 @@ impl Core {
         self.begin_other(op, look, act);
     }
 
-    /// The same of a load or a store of one register, which faults without T and where its access is unaligned.
-    #[inline(always)]
-    #[tactic(auto, using(crate::proofs::OneAccess::asking, crate::proofs::Shapes::unaligned))]
-    fn begin_one_access<K: Look>(&self, op: Op, look: &mut K, act: &mut Act)
-        requires { is_one_access op ≡ true }
-        ensures { Runs K.answers look.old (asks_decoded op self.now) act.new look.new }
-    {
-        let shape = shape_of(&op, &self.regs);
-        if !self.regs.t || shape_is_unaligned(&shape, &self.regs) {
-            *act = self.begin_fault();
-        } else {
-            self.begin_shape(op, &shape, look, act);
-        }
-    }
-
     /// The same of an instruction that may stop, fault or access.
     #[inline(never)]
     #[tactic(auto, unfolding(crate::specs::Fetch::asks_decoded))]
     fn begin_other<K: Look>(&self, op: Op, look: &mut K, act: &mut Act)
         ensures { Runs K.answers look.old (asks_decoded op self.now) act.new look.new }
     {
-        if is_one_access(&op) {
-            self.begin_one_access(op, look, act);
-            return;
-        }
         if is_breakpoint(&op) {
             *act = Act::Stopped(Why::Bkpt(self.number()));
             return;
@@ -364,6 +345,7 @@ impl Core {
     /// The address of the instruction that the core begins in the coming cycle, which is the one whose first halfword it fetches then.
     /// It begins none where it is asleep, where a beat of something in progress is next, where it takes an exception, and where it stops
     /// because PC is outside SRAM.
+    #[inline(always)]
     #[tactic(auto, unfolding(crate::specs::Begins::begins))]
     pub fn begins(&self) -> Option<u32>
         ensures { result ≡ begins self.now }

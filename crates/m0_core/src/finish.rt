@@ -1,9 +1,13 @@
 //! What a core wants in a cycle, and how the cycle ends.
 
-ghost use Rattle.std.specs.Prelude.{◌≡◌, ◌<◌, ◌||◌, Decides, if◌then◌else◌, true, Some, slice_get};
+ghost use Rattle.std.specs.Prelude.{◌≡◌, ◌<◌, ◌||◌, Decides, if◌then◌else◌, true, false, Some, slice_get};
 ghost use Rattle.lane_look.specs.declared.lane.Want.TheVariants.{Nothing};
 ghost use Rattle.m0_beats.specs.Shapes.{is_one_access};
+ghost use Rattle.lane_look.specs.Asking.Asking.{Ready};
+ghost use Rattle.thumb_rows.specs.Rows.{operation_of};
+ghost use Rattle.m0_core.specs.Kinds.{is_signal};
 ghost use Rattle.m0_core.specs.Shortcuts.{is_plain};
+ghost use Rattle.m0_core.specs.Fetch.{asks_decoded, asks_second};
 ghost use Rattle.m0_core.specs.Cycle.{want_of, waiting, followed, with_read, returning, called, ended, passed_instruction, passed_entry, passed_return, passed_work, passed, is_paused_op, is_paused, after_inner, faulted, done_word, after_access, value_of, after_outward, after_private, after, closed, is_idle, next};
 
 use crate::doing::{Act, Doing, Work};
@@ -14,11 +18,15 @@ use crate::kinds::{
 use crate::placed::Placed;
 use crate::processor::Core;
 use lane_look::{Turn, Want};
-use m0_beats::{Beat, effect, exception_return, has_more, is_one_access, shape_beat, shape_of};
+use m0_beats::{
+    Beat, effect, exception_return, has_more, is_one_access, shape_beat, shape_is_unaligned,
+    shape_of,
+};
 use m0_nvic::numbers::{HARDFAULT, SVCALL};
 use rp_base::Request;
 use rp_base::access::lanes;
 use rp_base::op::Op;
+use thumb_rows::{decode, is_long};
 
 /// What a core wants.
 pub(crate) fn want(begun: &Doing) -> Want
@@ -204,6 +212,32 @@ impl Core {
         }
     }
 
+    /// A cycle in which the core begins the instruction of this halfword, where that is a sum, a shift, a move, a comparison, a branch by
+    /// an offset, or a load or a store of one register whose access comes later. False where it is other; then nothing changes.
+    #[inline(always)]
+    #[tactic(auto, unfolding(crate::specs::Fetch::asks_second), using(crate::proofs::Plain::plain_decoded, crate::proofs::Plain::plainly_after))]
+    pub fn pass_short(&mut self, first: u16, lines: u32, cycle: u64) -> bool
+        ensures begun { result ≡ true
+            → asks_second first self.old ≡ Ready (Act.Inner (Work.Instruction (operation_of first 0))) }
+        ensures silent { result ≡ true → is_signal (operation_of first 0) ≡ false }
+        ensures state { self.new ≡ (if result then closed lines cycle
+            (after_inner (Work.Instruction (operation_of first 0)) self.old) else self.old) }
+    {
+        if is_long(first) || !self.regs.t {
+            return false;
+        }
+        let op = decode(first, 0);
+        let passes = if is_one_access(&op) {
+            self.hold(&op)
+        } else {
+            is_plain(&op) && self.pass_plain(&Work::Instruction(op))
+        };
+        if passes {
+            self.close(lines, cycle);
+        }
+        passes
+    }
+
     /// Ends a cycle in which this was begun, whatever it is.
     #[inline(never)]
     #[tactic(auto, unfolding(crate::specs::Cycle::next))]
@@ -251,23 +285,32 @@ impl Core {
         }
     }
 
-    /// The first beat of a load or a store of one register is over. Where its access comes now, the core keeps it.
+    /// The first beat of a load or a store of one register is over, where it is inside the core and the access comes next, which the
+    /// core keeps. False where it is other, and where the instruction faults; then nothing changes.
     #[inline(never)]
-    #[tactic(auto, unfolding(crate::specs::Cycle::passed_instruction))]
-    fn pass_first(&mut self, op: &Op)
-        requires one_access { is_one_access op.now ≡ true }
-        requires first { self.old.beats_done ≡ 0 }
-        ensures { self.new ≡ passed_instruction op.now self.old }
+    #[tactic(auto, unfolding(crate::specs::Cycle::passed_instruction), using(crate::proofs::OneAccess::held))]
+    fn hold(&mut self, op: &Op) -> bool
+        requires { is_one_access op.now ≡ true }
+        ensures begun { result ≡ true → self.old.regs.t ≡ true
+            → asks_decoded op.now self.old ≡ Ready (Act.Inner (Work.Instruction op.now)) }
+        ensures state { self.new ≡ (if result then passed_instruction op.now self.old else self.old) }
     {
-        match shape_beat(&shape_of(op, &self.regs), &self.regs, 1) {
-            None => self.end_plain(op),
-            Some(Beat::Inner) => self.follow(Work::Instruction(*op)),
-            Some(Beat::Access(request)) => {
+        let shape = shape_of(op, &self.regs);
+        if self.beats_done != 0 || shape_is_unaligned(&shape, &self.regs) {
+            return false;
+        }
+        match (
+            shape_beat(&shape, &self.regs, 0),
+            shape_beat(&shape, &self.regs, 1),
+        ) {
+            (Some(Beat::Inner), Some(Beat::Access(request))) => {
                 self.work = Some(Work::Instruction(*op));
                 self.beats_done = 1;
                 self.is_held = true;
                 self.held = Placed::new(request);
+                true
             }
+            _ => false,
         }
     }
 
@@ -278,10 +321,10 @@ impl Core {
         requires { is_one_access op.now ≡ true }
         ensures { self.new ≡ passed_instruction op.now self.old }
     {
-        if self.beats_done == 0 {
-            self.pass_first(op);
-        } else {
+        if self.beats_done != 0 {
             self.end_plain(op);
+        } else if !self.hold(op) {
+            self.pass_instruction(op);
         }
     }
 

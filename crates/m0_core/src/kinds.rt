@@ -105,7 +105,7 @@ pub(crate) fn is_single(op: &Op) -> bool
             | Op::Rev { .. }
             | Op::Rev16 { .. }
             | Op::Revsh { .. }
-    )
+    ) || matches!(op, Op::MovHigh { d, .. } if *d < 15)
 }
 
 /// A branch by an offset.
