@@ -1,6 +1,6 @@
 -- Core 0 goes on alone beside lanes that lie behind: each cycle is the definition's.
 use Rattle.std.proofs.lemmas.Bool.Decides.{eqb_tells}
-use Rattle.std.proofs.Common.{◌≡◌, ◌+◌, ◌*◌, ◌^◌, ◌<◌, ◌≤◌, zero, suc, inl, inr, arith, ℕ, true, false, Bool, if◌then◌else◌, List, [], ◌∷◌, Option, Some, None, ◌==◌, ◌&&◌, not, bit_or, refl, sym, ap, ◌∙◌}
+use Rattle.std.proofs.Common.{◌≡◌, ◌+◌, ◌*◌, ◌%◌, ◌^◌, ◌<◌, ◌≤◌, zero, suc, inl, inr, arith, ℕ, true, false, Bool, if◌then◌else◌, List, [], ◌∷◌, Option, Some, None, ◌==◌, ◌&&◌, not, bit_or, refl, sym, ap, ◌∙◌}
 use Rattle.rp_base.specs.declared.Master.{Master}
 use Rattle.rp_base.specs.declared.Master.TheVariants as master
 use Rattle.rp_base.specs.declared.Request.{Request}
@@ -18,6 +18,13 @@ use Rattle.lane_look.specs.Asking.{Asking, answered}
 use Rattle.lane_look.specs.Asking.Asking.{Ready, Question}
 use Rattle.m0_core.specs.declared.doing.Doing.{Doing}
 use Rattle.m0_core.specs.Fetch as core_asks
+use Rattle.m0_core.specs.Fetch.{asks_second, ends_with}
+use Rattle.m0_core.specs.Begins.{begins}
+use Rattle.m0_core.specs.Kinds.{is_signal}
+use Rattle.m0_core.specs.declared.doing.Act.TheVariants.{Inner}
+use Rattle.m0_core.specs.declared.doing.Work.TheVariants.{Instruction}
+use Rattle.m0_core.proofs.Carrying.{begun_short}
+use Rattle.rp_base.specs.declared.op.Op.{Op}
 use Rattle.m0_core.specs.Cycle as core
 use Rattle.bus_fabric.specs.State.{has_hold}
 use Rattle.bus_fabric.proofs.Alone.{nobody-after}
@@ -198,14 +205,27 @@ wantless_inward b x s e free = rw (e, nobody-after s.fabric free) refl
 pub rests_by : (b : Doing) (s : State) → b ≡ (begun s).core0 → core.want_of b ≡ want.Nothing → has_hold s.fabric ≡ false → inward_wantless b s ≡ inward_cycle s
 rests_by b s e nothing free = wantless_inward b (core.want_of b) s nothing free ∙ ap (λ (d : Doing). inward_next d (core.want_of d) s) e
 
-pub reaches_by : (b : Doing) (s t : State) → b ≡ (begun s).core0 → t ≡ inward_next b (core.want_of b) s → t ≡ inward_cycle s
-reaches_by b s t e reaches = reaches ∙ ap (λ (d : Doing). inward_next d (core.want_of d) s) e
-
 abbrev by_begun : State → Doing → Bool
 by_begun s d = is_inward (granted_alone (core.want_of d) s) (core.want_of d)
 
 pub nothing_inward : (b : Doing) (s : State) → b ≡ (begun s).core0 → core.want_of b ≡ want.Nothing → goes_inward s ≡ true
 nothing_inward b s e nothing = ap (by_begun s) (sym e) ∙ ap (λ x. is_inward (granted_alone x s) x) nothing
+
+-- the same of an instruction that core 0 begins by its first halfword
+pub short_by : (s : State) (pc lines half : ℕ) (op : Op) → lines < 2 ^ 32 → lines ≡ lines_of 0 s → begins s.core0 ≡ Some pc → half ≡ answer_of 0 s (ask.Half pc)
+    → asks_second (half % 2 ^ 16) s.core0 ≡ Ready (Inner (Instruction op)) → is_signal op ≡ false → has_hold s.fabric ≡ false
+    → (goes_inward s ≡ true) × (record (ended (record s { core0 = core.closed lines s.cycle (core.after_inner (Instruction op) s.core0) })) { cycle = s.cycle + 1 } ≡ inward_cycle s)
+unfolding begun inward_wantless core.next
+short_by s pc lines half op fits told here answer short silent free =
+    let b = ends_with lines s.cycle (Inner (Instruction op)) in
+    let word : lines ≡ lines_of 0 s % 2 ^ 32 = omega (arith, fits, told) in
+    let same : b ≡ (begun s).core0 =
+    ap (λ l. ends_with l s.cycle (Inner (Instruction op))) word ∙ sym (begun_short (answer_of 0 s) s.cycle s.core0 pc (Inner (Instruction op)) here (ap (λ x. asks_second (x % 2 ^ 16) s.core0) (sym answer) ∙ short)) in
+    let nothing : core.want_of b ≡ want.Nothing = ap (λ x. if x then want.Signal else want.Nothing) silent in
+    (nothing_inward b s same nothing, rests_by b s same nothing free)
+
+pub reaches_by : (b : Doing) (s t : State) → b ≡ (begun s).core0 → t ≡ inward_next b (core.want_of b) s → t ≡ inward_cycle s
+reaches_by b s t e reaches = reaches ∙ ap (λ (d : Doing). inward_next d (core.want_of d) s) e
 
 pub inward_by : (b : Doing) (s : State) → b ≡ (begun s).core0 → is_inward (granted_alone (core.want_of b) s) (core.want_of b) ≡ true → goes_inward s ≡ true
 inward_by b s e inward = ap (by_begun s) (sym e) ∙ inward

@@ -5,13 +5,13 @@ use crate::deed::Deed;
 use crate::machine::Machine;
 use crate::part::{Part, part_of};
 use crate::steps::Steps;
-use lane_look::{Lane, Marks, Turn};
+use lane_look::{Ask, Lane, Marks, Turn};
 use m0_core::{Act, Doing};
 use rp_base::map::Spot;
 use std::sync::ledger::Ledger;
 
 impl Machine {
-    ghost use Rattle.std.specs.Prelude.{◌≡◌, ◌+◌, ◌-◌, ◌^◌, ◌<◌, ◌≤◌, IfSome, true, false};
+    ghost use Rattle.std.specs.Prelude.{◌≡◌, ◌+◌, ◌-◌, ◌^◌, ◌<◌, ◌≤◌, IfSome, if◌then◌else◌, true, false};
     ghost use Rattle.m0_core.specs.Cycle.{want_of};
     ghost use Rattle.rp_machine.specs.Stores.{StoresInSram};
     ghost use Rattle.rp_machine.specs.Alone.{granted_alone};
@@ -100,6 +100,27 @@ impl Machine {
         true
     }
 
+    /// A cycle in which core 0 begins an instruction, where it wants nothing, as of most, and no access lasts. False where it is other;
+    /// then nothing changes.
+    #[inline(always)]
+    fn short_onward(&mut self, lines: u32) -> bool
+        requires number { self.old.cycle < 2 ^ 64 - 1 }
+        requires lines { lines ≡ lines_of 0 self.old }
+        ensures inward { result ≡ true → goes_inward self.old ≡ true }
+        ensures state { self.new ≡ (if result then inward_cycle self.old else self.old) }
+    {
+        let Some(address) = self.core0.begins() else {
+            return false;
+        };
+        let (at, answer) = (self.at, self.answer(0, Ask::Half(address)));
+        if self.fabric.holds() || !self.core0.pass_short((answer % 0x1_0000) as u16, lines, at) {
+            return false;
+        }
+        self.end();
+        self.at = at + 1;
+        true
+    }
+
     /// One cycle of a machine in which core 0 is alone, whose interrupt lines are these, but for the other lanes, which stay as they
     /// are. False where core 0 reaches for more than SRAM and does not wait, and where an access lasts and nothing is wanted; then
     /// nothing changes.
@@ -112,6 +133,9 @@ impl Machine {
         ensures stays { result ≡ false → self.new ≡ self.old }
         ensures marks { marks.new ≡ marks.old }
     {
+        if self.short_onward(lines) {
+            return true;
+        }
         self.begin_core0(lines, core0);
         if self.is_bus_free(core0) {
             self.wantless_onward(core0, marks);
