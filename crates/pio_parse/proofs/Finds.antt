@@ -1,24 +1,8 @@
 -- Where the stack of waiting operators accepts tokens, the grammar has a tree for them.
-use Rattle.std.proofs.Common.{◌≡◌, ◌≢◌, ◌==◌, ◌⊎◌, inl, inr, ℕ, zero, suc, ◌+◌, ◌<◌, ◌≤◌, Bool, true, false, List, [], ◌∷◌, ◌++◌, length, None, Ok, Err, arith, refl, sym, ap, ◌∙◌, subst}
-use mathlib.Core.Bool.{false≢true}
-use Rattle.source_text.specs.declared.position.SourcePosition.{SourcePosition}
-use Rattle.pio_parse.specs.declared.token.Span.{Span}
-use Rattle.pio_parse.specs.declared.token.Token.{Token}
-use Rattle.pio_parse.specs.declared.token.TokenKind.{TokenKind}
-use Rattle.pio_parse.specs.declared.token.TokenKind.TheVariants.{Name as NameToken, Number as NumberToken, DoubleColon, OpenParenthesis, CloseParenthesis, Plus, Minus, Star}
-use Rattle.pio_parse.specs.declared.expression.Operator.TheVariants.{Add, Subtract, Multiply, Negate as NegateOperator, Reverse as ReverseOperator}
-use Rattle.pio_parse.specs.declared.expression.Term.{Term}
-use Rattle.pio_parse.specs.declared.expression.Term.TheVariants.{Operator as OperatorTerm}
-use Rattle.pio_parse.specs.declared.expression.Pending.{Pending}
-use Rattle.pio_parse.specs.declared.expression.Reading.{Reading}
-use Rattle.pio_parse.specs.descent.Expression.{expression_at, operand_step, operator_step}
-use Rattle.pio_parse.specs.declared.expression.Pending.TheVariants.{Parenthesis, Operator as OperatorPending}
-use Rattle.pio_parse.specs.Tokens.{head_kind, name_at}
-use Rattle.pio_parse.specs.Grammar.{EndsProduct, EndsSum, Expr, IsExpression, IsOperand, IsProduct, IsSum, postfix}
-use Rattle.pio_parse.specs.Grammar.Expr.{Number, Name, Negate, Reverse, Sum, Difference, Product}
-use Rattle.pio_parse.specs.Grammar.IsSum.{product, plus, minus}
-use Rattle.pio_parse.specs.Grammar.IsProduct.{operand, times}
-use Rattle.pio_parse.specs.Grammar.IsOperand.{number, name, parentheses, negate, reverse}
+use Rattle.std.proofs.Common.{◌≡◌, ◌≢◌, ◌==◌, ◌⊎◌, inl, inr, ℕ, zero, suc, ◌+◌, ◌<◌, ◌≤◌, Bool, true, false, List, [], ◌∷◌, ◌++◌, length, length-append, None, Ok, Err, arith, refl, sym, ap, ◌∙◌, subst}
+use Rattle.pio_parse.proofs.Names.{false≢true, SourcePosition, Span, Token, TokenKind, Name as NameToken, Number as NumberToken, DoubleColon, OpenParenthesis, CloseParenthesis, Plus, Minus, Star, Add, Subtract, Multiply, NegateOperator, ReverseOperator, Term, OperatorTerm, Pending, Reading, expression_at, operand_step, operator_step, Parenthesis, OperatorPending, head_kind, name_at, EndsProduct, EndsSum, Expr, IsExpression, IsOperand, IsProduct, IsSum, postfix, NumberTree as Number, NameTree as Name, Negate, Reverse, Sum, Difference, Product, product, plus, minus_sum as minus, operand, times, number, name, parentheses, negate, reverse}
+use Rattle.pio_parse.specs.Laws.{NoneLonger}
+use Rattle.pio_parse.proofs.Extents.{extent_of}
 use Rattle.pio_parse.proofs.Tests.{refused, same_left, same_value}
 use Rattle.pio_parse.proofs.Follows.{after_operand, before_operand, binds_less, binds_less-two, follows_operand, follows_product, follows_sum, goes_in, goes_in_negate, goes_in_reverse, goes_on_minus, goes_on_plus, goes_on_times, is_star, level_for_operand, level_for_product, settled, suc-not_zero}
 
@@ -270,47 +254,8 @@ module _ (text : List ℕ) (answer : List Term × List Token) where
   finds_operand zero = finds_none
   finds_operand (suc bound) = operand_more bound (finds_product bound (finds_operand bound)) (finds_sum bound (finds_product bound (finds_operand bound)))
 
-  -- products and sums of any length
-  products_on : (bound : ℕ) → ProductOn bound bound
-  products_on bound = product_on bound (finds_operand bound) bound
-
-  sums_on : (bound : ℕ) → SumOn bound bound
-  sums_on bound = sum_on bound (finds_product bound (finds_operand bound)) bound
-
   pub finds : (tokens : List Token) → before_operand text [] [] 0 tokens ≡ Ok answer → SumFound (length tokens) tokens
   finds tokens e = let bound = length tokens in finds_sum bound (finds_product bound (finds_operand bound)) tokens [] [] 0 (omega arith) refl e
-
-  -- a sum at the front of tokens that are accepted goes on to one that goes no further
-  sum_to_end : (tokens middle : List Token) (tree : Expr) (few : ℕ) → length middle < few → head_kind middle ≢ Star → IsSum text tokens tree middle
-      → before_operand text [] [] 0 tokens ≡ Ok answer → SumFound few tokens
-  sum_to_end tokens middle tree few lt no_star is e = sum_within (suc (length middle)) few tokens lt
-      (sums_on (length middle) tokens middle tree [] (postfix tree) 0 (omega arith) (omega arith) refl no_star is (sym (follows_sum is [] [] 0 refl no_star) ∙ e))
-
-  product_to_end : (tokens : List Token) (few : ℕ) → before_operand text [] [] 0 tokens ≡ Ok answer → ProductFound few tokens → SumFound few tokens
-  product_to_end tokens few e (tree, rest, is, over, lt) = sum_to_end tokens rest tree few lt over (product is) e
-
-  plus_to_end : (tokens middle : List Token) (sign : Token) (left : Expr) (few : ℕ) → IsSum text tokens left (sign ∷ middle) → sign.kind ≡ Plus
-      → before_operand text [] [] 0 tokens ≡ Ok answer → ProductFound few middle → SumFound few tokens
-  plus_to_end tokens middle sign left few is sign_is e (right, rest, more, over, lt) = sum_to_end tokens rest (Sum left right) few lt over (plus is sign_is more) e
-
-  minus_to_end : (tokens middle : List Token) (sign : Token) (left : Expr) (few : ℕ) → IsSum text tokens left (sign ∷ middle) → sign.kind ≡ Minus
-      → before_operand text [] [] 0 tokens ≡ Ok answer → ProductFound few middle → SumFound few tokens
-  minus_to_end tokens middle sign left few is sign_is e (right, rest, more, over, lt) = sum_to_end tokens rest (Difference left right) few lt over (minus is sign_is more) e
-
-  reaches_end : {tokens rest : List Token} {tree : Expr} → IsSum text tokens tree rest → before_operand text [] [] 0 tokens ≡ Ok answer → SumFound (suc (length rest)) tokens
-  reaches_end (product {tokens = tokens} {rest = rest} {tree = tree} is) e =
-      product_to_end tokens (suc (length rest)) e
-      (products_on (length rest) tokens rest tree [] (postfix tree) 0 (omega arith) (omega arith) refl is (sym (follows_product is [] [] 0 refl) ∙ e))
-  reaches_end (plus {tokens = tokens} {middle = middle} {rest = rest} {left = left} {right = right} {sign = sign} is sign_is more) e =
-      let after = sym (goes_on_plus text [] (postfix left) 0 sign middle sign_is refl) ∙ sym (follows_sum is [] [] 0 refl (λ q. false≢true (ap is_star (sym sign_is ∙ q)))) ∙ e in
-      plus_to_end tokens middle sign left (suc (length rest)) is sign_is e
-      (products_on (length rest) middle rest right (OperatorPending Add ∷ []) (postfix left ++ postfix right) 0 (omega arith) (omega arith) refl more
-      (sym (follows_product more (OperatorPending Add ∷ []) (postfix left) 0 refl) ∙ after))
-  reaches_end (minus {tokens = tokens} {middle = middle} {rest = rest} {left = left} {right = right} {sign = sign} is sign_is more) e =
-      let after = sym (goes_on_minus text [] (postfix left) 0 sign middle sign_is refl) ∙ sym (follows_sum is [] [] 0 refl (λ q. false≢true (ap is_star (sym sign_is ∙ q)))) ∙ e in
-      minus_to_end tokens middle sign left (suc (length rest)) is sign_is e
-      (products_on (length rest) middle rest right (OperatorPending Subtract ∷ []) (postfix left ++ postfix right) 0 (omega arith) (omega arith) refl more
-      (sym (follows_product more (OperatorPending Subtract ∷ []) (postfix left) 0 refl) ∙ after))
 
 -- an expression is over at a token with which it does not go on
 over : (text : List ℕ) (output : List Term) (token : Token) (rest : List Token) → EndsSum (token ∷ rest) → after_operand text [] output 0 (token ∷ rest) ≡ Ok (output, token ∷ rest)
@@ -335,13 +280,26 @@ module _ (text : List ℕ) (tokens : List Token) (terms : List Term) (rest : Lis
   pub finds_tree : (tree : Expr) × IsExpression text tokens tree rest × (postfix tree ≡ terms)
   finds_tree = let found = finds text (terms, rest) tokens e in found_whole found.0 found.1 found.2 found.3
 
-  -- a sum that goes no further leaves what is left
-  left_after : (tree : Expr) (end : List Token) → IsSum text tokens tree end → EndsSum end → end ≡ rest
-  left_after tree [] is ends = absurd (refused (sym (follows_sum is [] [] 0 refl ends.0) ∙ e))
-  left_after tree (token ∷ end) is ends = same_left (sym (follows_sum is [] [] 0 refl ends.0 ∙ over text (postfix tree) token end ends) ∙ e)
+-- tokens with a sum at their front are read from its end on
+from_end : (text : List ℕ) (answer : List Term × List Token) {tokens rest : List Token} {tree : Expr} → IsSum text tokens tree rest → before_operand text [] [] 0 tokens ≡ Ok answer
+    → (stack : List Pending) × (output : List Term) × (after_operand text stack output 0 rest ≡ Ok answer)
+from_end text answer (product {tree = tree} is) e = ([], postfix tree, sym (follows_product is [] [] 0 refl) ∙ e)
+from_end text answer (plus {middle = middle} {left = left} {right = right} {sign = sign} is sign_is more) e = (
+  OperatorPending Add ∷ [],
+  postfix left ++ postfix right,
+  sym (follows_product more (OperatorPending Add ∷ []) (postfix left) 0 refl) ∙ sym (goes_on_plus text [] (postfix left) 0 sign middle sign_is refl)
+      ∙ sym (follows_sum is [] [] 0 refl (λ q. false≢true (ap is_star (sym sign_is ∙ q)))) ∙ e,
+)
+from_end text answer (minus {middle = middle} {left = left} {right = right} {sign = sign} is sign_is more) e = (
+  OperatorPending Subtract ∷ [],
+  postfix left ++ postfix right,
+  sym (follows_product more (OperatorPending Subtract ∷ []) (postfix left) 0 refl) ∙ sym (goes_on_minus text [] (postfix left) 0 sign middle sign_is refl)
+      ∙ sym (follows_sum is [] [] 0 refl (λ q. false≢true (ap is_star (sym sign_is ∙ q)))) ∙ e,
+)
 
-  none_longer_by : (few : ℕ) → SumFound text (terms, rest) few tokens → length rest < few
-  none_longer_by few (tree, end, is, ends, lt) = subst (λ (l : List Token). length l < few) (left_after tree end is ends) lt
-
-  pub none_longer : (other : Expr) (end : List Token) → IsSum text tokens other end → length rest ≤ length end
-  none_longer other end is = omega (arith, none_longer_by (suc (length end)) (reaches_end text (terms, rest) is e))
+pub none_longer : NoneLonger
+none_longer text tokens tree other rest rest' is sum =
+    let at = from_end text (postfix tree, rest) sum (reads text tokens tree rest is) in
+    let e = extent_of text rest' (record { stack = at.0; output = at.1; awaited = false; depth = 0 }) (postfix tree) rest at.2 in
+    let whole : rest' ≡ e.consumed ++ rest = e.whole in
+    omega (arith, ap length whole, length-append e.consumed rest)

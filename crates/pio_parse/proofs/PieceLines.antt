@@ -1,25 +1,6 @@
 -- A program whose lines are read one by one.
 use Rattle.std.proofs.Common.{◌≡◌, not, nat_le, ℕ, ◌+◌, Bool, true, false, List, [], ◌∷◌, ◌++◌, length, Option, None, Some, Ok, append-nil, append_assoc, codes, arith, refl, ap, ◌∙◌}
-use Rattle.std.specs.Prelude.{⊤}
-use Rattle.std.proofs.lemmas.Bool.{le-leb}
-use Rattle.source_text.specs.declared.position.SourcePosition.{SourcePosition}
-use Rattle.pio_parse.specs.declared.token.Token.{Token}
-use Rattle.pio_parse.specs.declared.token.Directive.TheVariants.{Program as ProgramDirective}
-use Rattle.pio_parse.specs.declared.token.TokenKind.TheVariants.{Directive as DirectiveToken, Name, FileEnd, LineEnd}
-use Rattle.pio_parse.specs.declared.scan.Mode.TheVariants.{Between}
-use Rattle.pio_parse.specs.declared.syntax.Statement.{Statement}
-use Rattle.pio_parse.specs.declared.syntax.Statement.TheVariants.{Program}
-use Rattle.pio_parse.specs.declared.syntax.Line.{Line}
-use Rattle.pio_parse.specs.declared.syntax.SourceProgram.{SourceProgram}
-use Rattle.pio_parse.specs.declared.syntax.Source.{Source}
-use Rattle.pio_parse.specs.declared.parser.Groups.{Groups}
-use Rattle.source_text.specs.Outcome.{and_then}
-use Rattle.source_text.specs.Position.{past}
-use Rattle.pio_parse.specs.descent.Scan.{scanned, scanned_from}
-use Rattle.pio_parse.specs.Tokens.{name_at, is_end}
-use Rattle.pio_parse.specs.descent.Statement.{line_at}
-use Rattle.pio_parse.specs.descent.Parsed.{parsed, parsed_tokens, with_syntax}
-use Rattle.pio_parse.specs.descent.Gathering.{grouped_by, line_step, no_groups, source_from}
+use Rattle.pio_parse.proofs.Names.{⊤, le-leb, SourcePosition, Token, ProgramDirective, DirectiveToken, Name, FileEnd, LineEnd, Between, Statement, Program, Line, SourceProgram, Source, Groups, and_then, past, scanned, scanned_from, name_at, is_end, line_at, parsed, parsed_tokens, with_syntax, grouped_by, line_step, no_groups, source_from}
 use Rattle.pio_parse.proofs.Gathered.{source_gathered}
 use Rattle.pio_parse.proofs.Tests.{both, not_true}
 use Rattle.pio_parse.proofs.Lexemes.{lexemes_read}

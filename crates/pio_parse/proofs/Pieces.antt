@@ -1,19 +1,6 @@
 -- A source as the pieces that it is made of: words, signs, blanks and line ends. They are its lexemes.
 use Rattle.std.proofs.Common.{◌≡◌, ◌==◌, ◌&&◌, ◌||◌, not, ℕ, suc, ◌+◌, Bool, true, false, List, [], ◌∷◌, ◌++◌, length, arith, refl, sym, ap, ◌∙◌, subst}
-use mathlib.Core.Bool.{false≢true}
-use Rattle.std.specs.Prelude.{⊤}
-use Rattle.source_text.specs.declared.position.SourcePosition.{SourcePosition}
-use Rattle.source_text.specs.Characters.{is_word_char}
-use Rattle.source_text.specs.Position.{moved}
-use Rattle.pio_parse.specs.declared.token.Span.{Span}
-use Rattle.pio_parse.specs.declared.token.Token.{Token}
-use Rattle.pio_parse.specs.declared.token.TokenKind.{TokenKind}
-use Rattle.pio_parse.specs.declared.token.TokenKind.TheVariants.{Comma as CommaToken, Minus as MinusToken, OpenBracket, CloseBracket, Bang as BangToken, DoubleColon, NotEqual as NotEqualToken, LineEnd}
-use Rattle.pio_parse.specs.Words.{word_kind}
-use Rattle.pio_parse.specs.Tokens.{is_end}
-use Rattle.pio_parse.specs.Lexical.{AreLexemes, are_word_chars, begins_by, ends_word as ends_any_word, is_option, is_word, word_at}
-use Rattle.pio_parse.specs.Lexical.AreLexemes.{nothing, lexeme}
-use Rattle.pio_parse.specs.Lexical.IsLexeme.{space, line_end, comma, minus, open_bracket, close_bracket, bang, double_colon, not_equal, word}
+use Rattle.pio_parse.proofs.Names.{false≢true, ⊤, SourcePosition, is_word_char, moved, Span, Token, TokenKind, Comma as CommaToken, Minus as MinusToken, OpenBracket, CloseBracket, BangToken, DoubleColon, NotEqual as NotEqualToken, LineEnd, word_kind, is_end, AreLexemes, are_word_chars, begins_by, ends_word as ends_any_word, is_option, is_word, word_at, nothing, lexeme, space, line_end, comma, minus, open_bracket, close_bracket, bang, double_colon, not_equal, word}
 use Rattle.pio_parse.proofs.Tests.{apart, both}
 
 pub data Piece : Type 0 where

@@ -1,19 +1,9 @@
 use Rattle.std.proofs.Common.{◌≡◌, ℕ, suc, ◌+◌, ◌-◌, ◌<◌, ◌≤◌, true, false, List, [], ◌∷◌, ◌++◌, length, take, drop, get_or, arith, refl, ap, ◌∙◌, length-drop, drop-cons, add-one}
-use Rattle.std.specs.Prelude.{slice_range}
+use Rattle.pio_parse.proofs.Names.{slice_range, Result, Ok, get_or-drop, SourcePosition, Token, Source, Groups, and_then, is_end, source_of, line_step, source_from}
 use Rattle.std.proofs.Math.Seq.{take-suc}
-use Rattle.std.proofs.lemmas.List.{get_or-drop}
 use Rattle.pio_parse.specs.declared.cursor.Stop.{Stop}
 use Rattle.pio_parse.specs.declared.cursor.Stop.TheVariants.{Syntax, Memory}
-use Rattle.std.specs.Prelude.{Result, Ok}
-use Rattle.source_text.specs.declared.position.SourcePosition.{SourcePosition}
-use Rattle.pio_parse.specs.declared.token.Token.{Token}
-use Rattle.pio_parse.specs.declared.syntax.Source.{Source}
-use Rattle.pio_parse.specs.declared.parser.Groups.{Groups}
-use Rattle.source_text.specs.Outcome.{and_then}
-use Rattle.pio_parse.specs.Tokens.{is_end}
-use Rattle.pio_parse.specs.descent.Parsed.{source_of}
 use Rattle.pio_parse.specs.descent.Calls.{IsStopOf}
-use Rattle.pio_parse.specs.descent.Gathering.{line_step, source_from}
 use Rattle.pio_parse.proofs.Gathered.{source_gathered}
 
 get_or_dropped : {X : Type 0} (xs : List X) (i j : ℕ) (d : X) → i ≤ j → get_or (drop i xs) (j - i) d ≡ get_or xs j d

@@ -176,6 +176,7 @@ fn read_file(alloc: Global, text: &[u8]) -> Result<Source, PioFault>
 /// Datasheet, 3.3).
 ///
 /// Memory may run out at any time.
+#[tactic(auto, using(crate::proofs::Readers::source_read))]
 pub fn parse(alloc: Global, text: &[u8]) -> Result<Source, PioFault>
     ensures ok { IfOk result (IsSource text.now) }
     ensures err { IfErr result (IsFault text.now) }

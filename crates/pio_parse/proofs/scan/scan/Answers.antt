@@ -1,12 +1,5 @@
 use Rattle.std.proofs.Common.{◌≡◌, ◌==◌, ℕ, ◌+◌, ◌<◌, ◌≤◌, Bool, true, false, List, [], ◌∷◌, ◌++◌, length, drop, get_or, Option, Ok, Err, option_to_list, add-one, drop-cons, arith, refl, sym, ◌∙◌}
-use Rattle.std.proofs.lemmas.List.{drop_all}
-use Rattle.source_text.specs.declared.position.SourcePosition.{SourcePosition}
-use Rattle.pio_parse.specs.declared.token.Token.{Token}
-use Rattle.pio_parse.specs.declared.token.TokenKind.TheVariants.{FileEnd}
-use Rattle.pio_parse.specs.declared.scan.Mode.{Mode}
-use Rattle.pio_parse.specs.declared.scan.Step.{Step}
-use Rattle.pio_parse.specs.descent.Scan.{finishes, scanned_from, steps}
-use Rattle.source_text.specs.Position.{position_behind, IsPositionBelow}
+use Rattle.pio_parse.proofs.Names.{drop_all, SourcePosition, Token, FileEnd, Mode, Step, finishes, scanned_from, steps, position_behind, IsPositionBelow}
 use Rattle.pio_parse.proofs.scan.scan.Goals as goal
 
 below_next : (c index : ℕ) (here : SourcePosition) (b : Bool) → (c == 10) ≡ b → here.line < index + 2 → here.column < index + 2 → IsPositionBelow (position_behind c here) (index + 1 + 2)

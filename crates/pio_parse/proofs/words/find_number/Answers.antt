@@ -1,6 +1,5 @@
 use Rattle.std.proofs.Common.{◌≡◌, ◌==◌, ◌≤◌, ◌&&◌, ℕ, false, true, List, [], ◌∷◌, get_or, length, inl, inr, refl, sym, ◌∙◌, arith}
-use Rattle.std.proofs.lemmas.Bool.Decides.{eqb_tells}
-use Rattle.pio_parse.specs.Words.{number_of, number_to}
+use Rattle.pio_parse.proofs.Names.{eqb_tells, number_of, number_to}
 use Rattle.pio_parse.proofs.words.find_number.Goals as goal
 use Rattle.pio_parse.proofs.words.find_number.Goals.{else-first-eq48-via-then-first-eq48+else-second-eq120, else-first-eq48-via-else-first-eq48}
 use Rattle.pio_parse.proofs.words.find_number.Goals.{else-first-eq48-2-via-then-first-eq48-2+else-second-eq98, else-first-eq48-2-via-else-first-eq48-2}
