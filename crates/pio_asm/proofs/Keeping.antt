@@ -1,24 +1,9 @@
 use Rattle.std.proofs.Common.{◌≡◌, ℕ, suc, ℤ, ◌+◌, ◌≤◌, List, [], ◌∷◌, ◌++◌, length, Bool, true, false, cond, Option, None, Some, refl, sym, ap, subst, ◌∙◌, arith, inl, inr}
-use Rattle.std.specs.Prelude.{Ok, Err, if◌then◌else◌, is_some, is_none, nat_le}
+use Rattle.pio_asm.proofs.Shared.{Ok, Err, if◌then◌else◌, is_some, is_none, nat_le, nat_tests, Statement, Define, WordStatement as Word, InstructionStatement, Line, Evaluated, Member, Building, put, Names, AllValued, AreKept, is_kept, evaluated, number_within, instruction_in, definition_value, fitting, is_label_twice, is_member, is_seen, label_value, line_step, misfits, names_of, with_definition, with_label, with_name, word_member, lines_from, lines_of, nothing_built}
 use Rattle.std.specs.declared.cmp.Ordering.{Ordering}
 use Rattle.std.specs.declared.cmp.Ordering.TheVariants.{Less, Equal, Greater}
 use Rattle.std.specs.Ordering.{match_ordering, nat_cmp}
 use Rattle.std.specs.Cmp.Lexicographic.{slice_cmp}
-use Rattle.std.proofs.lemmas.Bool.Decides.{nat_tests}
-use Rattle.pio_parse.specs.declared.syntax.Statement.{Statement}
-use Rattle.pio_parse.specs.declared.syntax.Statement.TheVariants.{Define, Word, Instruction as InstructionStatement}
-use Rattle.pio_parse.specs.declared.syntax.Line.{Line}
-use Rattle.pio_asm.specs.declared.value.Evaluated.{Evaluated}
-use Rattle.pio_asm.specs.declared.plan.Member.{Member}
-use Rattle.pio_asm.specs.declared.building.Building.{Building}
-use Rattle.source_text.specs.Symbols.{put}
-use Rattle.pio_asm.specs.Symbols.{Names}
-use Rattle.pio_asm.specs.Kept.{AllValued, AreKept, is_kept}
-use Rattle.pio_asm.specs.Value.{evaluated}
-use Rattle.pio_asm.specs.Operand.{number_within}
-use Rattle.pio_asm.specs.Plan.{instruction_in}
-use Rattle.pio_asm.specs.Step.{definition_value, fitting, is_label_twice, is_member, is_seen, label_value, line_step, misfits, names_of, with_definition, with_label, with_name, word_member}
-use Rattle.pio_asm.specs.Assembly.{lines_from, lines_of, nothing_built}
 use Rattle.pio_asm.proofs.Accepted.{IsSound, accepted, faults, made, result_cases, same_ok}
 use Rattle.pio_asm.proofs.Valued.{IsValued, evaluated-valued}
 use Rattle.pio_asm.proofs.Planning.{instruction-kept, or-parts}

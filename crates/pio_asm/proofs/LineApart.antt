@@ -1,24 +1,6 @@
 -- The pieces of a source of words are read one by one.
 use Rattle.std.proofs.Common.{◌≡◌, ◌==◌, ℕ, ◌%◌, ◌<◌, ◌≤◌, Bool, true, false, List, [], ◌∷◌, ◌++◌, Option, None, Some, append_assoc, arith, lit<, refl, ◌∙◌}
-use Rattle.pio_words.specs.declared.op.JmpCondition.{JmpCondition}
-use Rattle.pio_words.specs.declared.op.JmpCondition.TheVariants.{Always, XZero, XDecrement, YZero, YDecrement, XNotY, Pin as PinHigh, OsrNotEmpty}
-use Rattle.pio_words.specs.declared.op.MovDestination.{MovDestination}
-use Rattle.pio_words.specs.declared.op.MovSource.{MovSource}
-use Rattle.pio_words.specs.declared.op.MovOperation.{MovOperation}
-use Rattle.pio_words.specs.declared.op.MovOperation.TheVariants.{Plain, Invert, Reverse}
-use Rattle.pio_words.specs.declared.op.WaitSource.{WaitSource}
-use Rattle.pio_words.specs.declared.op.WaitSource.TheVariants.{Gpio, Pin, Irq as Flag}
-use Rattle.pio_words.specs.declared.op.PioOp.{PioOp}
-use Rattle.pio_words.specs.declared.op.PioOp.TheVariants.{Jmp, Wait, In, Out, Push, Pull, Mov, Irq, Set, Reserved}
-use Rattle.pio_words.specs.declared.side.SideConfig.{SideConfig}
-use Rattle.pio_words.specs.declared.side.SideDelay.{SideDelay}
-use Rattle.pio_words.specs.Operation.{HasFields, IsWaitSource}
-use Rattle.pio_parse.specs.declared.token.Keyword.TheVariants.{Opt as KOpt, Pindirs as KPindirs, Jmp as KJmp, Wait as KWait, In as KIn, Out as KOut, Push as KPush, Pull as KPull, Mov as KMov, Irq as KIrq, Set as KSet, Nop as KNop, Side as KSide, Gpio as KGpio, Pin as KPin, Rel as KRel, X as KX, Y as KY, IfFull as KIfFull, IfEmpty as KIfEmpty, Block as KBlock, NoBlock as KNoBlock, Osre as KOsre}
-use Rattle.pio_parse.specs.declared.token.TokenKind.TheVariants.{Directive as DirectiveToken}
-use Rattle.pio_parse.specs.declared.token.Directive.TheVariants.{SideSet, Word as WordDirective}
-use Rattle.pio_parse.specs.Words.{directive_name}
-use Rattle.pio_parse.proofs.Pieces.{AreApart, IsRun, Piece, ends_word, is_open}
-use Rattle.pio_parse.proofs.Pieces.Piece.{End}
+use Rattle.pio_asm.proofs.Shared.{JmpCondition, Always, XZero, XDecrement, YZero, YDecrement, XNotY, PinHigh, OsrNotEmpty, MovDestination, MovSource, MovOperation, Plain, Invert, Reverse, WaitSource, Gpio, Pin, Flag, PioOp, Jmp, Wait, In, Out, Push, Pull, Mov, Irq, Set, Reserved, SideConfig, SideDelay, HasFields, IsWaitSource, KOpt, KPindirs, KJmp, KWait, KIn, KOut, KPush, KPull, KMov, KIrq, KSet, KNop, KSide, KGpio, KPin, KRel, KX, KY, KIfFull, KIfEmpty, KBlock, KNoBlock, KOsre, DirectiveToken, SideSet, WordDirective, directive_name, AreApart, IsRun, Piece, ends_word, is_open, End}
 use Rattle.pio_asm.proofs.LinePieces.{condition_pieces, delay_if, delay_pieces, flag_pieces, from_key, in_key, is_nop, mode_key, mov_pieces, num, operation_pieces, out_key, rel_pieces, set_key, side_pieces, side_set_pieces, tail_pieces, to_key, wait_pieces, word_pieces}
 use Rattle.pio_asm.proofs.LineRuns.{decimal_run, hex_run, key_run}
 

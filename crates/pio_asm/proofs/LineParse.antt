@@ -1,50 +1,12 @@
 -- How the line of an instruction word is parsed.
 use Rattle.std.proofs.Common.{◌≡◌, ◌==◌, ◌&&◌, not, ℕ, ◌+◌, Bool, true, false, if◌then◌else◌, List, [], ◌∷◌, ◌++◌, length, Option, None, Some, Ok, append_assoc, refl, ap, ◌∙◌}
-use Rattle.std.proofs.lemmas.Bool.{eq-eqb}
-use Rattle.pio_words.specs.declared.op.IrqIndex.{IrqIndex}
-use Rattle.pio_words.specs.declared.op.JmpCondition.{JmpCondition}
-use Rattle.pio_words.specs.declared.op.JmpCondition.TheVariants.{XDecrement, YDecrement}
-use Rattle.pio_words.specs.declared.op.InSource.{InSource}
-use Rattle.pio_words.specs.declared.op.InSource.TheVariants.{Pins as InPins}
-use Rattle.pio_words.specs.declared.op.OutDestination.{OutDestination}
-use Rattle.pio_words.specs.declared.op.OutDestination.TheVariants.{Pins as OutPins}
-use Rattle.pio_words.specs.declared.op.MovDestination.{MovDestination}
-use Rattle.pio_words.specs.declared.op.MovDestination.TheVariants.{Pins as ToPins, Y as ToY}
-use Rattle.pio_words.specs.declared.op.MovSource.{MovSource}
-use Rattle.pio_words.specs.declared.op.MovSource.TheVariants.{Pins as FromPins, Y as FromY}
-use Rattle.pio_words.specs.declared.op.SetDestination.{SetDestination}
-use Rattle.pio_words.specs.declared.op.SetDestination.TheVariants.{Pins as SetPins}
-use Rattle.pio_words.specs.declared.op.MovOperation.{MovOperation}
-use Rattle.pio_words.specs.declared.op.MovOperation.TheVariants.{Plain, Invert, Reverse}
-use Rattle.pio_words.specs.declared.op.WaitSource.{WaitSource}
-use Rattle.pio_words.specs.declared.op.WaitSource.TheVariants.{Gpio, Pin, Irq as Flag}
-use Rattle.pio_words.specs.declared.op.PioOp.{PioOp}
-use Rattle.pio_words.specs.declared.op.PioOp.TheVariants.{Jmp, Wait, In, Out, Push, Pull, Mov, Irq, Set, Reserved}
-use Rattle.pio_words.specs.declared.side.SideConfig.{SideConfig}
-use Rattle.pio_words.specs.declared.side.SideDelay.{SideDelay}
-use Rattle.pio_words.specs.Operation.{bit}
+use Rattle.pio_asm.proofs.Shared.{eq-eqb, IrqIndex, JmpCondition, XDecrement, YDecrement, InSource, InPins, OutDestination, OutPins, MovDestination, ToPins, ToY, MovSource, FromPins, FromY, SetDestination, SetPins, MovOperation, Plain, Invert, Reverse, WaitSource, Gpio, Pin, Flag, PioOp, Jmp, Wait, In, Out, Push, Pull, Mov, Irq, Set, Reserved, SideConfig, SideDelay, bit, KeywordToken, LineEnd, Term, Number as NumberTerm, Operation, JmpSyntax, WaitGpio, WaitPin, WaitIrq, InSyntax, OutSyntax, PushSyntax, PullSyntax, MovSyntax, IrqSyntax, SetSyntax, Instruction, Statement, SideSetStatement, WordStatement, InstructionStatement, Line, and_then, map_ok, Piece, token_at, tokens_of, End, keyword_name, decimal, digits, is_from_y, is_plain, is_to_y, is_written, both}
 use Rattle.pio_parse.specs.declared.token.Token.{Token}
-use Rattle.pio_parse.specs.declared.token.TokenKind.TheVariants.{Keyword as KeywordToken, LineEnd}
-use Rattle.pio_parse.specs.declared.expression.Term.{Term}
-use Rattle.pio_parse.specs.declared.expression.Term.TheVariants.{Number as NumberTerm}
-use Rattle.pio_parse.specs.declared.syntax.Operation.{Operation}
-use Rattle.pio_parse.specs.declared.syntax.Operation.TheVariants.{Jmp as JmpSyntax, WaitGpio, WaitPin, WaitIrq, In as InSyntax, Out as OutSyntax, Push as PushSyntax, Pull as PullSyntax, Mov as MovSyntax, Irq as IrqSyntax, Set as SetSyntax}
-use Rattle.pio_parse.specs.declared.syntax.Instruction.{Instruction}
-use Rattle.pio_parse.specs.declared.syntax.Statement.{Statement}
-use Rattle.pio_parse.specs.declared.syntax.Statement.TheVariants.{SideSet as SideSetStatement, Word as WordStatement, Instruction as InstructionStatement}
-use Rattle.pio_parse.specs.declared.syntax.Line.{Line}
-use Rattle.source_text.specs.Outcome.{and_then, map_ok}
 use Rattle.pio_parse.specs.descent.Cursor.{Outcome, after_head}
 use Rattle.pio_parse.specs.Tokens.{head_kind}
 use Rattle.pio_parse.specs.Registers.{mov_destination_of, mov_source_of}
 use Rattle.pio_parse.specs.descent.Instruction.{is_rel, modified_at}
 use Rattle.pio_parse.specs.descent.Statement.{end_at, line_at}
-use Rattle.pio_parse.proofs.Pieces.{Piece, token_at, tokens_of}
-use Rattle.pio_parse.proofs.Pieces.Piece.{End}
-use Rattle.pio_parse.specs.Words.{keyword_name}
-use Rattle.std.specs.Fmt.{decimal, digits}
-use Rattle.pio_disasm.specs.Text.{is_from_y, is_plain, is_to_y, is_written}
-use Rattle.pio_parse.proofs.Tests.{both}
 use Rattle.pio_asm.proofs.LinePieces.{delay_if, from_key, instruction_if, instruction_pieces, is_nop, mov_pieces, operation_pieces, rel_pieces, side_pieces, side_set_pieces, tail_pieces, to_key, word_pieces}
 
 abbrev pub number_terms : ℕ → List Term

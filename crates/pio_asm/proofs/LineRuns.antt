@@ -1,20 +1,11 @@
 -- The words of a line are tokens wherever they stand.
 use Rattle.std.proofs.Common.{◌≡◌, ◌==◌, ◌&&◌, ℕ, suc, zero, ◌+◌, ◌*◌, ◌/◌, ◌%◌, ◌<◌, min, Bool, true, false, nat_le, cond, List, [], ◌∷◌, Option, None, Some, arith, refl, ap, inl, inr, ◌∙◌}
-use Rattle.std.proofs.lemmas.Bool.Decides.{eqb_tells, nat_tests}
+use Rattle.pio_asm.proofs.Shared.{eqb_tells, nat_tests, Keyword, Public, KeywordToken, NumberToken as Number, keyword_name, number_of, word_kind, IsRun, both, decimal, digits, option_map, hex_half}
 use Rattle.pio_parse.specs.declared.token.Span.{Span}
-use Rattle.pio_parse.specs.declared.token.Keyword.{Keyword}
-use Rattle.pio_parse.specs.declared.token.Keyword.TheVariants.{Public}
-use Rattle.pio_parse.specs.declared.token.TokenKind.TheVariants.{Keyword as KeywordToken, Number}
 use Rattle.source_text.specs.Characters.{digit_of, is_digit, is_word_char}
 use Rattle.source_text.specs.Numbers.{digits_value}
-use Rattle.pio_parse.specs.Words.{keyword_name, number_of, word_kind}
 use Rattle.pio_parse.specs.Lexical.{is_word}
-use Rattle.pio_parse.proofs.Pieces.{IsRun}
-use Rattle.pio_parse.proofs.Tests.{both}
-use Rattle.std.specs.Fmt.{decimal, digits}
 use Rattle.std.specs.Char.{digit_char}
-use Rattle.std.specs.Option.{option_map}
-use Rattle.pio_disasm.specs.Text.{hex_half}
 
 pub key_run : (keyword : Keyword) → IsRun (keyword_name keyword) (KeywordToken keyword)
 key_run Public = record { run = refl; plain = refl; names = λ span. refl }

@@ -1,36 +1,7 @@
 -- The text of a source of words is that of its pieces.
 use Rattle.std.proofs.Common.{◌≡◌, ◌==◌, ◌&&◌, not, ℕ, ◌/◌, ◌%◌, Bool, true, false, if◌then◌else◌, List, [], ◌∷◌, ◌++◌, map, Option, None, Some, codes, flat_map, append-nil, append_assoc, refl, sym, ap, ◌∙◌}
-use Rattle.pio_words.specs.declared.op.IrqIndex.{IrqIndex}
-use Rattle.pio_words.specs.declared.op.JmpCondition.{JmpCondition}
-use Rattle.pio_words.specs.declared.op.JmpCondition.TheVariants.{Always, XZero, XDecrement, YZero, YDecrement, XNotY, Pin as PinHigh, OsrNotEmpty}
-use Rattle.pio_words.specs.declared.op.InSource.{InSource}
-use Rattle.pio_words.specs.declared.op.InSource.TheVariants.{Pins as InPins}
-use Rattle.pio_words.specs.declared.op.OutDestination.{OutDestination}
-use Rattle.pio_words.specs.declared.op.OutDestination.TheVariants.{Pins as OutPins}
-use Rattle.pio_words.specs.declared.op.MovDestination.{MovDestination}
-use Rattle.pio_words.specs.declared.op.MovDestination.TheVariants.{Pins as ToPins, X as ToX, Y as ToY, Exec as ToExec, Pc as ToPc, Isr as ToIsr, Osr as ToOsr}
-use Rattle.pio_words.specs.declared.op.MovSource.{MovSource}
-use Rattle.pio_words.specs.declared.op.MovSource.TheVariants.{Pins as FromPins}
-use Rattle.pio_words.specs.declared.op.SetDestination.{SetDestination}
-use Rattle.pio_words.specs.declared.op.SetDestination.TheVariants.{Pins as SetPins}
-use Rattle.pio_words.specs.declared.op.MovOperation.{MovOperation}
-use Rattle.pio_words.specs.declared.op.MovOperation.TheVariants.{Plain, Invert, Reverse}
-use Rattle.pio_words.specs.declared.op.WaitSource.{WaitSource}
-use Rattle.pio_words.specs.declared.op.WaitSource.TheVariants.{Gpio, Pin, Irq as Flag}
-use Rattle.pio_words.specs.declared.op.PioOp.{PioOp}
-use Rattle.pio_words.specs.declared.op.PioOp.TheVariants.{Jmp, Wait, In, Out, Push, Pull, Mov, Irq, Set, Reserved}
-use Rattle.pio_words.specs.declared.side.SideConfig.{SideConfig}
-use Rattle.pio_words.specs.declared.side.SideDelay.{SideDelay}
-use Rattle.pio_words.specs.Operation.{operation_of}
-use Rattle.pio_words.specs.Side.{side_at}
-use Rattle.pio_parse.specs.Words.{keyword_name}
-use Rattle.pio_parse.specs.declared.token.Keyword.TheVariants.{Opt as KOpt, Pindirs as KPindirs}
-use Rattle.pio_parse.proofs.Pieces.{Piece, chars_of, joined}
-use Rattle.pio_parse.proofs.Pieces.Piece.{End}
-use Rattle.pio_parse.proofs.PieceLines.{all_lines, header}
+use Rattle.pio_asm.proofs.Shared.{IrqIndex, JmpCondition, Always, XZero, XDecrement, YZero, YDecrement, XNotY, PinHigh, OsrNotEmpty, InSource, InPins, OutDestination, OutPins, MovDestination, ToPins, ToX, ToY, ToExec, ToPc, ToIsr, ToOsr, MovSource, FromPins, SetDestination, SetPins, MovOperation, Plain, Invert, Reverse, WaitSource, Gpio, Pin, Flag, PioOp, Jmp, Wait, In, Out, Push, Pull, Mov, Irq, Set, Reserved, SideConfig, SideDelay, operation_of, side_at, keyword_name, KOpt, KPindirs, Piece, chars_of, joined, End, all_lines, header, decimal, digits, delay_text, index_text, instruction_text, is_written, line_text, operation_text, side_text, source_text, wait_source_text, word_text}
 use Rattle.pio_disasm.specs.Names.{condition_name, in_source_name, mov_destination_name, mov_operation_name, mov_source_name, out_destination_name, set_destination_name}
-use Rattle.std.specs.Fmt.{decimal, digits}
-use Rattle.pio_disasm.specs.Text.{delay_text, index_text, instruction_text, is_written, line_text, operation_text, side_text, source_text, wait_source_text, word_text}
 use Rattle.pio_asm.proofs.LinePieces.{condition_pieces, delay_if, delay_pieces, from_key, in_key, flag_pieces, index_pieces, instruction_if, instruction_pieces, is_nop, key, line_pieces, mov_operation_pieces, mov_pieces, num, operation_pieces, out_key, program_lines, rel_pieces, set_key, side_pieces, side_set_lines, side_set_pieces, tail_pieces, to_key, wait_pieces}
 
 joined-append : (ps qs : List Piece) → joined (ps ++ qs) ≡ joined ps ++ joined qs

@@ -1,8 +1,6 @@
 -- Addresses of an instruction memory that are free.
 use Rattle.std.proofs.Common.{◌≡◌, ℕ, zero, suc, ◌+◌, ◌-◌, ◌<◌, ◌≤◌, Bool, true, false, ◌&&◌, Option, None, Some, Result, Ok, Err, IfOk, IfErr, refl, sym, ap, subst, arith, inl, inr, ◌∙◌}
-use Rattle.std.proofs.lemmas.Bool.Decides.{eqb_tells}
-use Rattle.pio_parse.specs.declared.fault.PioFault.{PioFault}
-use Rattle.pio_parse.specs.declared.fault.PioFault.TheVariants.{NoRoom}
+use Rattle.pio_asm.proofs.Shared.{eqb_tells, PioFault, NoRoom}
 use Rattle.pio_asm.specs.Addresses.{IsFree, AreFree, IsAddressFor, HasNoAddress}
 use Rattle.pio_asm.specs.Placing.{is_free, are_free, least_free, offset_for, or_no_room, placed}
 

@@ -1,21 +1,6 @@
 use Rattle.std.proofs.Common.{◌≡◌, ℕ, ◌==◌, List, Bool, true, false, Option, None, Some, refl, ◌||◌}
-use Rattle.std.specs.Prelude.{is_some, option_map, option_and_then}
-use Rattle.pio_words.specs.declared.op.WaitSource.{WaitSource}
-use Rattle.pio_words.specs.declared.op.WaitSource.TheVariants.{Gpio, Pin, Irq as WaitFlag}
-use Rattle.pio_words.specs.declared.op.PioOp.{PioOp}
-use Rattle.pio_words.specs.declared.op.PioOp.TheVariants.{Jmp as JmpOp, Wait as WaitOp, In as InOp, Out as OutOp, Irq as IrqOp, Set as SetOp}
-use Rattle.pio_words.specs.declared.side.SideConfig.{SideConfig}
-use Rattle.pio_parse.specs.declared.expression.Term.{Term}
-use Rattle.pio_parse.specs.declared.syntax.Operation.{Operation}
-use Rattle.pio_parse.specs.declared.syntax.Operation.TheVariants.{Jmp, WaitGpio, WaitPin, WaitIrq, In, Out, Push, Pull, Mov, Irq, Set}
-use Rattle.pio_parse.specs.declared.syntax.Instruction.{Instruction}
-use Rattle.pio_asm.specs.declared.operand.Field.{Field}
-use Rattle.pio_asm.specs.declared.operand.Modifier.{Modifier}
+use Rattle.pio_asm.proofs.Shared.{is_some, option_mapped as option_map, option_and_then, WaitSource, Gpio, Pin, Flag as WaitFlag, PioOp, Jmp as JmpOp, Wait as WaitOp, In as InOp, Out as OutOp, Irq as IrqOp, Set as SetOp, SideConfig, Term, Operation, JmpSyntax as Jmp, WaitGpio, WaitPin, WaitIrq, InSyntax as In, OutSyntax as Out, PushSyntax as Push, PullSyntax as Pull, MovSyntax as Mov, IrqSyntax as Irq, SetSyntax as Set, Instruction, Field, Modifier, Names, AllValued, is_kept, field_in, polarity_in, config_of, delay_bits, delay_modifier_in, greatest, instruction_in, judged_of, member_of, operation_in, planned_by, side_modifier_in, waited_for}
 use Rattle.pio_asm.specs.declared.plan.Planned.{Planned}
-use Rattle.pio_asm.specs.Symbols.{Names}
-use Rattle.pio_asm.specs.Kept.{AllValued, is_kept}
-use Rattle.pio_asm.specs.Operand.{field_in, polarity_in}
-use Rattle.pio_asm.specs.Plan.{config_of, delay_bits, delay_modifier_in, greatest, instruction_in, judged_of, member_of, operation_in, planned_by, side_modifier_in, waited_for}
 use Rattle.pio_asm.proofs.Valued.{IsFieldValued, IsFound, field-valued, modifier-found, polarity-valued}
 
 pub or-parts : (a b : Bool) → (a || b) ≡ false → (a ≡ false) × (b ≡ false)

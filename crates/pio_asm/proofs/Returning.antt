@@ -1,35 +1,10 @@
 -- A source of words is read back as these words.
 use Rattle.std.proofs.Common.{◌≡◌, ◌==◌, ◌&&◌, not, ℕ, ◌+◌, ◌/◌, ◌%◌, ◌<◌, ◌≤◌, Bool, true, false, List, [], ◌∷◌, ◌++◌, map, length, Option, None, Some, Result, Ok, append_assoc, append-nil, length-append, arith, codes, refl, ap, sym, ◌∙◌}
-use Rattle.std.specs.Prelude.{All}
-use Rattle.std.proofs.lemmas.List.{length-map}
+use Rattle.pio_asm.proofs.Shared.{All, length-map, nat_tests, PioOp, SideConfig, SideDelay, operation_of, IsSideField, side_at, PioFault, and_then, Statement, SideSetStatement, WordStatement, Line, AreApart, Piece, is_open, joined, End, both, not_true, AreLines, all_lines, header, program_parses, source_of_lines, stays, is_written, source_text, Member, WordMember, Coded, Lost, Building, Names, IsConfig, StandsFor, config_of, is_member, line_step, names_of, with_definition, AreWordsOf, assembled, lines_from, plan_of}
 use Rattle.std.proofs.lemmas.List.Elements.{All-head, All-tail}
-use Rattle.std.proofs.lemmas.Bool.Decides.{nat_tests}
-use Rattle.pio_words.specs.declared.op.PioOp.{PioOp}
-use Rattle.pio_words.specs.declared.side.SideConfig.{SideConfig}
-use Rattle.pio_words.specs.declared.side.SideDelay.{SideDelay}
-use Rattle.pio_words.specs.Operation.{operation_of}
-use Rattle.pio_words.specs.Side.{IsSideField, side_at}
 use Rattle.pio_words.proofs.Unique.{word-unique}
-use Rattle.pio_parse.specs.declared.fault.PioFault.{PioFault}
-use Rattle.source_text.specs.Outcome.{and_then}
-use Rattle.pio_parse.specs.declared.syntax.Statement.{Statement}
-use Rattle.pio_parse.specs.declared.syntax.Statement.TheVariants.{SideSet as SideSetStatement, Word as WordStatement}
-use Rattle.pio_parse.specs.declared.syntax.Line.{Line}
 use Rattle.pio_parse.specs.descent.Parsed.{parsed}
 use Rattle.pio_parse.proofs.Files.{parses_grammar}
-use Rattle.pio_parse.proofs.Pieces.{AreApart, Piece, is_open, joined}
-use Rattle.pio_parse.proofs.Pieces.Piece.{End}
-use Rattle.pio_parse.proofs.Tests.{both, not_true}
-use Rattle.pio_parse.proofs.PieceLines.{AreLines, all_lines, header, program_parses, source_of_lines, stays}
-use Rattle.pio_disasm.specs.Text.{is_written, source_text}
-use Rattle.pio_asm.specs.declared.plan.Member.{Member}
-use Rattle.pio_asm.specs.declared.plan.Member.TheVariants.{Word as WordMember, Coded, Lost}
-use Rattle.pio_asm.specs.declared.building.Building.{Building}
-use Rattle.pio_asm.specs.Symbols.{Names}
-use Rattle.pio_asm.specs.Plan.{IsConfig, StandsFor, config_of}
-use Rattle.pio_asm.specs.Step.{is_member, line_step, names_of, with_definition}
-use Rattle.pio_asm.specs.Code.{AreWordsOf}
-use Rattle.pio_asm.specs.Assembly.{assembled, lines_from, plan_of}
 use Rattle.pio_asm.specs.Returns.{ReadsBack, SourcesReturn, named_side}
 use Rattle.pio_asm.proofs.Decoded.{has_operation, has_side, small_side}
 use Rattle.pio_asm.proofs.LinePieces.{instruction_if, instruction_pieces, line_pieces, program_lines, side_set_lines, word_pieces}

@@ -1,28 +1,6 @@
 -- Every program of a source is whole: by the lines that make it, one after another.
 use Rattle.std.proofs.Common.{◌≡◌, ℕ, suc, ◌+◌, ◌-◌, ◌<◌, ◌≤◌, List, [], ◌∷◌, ◌++◌, length, Bool, true, false, Option, None, Some, refl, sym, ap, subst, ◌∙◌, ◌||◌, arith, inl, inr, length-append}
-use Rattle.std.specs.Prelude.{Result, Ok, Err, if◌then◌else◌, is_some, nat_le, unwrap_or, ◌==◌, ◌&&◌, ℤ, pos, negsuc}
-use Rattle.std.proofs.lemmas.Bool.Decides.{nat_tests}
-use Rattle.rp_base.specs.Word.{bit_number}
-use Rattle.pio_words.specs.Operation.{bit}
-use Rattle.pio_words.specs.declared.side.SideConfig.{SideConfig}
-use Rattle.pio_parse.specs.declared.fault.PioFault.{PioFault}
-use Rattle.pio_parse.specs.declared.syntax.Statement.{Statement}
-use Rattle.pio_parse.specs.declared.syntax.Statement.TheVariants.{SideSet, WrapTarget, Wrap, Word, Instruction as InstructionStatement}
-use Rattle.pio_parse.specs.declared.syntax.Line.{Line}
-use Rattle.pio_parse.specs.declared.syntax.Source.{Source}
-use Rattle.pio_parse.specs.declared.syntax.SourceProgram.{SourceProgram}
-use Rattle.source_text.specs.Outcome.{map_ok}
-use Rattle.pio_asm.specs.declared.plan.Member.{Member}
-use Rattle.pio_asm.specs.declared.building.Building.{Building}
-use Rattle.source_text.specs.Symbols.{found, put}
-use Rattle.pio_asm.specs.Symbols.{Names}
-use Rattle.pio_asm.specs.Value.{evaluated}
-use Rattle.pio_asm.specs.Operand.{number_within}
-use Rattle.pio_asm.specs.Plan.{config_of, instruction_in}
-use Rattle.pio_asm.specs.Step.{fitting, is_label_twice, is_member, line_step, names_of, with_label, with_line_names, word_member}
-use Rattle.pio_asm.specs.Assembly.{Plan, lines_from, lines_of, nothing_built, plan_of, program_lines, program_plan, programs_from, assembled}
-use Rattle.pio_asm.specs.Code.{AreWordsOf}
-use Rattle.pio_asm.specs.Whole.{IsWhole, AreWhole}
+use Rattle.pio_asm.proofs.Shared.{Result, Ok, Err, if◌then◌else◌, is_some, nat_le, unwrap_or, ◌==◌, ◌&&◌, ℤ, pos, negsuc, nat_tests, bit_number, bit, SideConfig, PioFault, Statement, SideSetStatement as SideSet, WrapTarget, Wrap, WordStatement as Word, InstructionStatement, Line, Source, SourceProgram, map_ok, Member, Building, found, put, Names, evaluated, number_within, config_of, instruction_in, fitting, is_label_twice, is_member, line_step, names_of, with_label, with_line_names, word_member, Plan, lines_from, lines_of, nothing_built, plan_of, program_lines, program_plan, programs_from, assembled, AreWordsOf, IsWhole, AreWhole}
 use Rattle.pio_asm.proofs.Accepted.{IsSound, accepted, faults, made, result_cases, same_ok}
 
 -- ---- a program that is built
