@@ -1,6 +1,6 @@
 -- How the line of an instruction word is parsed.
-use Rattle.std.proofs.Common.{◌≡◌, ◌==◌, ◌&&◌, not, ℕ, ◌+◌, Bool, true, false, if◌then◌else◌, List, [], ◌∷◌, ◌++◌, length, Option, None, Some, Ok, append_assoc, refl, ap, ◌∙◌}
-use Rattle.pio_asm.proofs.Shared.{eq-eqb, IrqIndex, JmpCondition, XDecrement, YDecrement, InSource, InPins, OutDestination, OutPins, MovDestination, ToPins, ToY, MovSource, FromPins, FromY, SetDestination, SetPins, MovOperation, Plain, Invert, Reverse, WaitSource, Gpio, Pin, Flag, PioOp, Jmp, Wait, In, Out, Push, Pull, Mov, Irq, Set, Reserved, SideConfig, SideDelay, bit, KeywordToken, LineEnd, Term, Number as NumberTerm, Operation, JmpSyntax, WaitGpio, WaitPin, WaitIrq, InSyntax, OutSyntax, PushSyntax, PullSyntax, MovSyntax, IrqSyntax, SetSyntax, Instruction, Statement, SideSetStatement, WordStatement, InstructionStatement, Line, and_then, map_ok, Piece, token_at, tokens_of, End, keyword_name, decimal, digits, is_from_y, is_plain, is_to_y, is_written, both}
+use Rattle.std.proofs.Common.{◌≡◌, ◌==◌, ◌&&◌, not, ℕ, ◌+◌, Bool, true, false, if◌then◌else◌, List, [], ◌∷◌, ◌++◌, length, Option, None, Some, Ok, refl, ap, ◌∙◌}
+use Rattle.pio_asm.proofs.Shared.{eq-eqb, IrqIndex, JmpCondition, XDecrement, YDecrement, InSource, InPins, OutDestination, OutPins, MovDestination, ToPins, ToY, MovSource, FromPins, FromY, SetDestination, SetPins, MovOperation, Plain, Invert, Reverse, WaitSource, Gpio, Pin, Flag, PioOp, Jmp, Wait, In, Out, Push, Pull, Mov, Irq, Set, Reserved, SideConfig, SideDelay, bit, KeywordToken, LineEnd, Term, Number as NumberTerm, Operation, JmpSyntax, WaitGpio, WaitPin, WaitIrq, InSyntax, OutSyntax, PushSyntax, PullSyntax, MovSyntax, IrqSyntax, SetSyntax, Instruction, Statement, SideSetStatement, WordStatement, InstructionStatement, Line, and_then, map_ok, Piece, token_at, tokens_of, keyword_name, decimal, digits, is_from_y, is_plain, is_to_y, is_written, both}
 use Rattle.pio_parse.specs.declared.token.Token.{Token}
 use Rattle.pio_parse.specs.descent.Cursor.{Outcome, after_head}
 use Rattle.pio_parse.specs.Tokens.{head_kind}
@@ -151,13 +151,13 @@ delay_terms d = delay_terms_if (d == 0) d
 abbrev instruction_with : Operation → Option ℕ → Bool → ℕ → Instruction
 instruction_with operation v b d = record { operation = operation; side = side_terms v; delay = delay_terms_if b d }
 
-tail_parses : (text : List ℕ) (number column : ℕ) (operation : Operation) (v : Option ℕ) (b : Bool) (d : ℕ) → (position : ℕ) × (modified_at text operation (tokens_of number column ((side_pieces v ++ delay_if b d) ++ End ∷ [])) ≡ Ok (instruction_with operation v b d, token_at LineEnd number position ∷ []))
+tail_parses : (text : List ℕ) (number column : ℕ) (operation : Operation) (v : Option ℕ) (b : Bool) (d : ℕ) → (position : ℕ) × (modified_at text operation (tokens_of number column (side_pieces v ++ delay_if b d)) ≡ Ok (instruction_with operation v b d, token_at LineEnd number position ∷ []))
 tail_parses text number column operation None true d = (_, refl)
 tail_parses text number column operation None false d = (_, refl)
 tail_parses text number column operation (Some v) true d = (_, refl)
 tail_parses text number column operation (Some v) false d = (_, refl)
 
-no_rel : (number : ℕ) (v : Option ℕ) (b : Bool) (d : ℕ) → IsNoRel number ((side_pieces v ++ delay_if b d) ++ End ∷ [])
+no_rel : (number : ℕ) (v : Option ℕ) (b : Bool) (d : ℕ) → IsNoRel number (side_pieces v ++ delay_if b d)
 no_rel number None true d column = refl
 no_rel number None false d column = refl
 no_rel number (Some v) true d column = refl
@@ -175,24 +175,24 @@ statement_of op (Some side) word = statement_if (is_written op) op side word
 abbrev pub line_with : ℕ → Statement → Line
 line_with number statement = record { number = number; label = None; statement = Some statement }
 
-word_parses : (text : List ℕ) (number word : ℕ) → line_at text true (tokens_of number 1 (word_pieces word ++ End ∷ [])) ≡ Ok (line_with number (WordStatement (number_terms word)), [])
+word_parses : (text : List ℕ) (number word : ℕ) → line_at text true (tokens_of number 1 (word_pieces word)) ≡ Ok (line_with number (WordStatement (number_terms word)), [])
 word_parses text number word = refl
 
-instruction_parses : (text : List ℕ) (number : ℕ) (b : Bool) (op : PioOp) (side : SideDelay) (word : ℕ) → is_written op ≡ b → line_at text true (tokens_of number 1 (instruction_if b op side word ++ End ∷ [])) ≡ Ok (line_with number (statement_if b op side word), [])
+instruction_parses : (text : List ℕ) (number : ℕ) (b : Bool) (op : PioOp) (side : SideDelay) (word : ℕ) → is_written op ≡ b → line_at text true (tokens_of number 1 (instruction_if b op side word)) ≡ Ok (line_with number (statement_if b op side word), [])
 instruction_parses text number true op side word h =
-    let first = operation_parses text number op (tail_pieces side ++ End ∷ []) h (no_rel number side.value (side.delay == 0) side.delay) in
+    let first = operation_parses text number op (tail_pieces side) h (no_rel number side.value (side.delay == 0) side.delay) in
     let last = tail_parses text number first.0 (syntax_of op) side.value (side.delay == 0) side.delay in
-    rw (append_assoc (operation_pieces op) (tail_pieces side) (End ∷ [])) (first.1 ∙ ap (λ (o : Outcome Instruction). finished number o) last.1)
+    first.1 ∙ ap (λ (o : Outcome Instruction). finished number o) last.1
 instruction_parses text number false op side word h = word_parses text number word
 
-pub line_parses : (text : List ℕ) (number : ℕ) (op : PioOp) (side : Option SideDelay) (word : ℕ) → line_at text true (tokens_of number 1 (instruction_pieces op side word ++ End ∷ [])) ≡ Ok (line_with number (statement_of op side word), [])
+pub line_parses : (text : List ℕ) (number : ℕ) (op : PioOp) (side : Option SideDelay) (word : ℕ) → line_at text true (tokens_of number 1 (instruction_pieces op side word)) ≡ Ok (line_with number (statement_of op side word), [])
 line_parses text number op None word = word_parses text number word
 line_parses text number op (Some side) word = instruction_parses text number (is_written op) op side word refl
 
-pub side_set_parses : (text : List ℕ) (number : ℕ) (side : SideConfig) → line_at text true (tokens_of number 1 (side_set_pieces side ++ End ∷ [])) ≡ Ok (line_with number (SideSetStatement (number_terms side.count) side.opt side.pindirs), [])
+pub side_set_parses : (text : List ℕ) (number : ℕ) (side : SideConfig) → line_at text true (tokens_of number 1 (side_set_pieces side)) ≡ Ok (line_with number (SideSetStatement (number_terms side.count) side.opt side.pindirs), [])
 side_set_parses text number side = flags_parse side.opt side.pindirs side.count
   where
-    flags_parse : (opt pindirs : Bool) (n : ℕ) → line_at text true (tokens_of number 1 (side_set_pieces (record { count = n; opt = opt; pindirs = pindirs }) ++ End ∷ [])) ≡ Ok (line_with number (SideSetStatement (number_terms n) opt pindirs), [])
+    flags_parse : (opt pindirs : Bool) (n : ℕ) → line_at text true (tokens_of number 1 (side_set_pieces (record { count = n; opt = opt; pindirs = pindirs }))) ≡ Ok (line_with number (SideSetStatement (number_terms n) opt pindirs), [])
     flags_parse true true n = refl
     flags_parse true false n = refl
     flags_parse false true n = refl

@@ -8,8 +8,8 @@ use Rattle.pio_parse.specs.Lexical.{is_word}
 use Rattle.std.specs.Char.{digit_char}
 
 pub key_run : (keyword : Keyword) → IsRun (keyword_name keyword) (KeywordToken keyword)
-key_run Public = record { run = refl; plain = refl; names = λ span. refl }
-key_run keyword = record { run = refl; plain = refl; names = λ span. refl }
+key_run Public = record { run = refl; plain = refl; inside = refl; names = λ span. refl }
+key_run keyword = record { run = refl; plain = refl; inside = refl; names = λ span. refl }
 
 -- what is tested of each number below n
 abbrev all_below : (ℕ → Bool) → ℕ → Bool
@@ -58,7 +58,7 @@ number_run : (w : List ℕ) (n : ℕ) → is_number w n ≡ true → IsRun w (Nu
 number_run w n h =
     let a = both (is_word w) (begins_digit w && is_that (number_of w) n) h in
     let b = both (begins_digit w) (is_that (number_of w) n) a.1 in
-    record { run = a.0; plain = refl; names = λ span. digits_kind w n span b.0 (that_is (number_of w) n b.1) }
+    record { run = a.0; plain = refl; inside = refl; names = λ span. digits_kind w n span b.0 (that_is (number_of w) n b.1) }
 
 decimals : all_below (λ n. is_number (decimal n) n) 100 ≡ true
 unfolding digits
@@ -115,5 +115,6 @@ hex_run n lt =
     record {
       run = half_run (digit_char (n / 4096 % 16)) (digit_char (n / 256 % 16)) (digit_char (n / 16 % 16)) (digit_char (n % 16)) a.char b.char c.char d.char;
       plain = refl;
+      inside = refl;
       names = λ span. digits_kind (48 ∷ 120 ∷ hex_half n) n span refl value;
     }

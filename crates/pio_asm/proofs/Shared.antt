@@ -7,7 +7,7 @@ pub use Rattle.pio_asm.specs.Listing.{listing, plans_in, program_text, word_line
 unfoldable pub use Rattle.pio_asm.specs.Listing.{plans_of}
 pub use Rattle.pio_asm.specs.Operand.{field_by, field_in, field_with, modifier_by, modifier_in, modifier_with, number_within, polarity_in}
 pub use Rattle.pio_asm.specs.Plan.{IsConfig, IsOptionalConfig, StandsFor, config_of, delay_bits, delay_modifier_in, greatest, instruction_in, judged_of, member_of, operation_in, planned_by, side_modifier_in, side_value_of, sure_op, waited_for}
-pub use Rattle.pio_asm.specs.Step.{checked, definition_value, fitting, instruction_verdict, is_label_twice, is_member, is_origin_fault, is_seen, label_value, line_step, misfits, names_of, statement_step, with_definition, with_label, with_line_names, with_name, word_member}
+pub use Rattle.pio_asm.specs.Step.{checked, definition_value, fitting, instruction_verdict, is_label_twice, is_member, is_origin_fault, is_seen, label_value, line_step, misfits, names_of, statement_step, with_definition, with_label, with_name, word_member}
 pub use Rattle.pio_asm.specs.Symbols.{Names}
 pub use Rattle.pio_asm.specs.Value.{after_binary, after_unary, binary_step, bounded, bounded_option, evaluated, evaluation_of, is_in_bounds, name_step, number_step, one_operand, operator_step, outcome_of, rest_of, reversed_bits, term_step, top_of, two_operands, unary_step, value_in, with_result}
 pub use Rattle.pio_asm.specs.Whole.{AreWhole, IsWhole}
@@ -19,9 +19,9 @@ pub use Rattle.pio_asm.specs.declared.plan.Member.TheVariants.{Coded, Lost, Word
 pub use Rattle.pio_asm.specs.declared.value.Evaluated.{Evaluated}
 pub use Rattle.pio_asm.specs.declared.value.Evaluation.{Evaluation}
 pub use Rattle.pio_disasm.specs.Text.{delay_text, hex_half, index_text, instruction_text, is_from_y, is_plain, is_to_y, is_written, line_text, operation_text, side_text, source_text, wait_source_text, word_text}
-pub use Rattle.pio_parse.proofs.PieceLines.{AreLines, all_lines, header, program_parses, source_of_lines, stays}
-pub use Rattle.pio_parse.proofs.Pieces.{AreApart, IsRun, Piece, chars_of, ends_word, is_open, joined, token_at, tokens_of}
-pub use Rattle.pio_parse.proofs.Pieces.Piece.{Bang, Blank, Close, Colons, Comma, End, Minus, NotEqual, Open, Run}
+pub use Rattle.pio_parse.proofs.PieceLines.{AreLines, header, joined_lines, program_parses, source_of_lines, stays}
+pub use Rattle.pio_parse.proofs.Pieces.{AreApart, IsRun, Piece, chars_of, ends_word, joined, token_at, tokens_of}
+pub use Rattle.pio_parse.proofs.Pieces.Piece.{Bang, Blank, Close, Colons, Comma, Minus, NotEqual, Open, Run}
 pub use Rattle.pio_parse.proofs.Readers.{one_answer, reader}
 pub use Rattle.pio_parse.proofs.Tests.{both, not_true}
 pub use Rattle.pio_parse.specs.Files.{EarlyFault, IsFault, IsSource}
@@ -87,4 +87,4 @@ pub use Rattle.std.proofs.lemmas.List.{drop_all, length-map}
 pub use Rattle.std.specs.Fmt.{decimal}
 unfoldable pub use Rattle.std.specs.Fmt.{digits}
 pub use Rattle.std.specs.Option.{SomeIff, option_map}
-pub use Rattle.std.specs.Prelude.{All, Err, FitsSigned, IfOk, IsOkAnd, MatchResult, Ok, Result, flat_map, if◌then◌else◌, is_none, is_some, nat_le, nat_lt, negsuc, option_and_then, option_map as option_mapped, pos, unwrap_or, ℤ, ⊤, ◌&&◌, ◌==◌, ◌⊎◌}
+pub use Rattle.std.specs.Prelude.{All, Err, FitsSigned, IfOk, IsOkAnd, MatchResult, Ok, Result, flat_map, if◌then◌else◌, is_none, is_some, nat_le, nat_lt, negsuc, option_and_then, option_map as option_mapped, pos, unwrap_or, ⊤, ◌&&◌, ◌==◌, ◌⊎◌}

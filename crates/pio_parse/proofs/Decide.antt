@@ -42,13 +42,13 @@ abbrev WordSpan : List ℕ → Type 0
 WordSpan cs = Span (λ cs. are_word_chars cs ≡ true) (λ cs. ends_word cs ≡ true) cs
 
 word_span : (cs : List ℕ) → WordSpan cs
-word_span cs = span _ _ refl refl (λ c cs. elim (cases_Bool (is_word_char c)) [ | inl h ↦ inl (λ chars all. rw h all) | inr h ↦ inr (rw h refl) ]) cs
+word_span cs = span _ _ refl refl (λ c cs. elim (cases_Bool (is_word_char c)) [ inl h ↦ inl (λ chars all. rw h all) | inr h ↦ inr (rw h refl) ]) cs
 
 abbrev LineSpan : List ℕ → Type 0
 LineSpan cs = Span (λ cs. lacks 10 cs ≡ true) (λ cs. ends_line cs ≡ true) cs
 
 line_span : (cs : List ℕ) → LineSpan cs
-line_span cs = span _ _ refl refl (λ c cs. elim (cases_Bool (c == 10)) [ | inl h ↦ inr h | inr h ↦ inl (λ chars all. rw h all) ]) cs
+line_span cs = span _ _ refl refl (λ c cs. elim (cases_Bool (c == 10)) [ inl h ↦ inr h | inr h ↦ inl (λ chars all. rw h all) ]) cs
 
 -- characters up to the first pair
 record PairSpan (a b : ℕ) (cs : List ℕ) : Type 0 where

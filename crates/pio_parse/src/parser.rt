@@ -82,28 +82,15 @@ fn group(alloc: Global, groups: &mut Groups, line: Line) -> Result<(), AllocErro
     } = line;
     match statement {
         Some(Statement::Program(name)) => begin(groups, number, label, name, Lines::new(alloc)),
-        Some(statement) => add(
+        None if label.is_none() => Ok(()),
+        statement => add(
             groups,
             Line {
                 number,
                 label,
-                statement: Some(statement),
+                statement,
             },
         ),
-        None => {
-            if label.is_some() {
-                add(
-                    groups,
-                    Line {
-                        number,
-                        label,
-                        statement: None,
-                    },
-                )
-            } else {
-                Ok(())
-            }
-        }
     }
 }
 
