@@ -1,13 +1,13 @@
 -- What accepted lines keep: the names of the whole, its bounds, and values for all names.
 use Rattle.std.proofs.Common.{◌≡◌, ℕ, ℤ, ◌+◌, ◌-◌, ◌<◌, ◌≤◌, List, [], ◌∷◌, ◌++◌, length, Bool, true, false, cond, Option, None, Some, refl, sym, ap, subst, ◌∙◌, arith, inl, inr, length-append}
-use Rattle.pio_asm.proofs.Shared.{Ok, Err, if◌then◌else◌, is_some, is_none, nat_le, unwrap_or, ◌==◌, ◌&&◌, pos, negsuc, bit_number, bit, SideConfig, SideSetStatement as SideSet, WrapTarget, Wrap, nat_tests, Statement, Define, WordStatement as Word, InstructionStatement, Line, Evaluated, Member, Building, put, Names, AllValued, AreKept, is_kept, evaluated, number_within, instruction_in, definition_value, fitting, is_label_twice, is_member, is_seen, label_value, line_step, misfits, names_of, with_definition, with_label, with_name, word_member, lines_from, lines_of, nothing_built}
+use Rattle.pio_asm.proofs.Shared.{neither, Ok, Err, if◌then◌else◌, is_some, is_none, nat_le, unwrap_or, ◌==◌, ◌&&◌, pos, negsuc, bit_number, bit, SideConfig, SideSetStatement as SideSet, WrapTarget, Wrap, nat_tests, Statement, Define, WordStatement as Word, InstructionStatement, Line, Evaluated, Member, Building, put, Names, AllValued, AreKept, is_kept, evaluated, number_within, instruction_in, definition_value, fitting, is_label_twice, is_member, is_seen, label_value, line_step, misfits, names_of, with_definition, with_label, with_name, word_member, lines_from, lines_of, nothing_built}
 use Rattle.std.specs.declared.cmp.Ordering.{Ordering}
 use Rattle.std.specs.declared.cmp.Ordering.TheVariants.{Less, Equal, Greater}
 use Rattle.std.specs.Ordering.{match_ordering, nat_cmp}
 use Rattle.std.specs.Cmp.Lexicographic.{slice_cmp}
 use Rattle.pio_asm.proofs.Accepted.{IsSound, accepted, faults, made, result_cases, same_ok}
 use Rattle.pio_asm.proofs.Valued.{IsValued, evaluated-valued}
-use Rattle.pio_asm.proofs.Planning.{instruction-kept, or-parts}
+use Rattle.pio_asm.proofs.Planning.{instruction-kept}
 
 kept-push : (ms : List Member) (m : Member) → AreKept ms → is_kept m ≡ true → AreKept (ms ++ m ∷ [])
 kept-push [] m h k = (k, tt)
@@ -143,15 +143,15 @@ stepped whole globals total twice (Some (Define name value)) b sound = record {
 stepped whole globals total twice (Some (SideSet count opt pindirs)) b sound = same_names whole globals total (Some (SideSet count opt pindirs)) b (made whole globals (Some (SideSet count opt pindirs)) b) refl refl refl refl
     (λ k. record { target = k.target; wrap = k.wrap; side = λ c is. side_fits opt pindirs (evaluated b.seen globals count).value c is })
 stepped whole globals total twice (Some WrapTarget) b sound =
-    let low : length b.code < total = below_total total (length b.code) (or-parts (is_some b.target) (nat_le total (length b.code)) sound.wrap).1 in
+    let low : length b.code < total = below_total total (length b.code) (neither (is_some b.target) (nat_le total (length b.code)) sound.wrap).1 in
     same_names whole globals total (Some WrapTarget) b (made whole globals (Some WrapTarget) b) refl refl refl refl
     (λ k. record { target = λ x is. let same : x ≡ length b.code = some_is (length b.code) x is in omega (arith, same, low); wrap = k.wrap; side = k.side })
 stepped whole globals total twice (Some Wrap) b sound =
-    let low : length b.code - 1 < length b.code = not_zero (length b.code) (or-parts (is_some b.wrap) (length b.code == 0) sound.wrap).1 in
+    let low : length b.code - 1 < length b.code = not_zero (length b.code) (neither (is_some b.wrap) (length b.code == 0) sound.wrap).1 in
     same_names whole globals total (Some Wrap) b (made whole globals (Some Wrap) b) refl refl refl refl
     (λ k. record { target = k.target; wrap = λ x is. let same : x ≡ length b.code - 1 = some_is (length b.code - 1) x is in omega (arith, same, low); side = k.side })
 stepped whole globals total twice (Some (Word value)) b sound =
-    let r = or-parts (evaluated b.seen globals value).outside (misfits 0 65535 (evaluated b.seen globals value).value) sound.range in
+    let r = neither (evaluated b.seen globals value).outside (misfits 0 65535 (evaluated b.seen globals value).value) sound.range in
     pushed whole globals total (Some (Word value)) b (word_member (fitting 0 65535 (evaluated b.seen globals value).value)) refl refl sound.too_long
     (λ w g s. word-kept (evaluated b.seen globals value).value (evaluated-valued b.seen globals value s g sound.unknown r.0) r.1)
 stepped whole globals total twice (Some (InstructionStatement instruction)) b sound =

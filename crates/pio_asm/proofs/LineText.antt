@@ -1,6 +1,6 @@
 -- The text of a source of words is that of its pieces.
 use Rattle.std.proofs.Common.{◌≡◌, ◌==◌, ◌&&◌, not, ℕ, ◌/◌, ◌%◌, Bool, true, false, if◌then◌else◌, List, [], ◌∷◌, ◌++◌, map, Option, None, Some, codes, flat_map, append-nil, append_assoc, refl, sym, ap, ◌∙◌}
-use Rattle.pio_asm.proofs.Shared.{IrqIndex, JmpCondition, Always, XZero, XDecrement, YZero, YDecrement, XNotY, PinHigh, OsrNotEmpty, InSource, InPins, OutDestination, OutPins, MovDestination, ToPins, ToX, ToY, ToExec, ToPc, ToIsr, ToOsr, MovSource, FromPins, SetDestination, SetPins, MovOperation, Plain, Invert, Reverse, WaitSource, Gpio, Pin, Flag, PioOp, Jmp, Wait, In, Out, Push, Pull, Mov, Irq, Set, Reserved, SideConfig, SideDelay, operation_of, side_at, keyword_name, KOpt, KPindirs, Piece, chars_of, joined, joined_lines, header, decimal, digits, delay_text, index_text, instruction_text, is_written, line_text, operation_text, side_text, source_text, wait_source_text, word_text}
+use Rattle.pio_asm.proofs.Shared.{IrqIndex, JmpCondition, Always, XZero, XDecrement, YZero, YDecrement, XNotY, PinHigh, OsrNotEmpty, InSource, InPins, OutDestination, OutPins, MovDestination, ToPins, MovSource, FromPins, SetDestination, SetPins, MovOperation, Plain, Invert, Reverse, WaitSource, Gpio, Pin, Flag, PioOp, Jmp, Wait, In, Out, Push, Pull, Mov, Irq, Set, Reserved, SideConfig, SideDelay, operation_of, side_at, keyword_name, KOpt, KPindirs, Piece, chars_of, joined, joined_lines, header, decimal, digits, delay_text, index_text, instruction_text, is_written, line_text, operation_text, side_text, source_text, wait_source_text, word_text}
 use Rattle.pio_disasm.specs.Names.{condition_name, in_source_name, mov_destination_name, mov_operation_name, mov_source_name, out_destination_name, set_destination_name}
 use Rattle.pio_asm.proofs.LinePieces.{condition_pieces, delay_if, delay_pieces, from_key, in_key, flag_pieces, index_pieces, instruction_if, instruction_pieces, is_nop, key, line_pieces, mov_operation_pieces, mov_pieces, num, operation_pieces, out_key, program_lines, rel_pieces, set_key, side_pieces, side_set_lines, tail_pieces, to_key, wait_pieces}
 
@@ -51,13 +51,7 @@ from_text Reverse s = ap (λ xs. 58 ∷ 58 ∷ xs) (append-nil (keyword_name (fr
 
 mov_if_is : (b : Bool) (d : MovDestination) (o : MovOperation) (s : MovSource) → joined (mov_pieces b d o s) ≡ (if b then codes "nop" else codes "mov " ++ mov_destination_name d ++ codes ", " ++ mov_operation_name o ++ mov_source_name s)
 mov_if_is true d o s = refl
-mov_if_is false ToPins o s = ap (λ xs. codes "mov pins, " ++ xs) (from_text o s)
-mov_if_is false ToX o s = ap (λ xs. codes "mov x, " ++ xs) (from_text o s)
-mov_if_is false ToY o s = ap (λ xs. codes "mov y, " ++ xs) (from_text o s)
-mov_if_is false ToExec o s = ap (λ xs. codes "mov exec, " ++ xs) (from_text o s)
-mov_if_is false ToPc o s = ap (λ xs. codes "mov pc, " ++ xs) (from_text o s)
-mov_if_is false ToIsr o s = ap (λ xs. codes "mov isr, " ++ xs) (from_text o s)
-mov_if_is false ToOsr o s = ap (λ xs. codes "mov osr, " ++ xs) (from_text o s)
+mov_if_is false d o s = rw (from_text o s, to_is d) (simp append_assoc)
 
 condition_is : (c : JmpCondition) (n : ℕ) → joined (condition_pieces c ++ num n ∷ []) ≡ condition_name c ++ decimal n
 condition_is Always n = append-nil (decimal n)

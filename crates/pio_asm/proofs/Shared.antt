@@ -23,7 +23,7 @@ pub use Rattle.pio_parse.proofs.PieceLines.{AreLines, header, joined_lines, prog
 pub use Rattle.pio_parse.proofs.Pieces.{AreApart, IsRun, Piece, chars_of, ends_word, joined, token_at, tokens_of}
 pub use Rattle.pio_parse.proofs.Pieces.Piece.{Bang, Blank, Close, Colons, Comma, Minus, NotEqual, Open, Run}
 pub use Rattle.pio_parse.proofs.Readers.{one_answer, reader}
-pub use Rattle.pio_parse.proofs.Tests.{both, not_true}
+pub use Rattle.pio_parse.proofs.Tests.{both, neither, not_true}
 pub use Rattle.pio_parse.specs.Files.{EarlyFault, IsFault, IsSource}
 pub use Rattle.pio_parse.specs.Words.{directive_name, keyword_name, number_of, word_kind}
 pub use Rattle.pio_parse.specs.declared.expression.Operator.{Operator}
