@@ -19,7 +19,7 @@ slice_next xs i j d le lt =
 slice_none : {X : Type 0} (xs : List X) (i : ℕ) → slice_range xs i i ≡ []
 slice_none xs i = let e : i - i ≡ 0 = omega arith in rw e refl
 
-drop_next : {X : Type 0} (xs : List X) (j : ℕ) (d : X) → j < length xs → drop j xs ≡ get_or xs j d ∷ drop (j + 1) xs
+pub drop_next : {X : Type 0} (xs : List X) (j : ℕ) (d : X) → j < length xs → drop j xs ≡ get_or xs j d ∷ drop (j + 1) xs
 drop_next xs j d lt = rw add-one (drop-cons xs j d lt)
 
 abbrev lines-then : List ℕ → Groups → List Token → ℕ → ℕ → Result Source SourcePosition
