@@ -1,17 +1,8 @@
 -- A line that is accepted has no fault, and leaves what its statement makes of the program.
 use Rattle.std.proofs.Common.{◌≡◌, ◌⊎◌, ℕ, ◌-◌, ◌++◌, [], ◌∷◌, length, Bool, true, false, Option, Some, refl, sym, ◌∙◌, ◌||◌, inl, inr}
-use Rattle.std.specs.Prelude.{Result, Ok, Err, if◌then◌else◌, is_some, nat_le, nat_lt, unwrap_or, ◌==◌}
-use Rattle.pio_words.specs.Operation.{bit}
-use Rattle.pio_parse.specs.declared.fault.PioFault.TheVariants.{Unknown, Twice, Range, Delay, Side, TooLong, Wrap as WrapFault, Origin as OriginFault}
-use Rattle.pio_parse.specs.declared.syntax.Statement.{Statement}
-use Rattle.pio_parse.specs.declared.syntax.Statement.TheVariants.{Program, Define, Origin, SideSet, WrapTarget, Wrap, Word, Instruction as InstructionStatement}
-use Rattle.pio_asm.specs.declared.building.Building.{Building}
+use Rattle.pio_asm.proofs.Shared.{Result, Ok, Err, if◌then◌else◌, is_some, nat_le, nat_lt, unwrap_or, ◌==◌, bit, Unknown, Twice, Range, Delay, Side, TooLong, WrapFault, OriginFault, Statement, ProgramStatement as Program, Define, Origin, SideSetStatement as SideSet, WrapTarget, Wrap, WordStatement as Word, InstructionStatement, Building, Names, evaluated, instruction_in, checked, definition_value, fitting, instruction_verdict, is_origin_fault, is_seen, misfits, statement_step, with_name, word_member}
 use Rattle.pio_asm.specs.declared.building.Verdict.{Verdict}
-use Rattle.pio_asm.specs.Symbols.{Names}
-use Rattle.pio_asm.specs.Value.{evaluated}
-use Rattle.pio_asm.specs.Plan.{instruction_in}
 use Rattle.pio_asm.specs.Verdict.{no_fault, verdict_result}
-use Rattle.pio_asm.specs.Step.{checked, definition_value, fitting, instruction_verdict, is_origin_fault, is_seen, misfits, statement_step, with_name, word_member}
 
 pub result_cases : {X E : Type 0} (r : Result X E) → ((x : X) × (r ≡ Ok x)) ⊎ ((e : E) × (r ≡ Err e))
 result_cases (Ok x) = inl (x, refl)

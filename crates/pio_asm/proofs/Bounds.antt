@@ -1,9 +1,6 @@
 use Rattle.std.proofs.Common.{◌≡◌, ℤ, Bool, true, false, Option, None, Some, refl, ap, cond, arith}
-use Rattle.std.specs.Prelude.{FitsSigned}
+use Rattle.pio_asm.proofs.Shared.{FitsSigned, SomeIff, ints, bounded, bounded_option, is_in_bounds}
 use Rattle.std.specs.Int.{w64}
-use Rattle.std.specs.Option.{SomeIff}
-use Rattle.std.proofs.lemmas.Int.{ints}
-use Rattle.pio_asm.specs.Value.{bounded, bounded_option, is_in_bounds}
 
 bounds-fit : (z : ℤ) → is_in_bounds z ≡ true → FitsSigned w64 z
 bounds-fit z h = grind (arith, ints)

@@ -1,7 +1,5 @@
 use Rattle.std.proofs.Common.{◌≡◌, ℕ, suc, List, [], ◌∷◌, ◌++◌, length, refl, ap}
-use Rattle.pio_asm.specs.declared.plan.Member.{Member}
-use Rattle.pio_asm.specs.Code.{AreWordsOf}
-use Rattle.pio_asm.specs.Kept.{AreKept, AreWordsIfKept, StandsIfKept}
+use Rattle.pio_asm.proofs.Shared.{Member, AreWordsOf, AreKept, AreWordsIfKept, StandsIfKept}
 
 -- one more member with its word
 pub words-push : (members : List Member) (words : List ℕ) (member : Member) (word : ℕ) → AreWordsIfKept members words → StandsIfKept member word → AreWordsIfKept (members ++ member ∷ []) (words ++ word ∷ [])

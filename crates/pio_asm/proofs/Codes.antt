@@ -1,26 +1,5 @@
 use Rattle.std.proofs.Common.{◌≡◌, ℕ, ◌<◌, List, Option, Some, refl, lit<}
-use Rattle.pio_words.specs.Table.{entry}
-use Rattle.pio_words.specs.declared.op.JmpCondition.{JmpCondition}
-use Rattle.pio_words.specs.declared.op.JmpCondition.TheVariants.{Always as JmpConditionAlways, XZero as JmpConditionXZero, XDecrement as JmpConditionXDecrement, YZero as JmpConditionYZero, YDecrement as JmpConditionYDecrement, XNotY as JmpConditionXNotY, Pin as JmpConditionPin, OsrNotEmpty as JmpConditionOsrNotEmpty}
-use Rattle.pio_words.specs.JmpCondition.{conditions}
-use Rattle.pio_words.specs.declared.op.InSource.{InSource}
-use Rattle.pio_words.specs.declared.op.InSource.TheVariants.{Pins as InSourcePins, X as InSourceX, Y as InSourceY, Null as InSourceNull, Isr as InSourceIsr, Osr as InSourceOsr}
-use Rattle.pio_words.specs.InSource.{in_sources}
-use Rattle.pio_words.specs.declared.op.OutDestination.{OutDestination}
-use Rattle.pio_words.specs.declared.op.OutDestination.TheVariants.{Pins as OutDestinationPins, X as OutDestinationX, Y as OutDestinationY, Null as OutDestinationNull, Pindirs as OutDestinationPindirs, Pc as OutDestinationPc, Isr as OutDestinationIsr, Exec as OutDestinationExec}
-use Rattle.pio_words.specs.OutDestination.{out_destinations}
-use Rattle.pio_words.specs.declared.op.MovDestination.{MovDestination}
-use Rattle.pio_words.specs.declared.op.MovDestination.TheVariants.{Pins as MovDestinationPins, X as MovDestinationX, Y as MovDestinationY, Exec as MovDestinationExec, Pc as MovDestinationPc, Isr as MovDestinationIsr, Osr as MovDestinationOsr}
-use Rattle.pio_words.specs.MovDestination.{mov_destinations}
-use Rattle.pio_words.specs.declared.op.MovOperation.{MovOperation}
-use Rattle.pio_words.specs.declared.op.MovOperation.TheVariants.{Plain as MovOperationPlain, Invert as MovOperationInvert, Reverse as MovOperationReverse}
-use Rattle.pio_words.specs.MovOperation.{mov_operations}
-use Rattle.pio_words.specs.declared.op.MovSource.{MovSource}
-use Rattle.pio_words.specs.declared.op.MovSource.TheVariants.{Pins as MovSourcePins, X as MovSourceX, Y as MovSourceY, Null as MovSourceNull, Status as MovSourceStatus, Isr as MovSourceIsr, Osr as MovSourceOsr}
-use Rattle.pio_words.specs.MovSource.{mov_sources}
-use Rattle.pio_words.specs.declared.op.SetDestination.{SetDestination}
-use Rattle.pio_words.specs.declared.op.SetDestination.TheVariants.{Pins as SetDestinationPins, X as SetDestinationX, Y as SetDestinationY, Pindirs as SetDestinationPindirs}
-use Rattle.pio_words.specs.SetDestination.{set_destinations}
+use Rattle.pio_asm.proofs.Shared.{entry, JmpCondition, Always as JmpConditionAlways, XZero as JmpConditionXZero, XDecrement as JmpConditionXDecrement, YZero as JmpConditionYZero, YDecrement as JmpConditionYDecrement, XNotY as JmpConditionXNotY, PinHigh as JmpConditionPin, OsrNotEmpty as JmpConditionOsrNotEmpty, conditions, InSource, InPins as InSourcePins, InX as InSourceX, InY as InSourceY, InNull as InSourceNull, InIsr as InSourceIsr, InOsr as InSourceOsr, in_sources, OutDestination, OutPins as OutDestinationPins, OutX as OutDestinationX, OutY as OutDestinationY, OutNull as OutDestinationNull, OutPindirs as OutDestinationPindirs, OutPc as OutDestinationPc, OutIsr as OutDestinationIsr, OutExec as OutDestinationExec, out_destinations, MovDestination, ToPins as MovDestinationPins, ToX as MovDestinationX, ToY as MovDestinationY, ToExec as MovDestinationExec, ToPc as MovDestinationPc, ToIsr as MovDestinationIsr, ToOsr as MovDestinationOsr, mov_destinations, MovOperation, Plain as MovOperationPlain, Invert as MovOperationInvert, Reverse as MovOperationReverse, mov_operations, MovSource, FromPins as MovSourcePins, FromX as MovSourceX, FromY as MovSourceY, FromNull as MovSourceNull, FromStatus as MovSourceStatus, FromIsr as MovSourceIsr, FromOsr as MovSourceOsr, mov_sources, SetDestination, SetPins as SetDestinationPins, SetX as SetDestinationX, SetY as SetDestinationY, SetPindirs as SetDestinationPindirs, set_destinations}
 
 -- a name stands in a table of fewer than so many entries
 pub record HasCode {X : Type 0} (table : List (Option X)) (bound : ℕ) (x : X) : Type 0 where

@@ -1,32 +1,6 @@
 -- The operation and the side-set value that a word is read as are those of its fields.
 use Rattle.std.proofs.Common.{◌≡◌, ◌==◌, ℕ, suc, zero, ◌+◌, ◌-◌, ◌*◌, ◌/◌, ◌%◌, ◌^◌, ◌<◌, ◌≤◌, Bool, true, false, cond, Option, None, Some, MatchBool, option_map, option_and_then, subst, arith, refl, inl, inr}
-use Rattle.std.proofs.lemmas.Bool.Decides.{eqb_tells, leb_tells}
-use Rattle.pio_words.specs.declared.op.IrqIndex.{IrqIndex}
-use Rattle.pio_words.specs.declared.op.JmpCondition.{JmpCondition}
-use Rattle.pio_words.specs.declared.op.InSource.{InSource}
-use Rattle.pio_words.specs.declared.op.OutDestination.{OutDestination}
-use Rattle.pio_words.specs.declared.op.MovDestination.{MovDestination}
-use Rattle.pio_words.specs.declared.op.MovSource.{MovSource}
-use Rattle.pio_words.specs.declared.op.MovOperation.{MovOperation}
-use Rattle.pio_words.specs.declared.op.SetDestination.{SetDestination}
-use Rattle.pio_words.specs.declared.op.WaitSource.{WaitSource}
-use Rattle.pio_words.specs.declared.op.WaitSource.TheVariants.{Gpio, Pin, Irq as Flag}
-use Rattle.pio_words.specs.declared.op.PioOp.{PioOp}
-use Rattle.pio_words.specs.declared.op.PioOp.TheVariants.{Jmp, Wait, In, Out, Mov, Irq, Set}
-use Rattle.pio_words.specs.declared.side.SideConfig.{SideConfig}
-use Rattle.pio_words.specs.declared.side.SideDelay.{SideDelay}
-use Rattle.pio_words.specs.Table.{entry}
-use Rattle.pio_words.specs.JmpCondition.{conditions}
-use Rattle.pio_words.specs.InSource.{in_sources}
-use Rattle.pio_words.specs.OutDestination.{out_destinations}
-use Rattle.pio_words.specs.MovDestination.{mov_destinations}
-use Rattle.pio_words.specs.MovOperation.{mov_operations}
-use Rattle.pio_words.specs.MovSource.{mov_sources}
-use Rattle.pio_words.specs.SetDestination.{set_destinations}
-use Rattle.pio_words.specs.Operation.{HasFields, HasOperation, IsCount, IsIrqIndex, IsWaitSource, bit, count_at, irq_at, irq_index_at, named_at, operation_of, or_reserved, push_pull_at, wait_source_at}
-use Rattle.pio_words.specs.Side.{IsOptionalSide, IsPlainSide, IsSideField, optional_side_at, plain_side_at, scaled_side, side_at}
-use Rattle.pio_words.proofs.Scaled.{high-lt, joined, low-lt, power_le}
-use Rattle.pio_disasm.specs.Text.{is_written}
+use Rattle.pio_asm.proofs.Shared.{eqb_tells, leb_tells, IrqIndex, JmpCondition, InSource, OutDestination, MovDestination, MovSource, MovOperation, SetDestination, WaitSource, Gpio, Pin, Flag, PioOp, Jmp, Wait, In, Out, Mov, Irq, Set, SideConfig, SideDelay, entry, conditions, in_sources, out_destinations, mov_destinations, mov_operations, mov_sources, set_destinations, HasFields, HasOperation, IsCount, IsIrqIndex, IsWaitSource, bit, count_at, irq_at, irq_index_at, named_at, operation_of, or_reserved, push_pull_at, wait_source_at, IsOptionalSide, IsPlainSide, IsSideField, optional_side_at, plain_side_at, scaled_side, side_at, high-lt, joined_parts as joined, low-lt, power_le, is_written}
 use Rattle.pio_asm.proofs.LineApart.{IsSmall}
 
 some_is : {X : Type 0} (x y : X) → Some x ≡ Some y → x ≡ y

@@ -1,12 +1,6 @@
 -- The first program of a file.
 use Rattle.std.proofs.Common.{◌≡◌, ℕ, ◌+◌, ◌<◌, ◌≤◌, List, [], ◌∷◌, length, Some, None, Result, Ok, Err, slice_index_or, refl, sym, subst, arith}
-use Rattle.pio_parse.specs.declared.fault.PioFault.{PioFault}
-use Rattle.pio_program.specs.declared.program.Program.{Program}
-use Rattle.pio_asm.specs.Assembly.{Plan, IsProgram, ArePrograms, Assembles}
-use Rattle.rp_base.specs.Word.{bit_number}
-use Rattle.pio_words.specs.declared.side.SideConfig.{SideConfig}
-use Rattle.pio_asm.specs.Listing.{plans_of}
-use Rattle.pio_asm.specs.Whole.{IsWhole, AreWhole}
+use Rattle.pio_asm.proofs.Shared.{PioFault, Program, Plan, IsProgram, ArePrograms, Assembles, bit_number, SideConfig, plans_of, IsWhole, AreWhole}
 use Rattle.pio_asm.proofs.Wholeness.{words_length}
 use Rattle.pio_asm.specs.Fitting.{IsRunnable, IsFirst}
 use Rattle.pio_asm.proofs.Fitting.{plans_whole}

@@ -1,12 +1,7 @@
 -- The programs of a file are whole.
 use Rattle.std.proofs.Common.{◌≡◌, ℕ, List, Result, Ok, Err}
-use Rattle.pio_parse.specs.declared.syntax.Source.{Source}
-use Rattle.pio_parse.specs.Files.{EarlyFault}
-use Rattle.pio_parse.proofs.Readers.{reader}
-use Rattle.pio_asm.specs.Assembly.{Plan}
-use Rattle.pio_asm.specs.Whole.{AreWhole}
+use Rattle.pio_asm.proofs.Shared.{Source, EarlyFault, reader, Plan, AreWhole, plans_in, plans_of}
 use Rattle.pio_asm.proofs.Wholeness.{source_whole}
-use Rattle.pio_asm.specs.Listing.{plans_in, plans_of}
 
 read_whole : (outcome : Result Source EarlyFault) (all : List Plan) → plans_in outcome ≡ Ok all → AreWhole all
 read_whole (Ok source) all e = source_whole source all e

@@ -1,3 +1,4 @@
+pub mod Shared
 pub mod Bounds
 pub mod Codes
 pub mod Words

@@ -1,50 +1,12 @@
 -- How the line of an instruction word is parsed.
-use Rattle.std.proofs.Common.{◌≡◌, ◌==◌, ◌&&◌, not, ℕ, ◌+◌, Bool, true, false, if◌then◌else◌, List, [], ◌∷◌, ◌++◌, length, Option, None, Some, Ok, append_assoc, refl, ap, ◌∙◌}
-use Rattle.std.proofs.lemmas.Bool.{eq-eqb}
-use Rattle.pio_words.specs.declared.op.IrqIndex.{IrqIndex}
-use Rattle.pio_words.specs.declared.op.JmpCondition.{JmpCondition}
-use Rattle.pio_words.specs.declared.op.JmpCondition.TheVariants.{XDecrement, YDecrement}
-use Rattle.pio_words.specs.declared.op.InSource.{InSource}
-use Rattle.pio_words.specs.declared.op.InSource.TheVariants.{Pins as InPins}
-use Rattle.pio_words.specs.declared.op.OutDestination.{OutDestination}
-use Rattle.pio_words.specs.declared.op.OutDestination.TheVariants.{Pins as OutPins}
-use Rattle.pio_words.specs.declared.op.MovDestination.{MovDestination}
-use Rattle.pio_words.specs.declared.op.MovDestination.TheVariants.{Pins as ToPins, Y as ToY}
-use Rattle.pio_words.specs.declared.op.MovSource.{MovSource}
-use Rattle.pio_words.specs.declared.op.MovSource.TheVariants.{Pins as FromPins, Y as FromY}
-use Rattle.pio_words.specs.declared.op.SetDestination.{SetDestination}
-use Rattle.pio_words.specs.declared.op.SetDestination.TheVariants.{Pins as SetPins}
-use Rattle.pio_words.specs.declared.op.MovOperation.{MovOperation}
-use Rattle.pio_words.specs.declared.op.MovOperation.TheVariants.{Plain, Invert, Reverse}
-use Rattle.pio_words.specs.declared.op.WaitSource.{WaitSource}
-use Rattle.pio_words.specs.declared.op.WaitSource.TheVariants.{Gpio, Pin, Irq as Flag}
-use Rattle.pio_words.specs.declared.op.PioOp.{PioOp}
-use Rattle.pio_words.specs.declared.op.PioOp.TheVariants.{Jmp, Wait, In, Out, Push, Pull, Mov, Irq, Set, Reserved}
-use Rattle.pio_words.specs.declared.side.SideConfig.{SideConfig}
-use Rattle.pio_words.specs.declared.side.SideDelay.{SideDelay}
-use Rattle.pio_words.specs.Operation.{bit}
+use Rattle.std.proofs.Common.{◌≡◌, ◌==◌, ◌&&◌, not, ℕ, ◌+◌, Bool, true, false, if◌then◌else◌, List, [], ◌∷◌, ◌++◌, length, Option, None, Some, Ok, refl, ap, ◌∙◌}
+use Rattle.pio_asm.proofs.Shared.{eq-eqb, IrqIndex, JmpCondition, XDecrement, YDecrement, InSource, InPins, OutDestination, OutPins, MovDestination, ToPins, ToY, MovSource, FromPins, FromY, SetDestination, SetPins, MovOperation, Plain, Invert, Reverse, WaitSource, Gpio, Pin, Flag, PioOp, Jmp, Wait, In, Out, Push, Pull, Mov, Irq, Set, Reserved, SideConfig, SideDelay, bit, KeywordToken, LineEnd, Term, Number as NumberTerm, Operation, JmpSyntax, WaitGpio, WaitPin, WaitIrq, InSyntax, OutSyntax, PushSyntax, PullSyntax, MovSyntax, IrqSyntax, SetSyntax, Instruction, Statement, SideSetStatement, WordStatement, InstructionStatement, Line, and_then, map_ok, Piece, token_at, tokens_of, keyword_name, decimal, digits, is_from_y, is_plain, is_to_y, is_written, both}
 use Rattle.pio_parse.specs.declared.token.Token.{Token}
-use Rattle.pio_parse.specs.declared.token.TokenKind.TheVariants.{Keyword as KeywordToken, LineEnd}
-use Rattle.pio_parse.specs.declared.expression.Term.{Term}
-use Rattle.pio_parse.specs.declared.expression.Term.TheVariants.{Number as NumberTerm}
-use Rattle.pio_parse.specs.declared.syntax.Operation.{Operation}
-use Rattle.pio_parse.specs.declared.syntax.Operation.TheVariants.{Jmp as JmpSyntax, WaitGpio, WaitPin, WaitIrq, In as InSyntax, Out as OutSyntax, Push as PushSyntax, Pull as PullSyntax, Mov as MovSyntax, Irq as IrqSyntax, Set as SetSyntax}
-use Rattle.pio_parse.specs.declared.syntax.Instruction.{Instruction}
-use Rattle.pio_parse.specs.declared.syntax.Statement.{Statement}
-use Rattle.pio_parse.specs.declared.syntax.Statement.TheVariants.{SideSet as SideSetStatement, Word as WordStatement, Instruction as InstructionStatement}
-use Rattle.pio_parse.specs.declared.syntax.Line.{Line}
-use Rattle.source_text.specs.Outcome.{and_then, map_ok}
 use Rattle.pio_parse.specs.descent.Cursor.{Outcome, after_head}
 use Rattle.pio_parse.specs.Tokens.{head_kind}
 use Rattle.pio_parse.specs.Registers.{mov_destination_of, mov_source_of}
 use Rattle.pio_parse.specs.descent.Instruction.{is_rel, modified_at}
 use Rattle.pio_parse.specs.descent.Statement.{end_at, line_at}
-use Rattle.pio_parse.proofs.Pieces.{Piece, token_at, tokens_of}
-use Rattle.pio_parse.proofs.Pieces.Piece.{End}
-use Rattle.pio_parse.specs.Words.{keyword_name}
-use Rattle.std.specs.Fmt.{decimal, digits}
-use Rattle.pio_disasm.specs.Text.{is_from_y, is_plain, is_to_y, is_written}
-use Rattle.pio_parse.proofs.Tests.{both}
 use Rattle.pio_asm.proofs.LinePieces.{delay_if, from_key, instruction_if, instruction_pieces, is_nop, mov_pieces, operation_pieces, rel_pieces, side_pieces, side_set_pieces, tail_pieces, to_key, word_pieces}
 
 abbrev pub number_terms : ℕ → List Term
@@ -189,13 +151,13 @@ delay_terms d = delay_terms_if (d == 0) d
 abbrev instruction_with : Operation → Option ℕ → Bool → ℕ → Instruction
 instruction_with operation v b d = record { operation = operation; side = side_terms v; delay = delay_terms_if b d }
 
-tail_parses : (text : List ℕ) (number column : ℕ) (operation : Operation) (v : Option ℕ) (b : Bool) (d : ℕ) → (position : ℕ) × (modified_at text operation (tokens_of number column ((side_pieces v ++ delay_if b d) ++ End ∷ [])) ≡ Ok (instruction_with operation v b d, token_at LineEnd number position ∷ []))
+tail_parses : (text : List ℕ) (number column : ℕ) (operation : Operation) (v : Option ℕ) (b : Bool) (d : ℕ) → (position : ℕ) × (modified_at text operation (tokens_of number column (side_pieces v ++ delay_if b d)) ≡ Ok (instruction_with operation v b d, token_at LineEnd number position ∷ []))
 tail_parses text number column operation None true d = (_, refl)
 tail_parses text number column operation None false d = (_, refl)
 tail_parses text number column operation (Some v) true d = (_, refl)
 tail_parses text number column operation (Some v) false d = (_, refl)
 
-no_rel : (number : ℕ) (v : Option ℕ) (b : Bool) (d : ℕ) → IsNoRel number ((side_pieces v ++ delay_if b d) ++ End ∷ [])
+no_rel : (number : ℕ) (v : Option ℕ) (b : Bool) (d : ℕ) → IsNoRel number (side_pieces v ++ delay_if b d)
 no_rel number None true d column = refl
 no_rel number None false d column = refl
 no_rel number (Some v) true d column = refl
@@ -213,24 +175,24 @@ statement_of op (Some side) word = statement_if (is_written op) op side word
 abbrev pub line_with : ℕ → Statement → Line
 line_with number statement = record { number = number; label = None; statement = Some statement }
 
-word_parses : (text : List ℕ) (number word : ℕ) → line_at text true (tokens_of number 1 (word_pieces word ++ End ∷ [])) ≡ Ok (line_with number (WordStatement (number_terms word)), [])
+word_parses : (text : List ℕ) (number word : ℕ) → line_at text true (tokens_of number 1 (word_pieces word)) ≡ Ok (line_with number (WordStatement (number_terms word)), [])
 word_parses text number word = refl
 
-instruction_parses : (text : List ℕ) (number : ℕ) (b : Bool) (op : PioOp) (side : SideDelay) (word : ℕ) → is_written op ≡ b → line_at text true (tokens_of number 1 (instruction_if b op side word ++ End ∷ [])) ≡ Ok (line_with number (statement_if b op side word), [])
+instruction_parses : (text : List ℕ) (number : ℕ) (b : Bool) (op : PioOp) (side : SideDelay) (word : ℕ) → is_written op ≡ b → line_at text true (tokens_of number 1 (instruction_if b op side word)) ≡ Ok (line_with number (statement_if b op side word), [])
 instruction_parses text number true op side word h =
-    let first = operation_parses text number op (tail_pieces side ++ End ∷ []) h (no_rel number side.value (side.delay == 0) side.delay) in
+    let first = operation_parses text number op (tail_pieces side) h (no_rel number side.value (side.delay == 0) side.delay) in
     let last = tail_parses text number first.0 (syntax_of op) side.value (side.delay == 0) side.delay in
-    rw (append_assoc (operation_pieces op) (tail_pieces side) (End ∷ [])) (first.1 ∙ ap (λ (o : Outcome Instruction). finished number o) last.1)
+    first.1 ∙ ap (λ (o : Outcome Instruction). finished number o) last.1
 instruction_parses text number false op side word h = word_parses text number word
 
-pub line_parses : (text : List ℕ) (number : ℕ) (op : PioOp) (side : Option SideDelay) (word : ℕ) → line_at text true (tokens_of number 1 (instruction_pieces op side word ++ End ∷ [])) ≡ Ok (line_with number (statement_of op side word), [])
+pub line_parses : (text : List ℕ) (number : ℕ) (op : PioOp) (side : Option SideDelay) (word : ℕ) → line_at text true (tokens_of number 1 (instruction_pieces op side word)) ≡ Ok (line_with number (statement_of op side word), [])
 line_parses text number op None word = word_parses text number word
 line_parses text number op (Some side) word = instruction_parses text number (is_written op) op side word refl
 
-pub side_set_parses : (text : List ℕ) (number : ℕ) (side : SideConfig) → line_at text true (tokens_of number 1 (side_set_pieces side ++ End ∷ [])) ≡ Ok (line_with number (SideSetStatement (number_terms side.count) side.opt side.pindirs), [])
+pub side_set_parses : (text : List ℕ) (number : ℕ) (side : SideConfig) → line_at text true (tokens_of number 1 (side_set_pieces side)) ≡ Ok (line_with number (SideSetStatement (number_terms side.count) side.opt side.pindirs), [])
 side_set_parses text number side = flags_parse side.opt side.pindirs side.count
   where
-    flags_parse : (opt pindirs : Bool) (n : ℕ) → line_at text true (tokens_of number 1 (side_set_pieces (record { count = n; opt = opt; pindirs = pindirs }) ++ End ∷ [])) ≡ Ok (line_with number (SideSetStatement (number_terms n) opt pindirs), [])
+    flags_parse : (opt pindirs : Bool) (n : ℕ) → line_at text true (tokens_of number 1 (side_set_pieces (record { count = n; opt = opt; pindirs = pindirs }))) ≡ Ok (line_with number (SideSetStatement (number_terms n) opt pindirs), [])
     flags_parse true true n = refl
     flags_parse true false n = refl
     flags_parse false true n = refl

@@ -1,37 +1,6 @@
 -- The line of an instruction word as the pieces that it is made of.
 use Rattle.std.proofs.Common.{◌==◌, ◌&&◌, not, ℕ, ◌/◌, ◌%◌, Bool, true, false, List, [], ◌∷◌, ◌++◌, map, Option, None, Some}
-use Rattle.pio_words.specs.declared.op.IrqIndex.{IrqIndex}
-use Rattle.pio_words.specs.declared.op.JmpCondition.{JmpCondition}
-use Rattle.pio_words.specs.declared.op.JmpCondition.TheVariants.{Always, XZero, XDecrement, YZero, YDecrement, XNotY, Pin as PinHigh, OsrNotEmpty}
-use Rattle.pio_words.specs.declared.op.InSource.{InSource}
-use Rattle.pio_words.specs.declared.op.InSource.TheVariants.{Pins as InPins, X as InX, Y as InY, Null as InNull, Isr as InIsr, Osr as InOsr}
-use Rattle.pio_words.specs.declared.op.OutDestination.{OutDestination}
-use Rattle.pio_words.specs.declared.op.OutDestination.TheVariants.{Pins as OutPins, X as OutX, Y as OutY, Null as OutNull, Pindirs as OutPindirs, Pc as OutPc, Isr as OutIsr, Exec as OutExec}
-use Rattle.pio_words.specs.declared.op.MovDestination.{MovDestination}
-use Rattle.pio_words.specs.declared.op.MovDestination.TheVariants.{Pins as ToPins, X as ToX, Y as ToY, Exec as ToExec, Pc as ToPc, Isr as ToIsr, Osr as ToOsr}
-use Rattle.pio_words.specs.declared.op.MovSource.{MovSource}
-use Rattle.pio_words.specs.declared.op.MovSource.TheVariants.{Pins as FromPins, X as FromX, Y as FromY, Null as FromNull, Status as FromStatus, Isr as FromIsr, Osr as FromOsr}
-use Rattle.pio_words.specs.declared.op.SetDestination.{SetDestination}
-use Rattle.pio_words.specs.declared.op.SetDestination.TheVariants.{Pins as SetPins, X as SetX, Y as SetY, Pindirs as SetPindirs}
-use Rattle.pio_words.specs.declared.op.MovOperation.{MovOperation}
-use Rattle.pio_words.specs.declared.op.MovOperation.TheVariants.{Plain, Invert, Reverse}
-use Rattle.pio_words.specs.declared.op.WaitSource.{WaitSource}
-use Rattle.pio_words.specs.declared.op.WaitSource.TheVariants.{Gpio, Pin, Irq as Flag}
-use Rattle.pio_words.specs.declared.op.PioOp.{PioOp}
-use Rattle.pio_words.specs.declared.op.PioOp.TheVariants.{Jmp, Wait, In, Out, Push, Pull, Mov, Irq, Set, Reserved}
-use Rattle.pio_words.specs.declared.side.SideConfig.{SideConfig}
-use Rattle.pio_words.specs.declared.side.SideDelay.{SideDelay}
-use Rattle.pio_words.specs.Operation.{bit, operation_of}
-use Rattle.pio_words.specs.Side.{side_at}
-use Rattle.pio_parse.specs.declared.token.Keyword.{Keyword}
-use Rattle.pio_parse.specs.declared.token.Keyword.TheVariants.{Opt as KOpt, Pindirs as KPindirs, Jmp as KJmp, Wait as KWait, In as KIn, Out as KOut, Push as KPush, Pull as KPull, Mov as KMov, Irq as KIrq, Set as KSet, Nop as KNop, Side as KSide, Gpio as KGpio, Pin as KPin, Rel as KRel, Pins as KPins, X as KX, Y as KY, Null as KNull, Isr as KIsr, Osr as KOsr, Pc as KPc, Exec as KExec, Status as KStatus, IfFull as KIfFull, IfEmpty as KIfEmpty, Block as KBlock, NoBlock as KNoBlock, NoWait as KNoWait, Clear as KClear, Osre as KOsre}
-use Rattle.pio_parse.specs.declared.token.Directive.TheVariants.{SideSet, Word as WordDirective}
-use Rattle.pio_parse.specs.declared.token.TokenKind.TheVariants.{Keyword as KeywordToken, Directive as DirectiveToken, Number}
-use Rattle.pio_parse.specs.Words.{directive_name, keyword_name}
-use Rattle.pio_parse.proofs.Pieces.{Piece}
-use Rattle.pio_parse.proofs.Pieces.Piece.{Blank, Run, Comma, Minus, Open, Close, Bang, Colons, NotEqual}
-use Rattle.std.specs.Fmt.{decimal}
-use Rattle.pio_disasm.specs.Text.{hex_half, is_from_y, is_plain, is_to_y, is_written}
+use Rattle.pio_asm.proofs.Shared.{IrqIndex, JmpCondition, Always, XZero, XDecrement, YZero, YDecrement, XNotY, PinHigh, OsrNotEmpty, InSource, InPins, InX, InY, InNull, InIsr, InOsr, OutDestination, OutPins, OutX, OutY, OutNull, OutPindirs, OutPc, OutIsr, OutExec, MovDestination, ToPins, ToX, ToY, ToExec, ToPc, ToIsr, ToOsr, MovSource, FromPins, FromX, FromY, FromNull, FromStatus, FromIsr, FromOsr, SetDestination, SetPins, SetX, SetY, SetPindirs, MovOperation, Plain, Invert, Reverse, WaitSource, Gpio, Pin, Flag, PioOp, Jmp, Wait, In, Out, Push, Pull, Mov, Irq, Set, Reserved, SideConfig, SideDelay, bit, operation_of, side_at, Keyword, KOpt, KPindirs, KJmp, KWait, KIn, KOut, KPush, KPull, KMov, KIrq, KSet, KNop, KSide, KGpio, KPin, KRel, KPins, KX, KY, KNull, KIsr, KOsr, KPc, KExec, KStatus, KIfFull, KIfEmpty, KBlock, KNoBlock, KNoWait, KClear, KOsre, SideSet, WordDirective, KeywordToken, DirectiveToken, NumberToken as Number, directive_name, keyword_name, Piece, Blank, Run, Comma, Minus, Open, Close, Bang, Colons, NotEqual, decimal, hex_half, is_from_y, is_plain, is_to_y, is_written}
 
 abbrev pub key : Keyword → Piece
 key keyword = Run (keyword_name keyword) (KeywordToken keyword)

@@ -1,24 +1,15 @@
 -- The words of a line are tokens wherever they stand.
 use Rattle.std.proofs.Common.{◌≡◌, ◌==◌, ◌&&◌, ℕ, suc, zero, ◌+◌, ◌*◌, ◌/◌, ◌%◌, ◌<◌, min, Bool, true, false, nat_le, cond, List, [], ◌∷◌, Option, None, Some, arith, refl, ap, inl, inr, ◌∙◌}
-use Rattle.std.proofs.lemmas.Bool.Decides.{eqb_tells, nat_tests}
+use Rattle.pio_asm.proofs.Shared.{eqb_tells, nat_tests, Keyword, Public, KeywordToken, NumberToken as Number, keyword_name, number_of, word_kind, IsRun, both, decimal, digits, option_map, hex_half}
 use Rattle.pio_parse.specs.declared.token.Span.{Span}
-use Rattle.pio_parse.specs.declared.token.Keyword.{Keyword}
-use Rattle.pio_parse.specs.declared.token.Keyword.TheVariants.{Public}
-use Rattle.pio_parse.specs.declared.token.TokenKind.TheVariants.{Keyword as KeywordToken, Number}
 use Rattle.source_text.specs.Characters.{digit_of, is_digit, is_word_char}
 use Rattle.source_text.specs.Numbers.{digits_value}
-use Rattle.pio_parse.specs.Words.{keyword_name, number_of, word_kind}
 use Rattle.pio_parse.specs.Lexical.{is_word}
-use Rattle.pio_parse.proofs.Pieces.{IsRun}
-use Rattle.pio_parse.proofs.Tests.{both}
-use Rattle.std.specs.Fmt.{decimal, digits}
 use Rattle.std.specs.Char.{digit_char}
-use Rattle.std.specs.Option.{option_map}
-use Rattle.pio_disasm.specs.Text.{hex_half}
 
 pub key_run : (keyword : Keyword) → IsRun (keyword_name keyword) (KeywordToken keyword)
-key_run Public = record { run = refl; plain = refl; names = λ span. refl }
-key_run keyword = record { run = refl; plain = refl; names = λ span. refl }
+key_run Public = record { run = refl; plain = refl; inside = refl; names = λ span. refl }
+key_run keyword = record { run = refl; plain = refl; inside = refl; names = λ span. refl }
 
 -- what is tested of each number below n
 abbrev all_below : (ℕ → Bool) → ℕ → Bool
@@ -67,7 +58,7 @@ number_run : (w : List ℕ) (n : ℕ) → is_number w n ≡ true → IsRun w (Nu
 number_run w n h =
     let a = both (is_word w) (begins_digit w && is_that (number_of w) n) h in
     let b = both (begins_digit w) (is_that (number_of w) n) a.1 in
-    record { run = a.0; plain = refl; names = λ span. digits_kind w n span b.0 (that_is (number_of w) n b.1) }
+    record { run = a.0; plain = refl; inside = refl; names = λ span. digits_kind w n span b.0 (that_is (number_of w) n b.1) }
 
 decimals : all_below (λ n. is_number (decimal n) n) 100 ≡ true
 unfolding digits
@@ -124,5 +115,6 @@ hex_run n lt =
     record {
       run = half_run (digit_char (n / 4096 % 16)) (digit_char (n / 256 % 16)) (digit_char (n / 16 % 16)) (digit_char (n % 16)) a.char b.char c.char d.char;
       plain = refl;
+      inside = refl;
       names = λ span. digits_kind (48 ∷ 120 ∷ hex_half n) n span refl value;
     }

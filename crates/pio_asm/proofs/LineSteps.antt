@@ -1,24 +1,6 @@
 -- The lines of a source of words are assembled to members that stand for them.
 use Rattle.std.proofs.Common.{◌≡◌, ◌==◌, ◌&&◌, not, ℕ, ◌+◌, ◌-◌, ◌%◌, ◌<◌, ◌≤◌, nat_le, Bool, true, false, List, [], ◌∷◌, ◌++◌, length, Option, None, Some, Ok, MatchBool, is_some, arith, refl, inl, inr}
-use Rattle.std.proofs.lemmas.Bool.Decides.{eqb_tells, nat_tests}
-use Rattle.std.proofs.lemmas.Bool.{le-leb}
-use Rattle.pio_words.specs.declared.op.WaitSource.{WaitSource}
-use Rattle.pio_words.specs.declared.op.WaitSource.TheVariants.{Gpio, Pin, Irq as Flag}
-use Rattle.pio_words.specs.declared.op.PioOp.{PioOp}
-use Rattle.pio_words.specs.declared.op.PioOp.TheVariants.{Jmp, Wait, In, Out, Push, Pull, Mov, Irq, Set, Reserved}
-use Rattle.pio_words.specs.declared.side.SideConfig.{SideConfig}
-use Rattle.pio_words.specs.declared.side.SideDelay.{SideDelay}
-use Rattle.pio_words.specs.Operation.{HasFields, IsWaitSource, bit}
-use Rattle.pio_words.specs.Side.{IsOptionalSide, IsPlainSide, IsSideField}
-use Rattle.pio_parse.specs.declared.syntax.Statement.TheVariants.{SideSet as SideSetStatement, Word as WordStatement}
-use Rattle.pio_asm.specs.declared.operand.Modifier.{Modifier}
-use Rattle.pio_asm.specs.declared.plan.Member.{Member}
-use Rattle.pio_asm.specs.declared.plan.Member.TheVariants.{Word as WordMember, Coded}
-use Rattle.pio_asm.specs.declared.building.Building.{Building}
-use Rattle.pio_asm.specs.Symbols.{Names}
-use Rattle.pio_asm.specs.Operand.{field_in, modifier_in}
-use Rattle.pio_asm.specs.Plan.{IsConfig, config_of, delay_bits, delay_modifier_in, greatest, operation_in, side_modifier_in, side_value_of, sure_op}
-use Rattle.pio_asm.specs.Step.{line_step}
+use Rattle.pio_asm.proofs.Shared.{eqb_tells, nat_tests, le-leb, WaitSource, Gpio, Pin, Flag, PioOp, Jmp, Wait, In, Out, Push, Pull, Mov, Irq, Set, Reserved, SideConfig, SideDelay, HasFields, IsWaitSource, bit, IsOptionalSide, IsPlainSide, IsSideField, SideSetStatement, WordStatement, Modifier, Member, WordMember, Coded, Building, Names, field_in, modifier_in, IsConfig, config_of, delay_bits, delay_modifier_in, greatest, operation_in, side_modifier_in, side_value_of, sure_op, line_step}
 use Rattle.pio_asm.proofs.LineApart.{IsSmall}
 use Rattle.pio_asm.proofs.LineParse.{delay_terms, line_with, number_terms, side_terms, statement_if, syntax_of, wait_syntax}
 

@@ -1,37 +1,8 @@
 -- The text of a source of words is that of its pieces.
 use Rattle.std.proofs.Common.{◌≡◌, ◌==◌, ◌&&◌, not, ℕ, ◌/◌, ◌%◌, Bool, true, false, if◌then◌else◌, List, [], ◌∷◌, ◌++◌, map, Option, None, Some, codes, flat_map, append-nil, append_assoc, refl, sym, ap, ◌∙◌}
-use Rattle.pio_words.specs.declared.op.IrqIndex.{IrqIndex}
-use Rattle.pio_words.specs.declared.op.JmpCondition.{JmpCondition}
-use Rattle.pio_words.specs.declared.op.JmpCondition.TheVariants.{Always, XZero, XDecrement, YZero, YDecrement, XNotY, Pin as PinHigh, OsrNotEmpty}
-use Rattle.pio_words.specs.declared.op.InSource.{InSource}
-use Rattle.pio_words.specs.declared.op.InSource.TheVariants.{Pins as InPins}
-use Rattle.pio_words.specs.declared.op.OutDestination.{OutDestination}
-use Rattle.pio_words.specs.declared.op.OutDestination.TheVariants.{Pins as OutPins}
-use Rattle.pio_words.specs.declared.op.MovDestination.{MovDestination}
-use Rattle.pio_words.specs.declared.op.MovDestination.TheVariants.{Pins as ToPins, X as ToX, Y as ToY, Exec as ToExec, Pc as ToPc, Isr as ToIsr, Osr as ToOsr}
-use Rattle.pio_words.specs.declared.op.MovSource.{MovSource}
-use Rattle.pio_words.specs.declared.op.MovSource.TheVariants.{Pins as FromPins}
-use Rattle.pio_words.specs.declared.op.SetDestination.{SetDestination}
-use Rattle.pio_words.specs.declared.op.SetDestination.TheVariants.{Pins as SetPins}
-use Rattle.pio_words.specs.declared.op.MovOperation.{MovOperation}
-use Rattle.pio_words.specs.declared.op.MovOperation.TheVariants.{Plain, Invert, Reverse}
-use Rattle.pio_words.specs.declared.op.WaitSource.{WaitSource}
-use Rattle.pio_words.specs.declared.op.WaitSource.TheVariants.{Gpio, Pin, Irq as Flag}
-use Rattle.pio_words.specs.declared.op.PioOp.{PioOp}
-use Rattle.pio_words.specs.declared.op.PioOp.TheVariants.{Jmp, Wait, In, Out, Push, Pull, Mov, Irq, Set, Reserved}
-use Rattle.pio_words.specs.declared.side.SideConfig.{SideConfig}
-use Rattle.pio_words.specs.declared.side.SideDelay.{SideDelay}
-use Rattle.pio_words.specs.Operation.{operation_of}
-use Rattle.pio_words.specs.Side.{side_at}
-use Rattle.pio_parse.specs.Words.{keyword_name}
-use Rattle.pio_parse.specs.declared.token.Keyword.TheVariants.{Opt as KOpt, Pindirs as KPindirs}
-use Rattle.pio_parse.proofs.Pieces.{Piece, chars_of, joined}
-use Rattle.pio_parse.proofs.Pieces.Piece.{End}
-use Rattle.pio_parse.proofs.PieceLines.{all_lines, header}
+use Rattle.pio_asm.proofs.Shared.{IrqIndex, JmpCondition, Always, XZero, XDecrement, YZero, YDecrement, XNotY, PinHigh, OsrNotEmpty, InSource, InPins, OutDestination, OutPins, MovDestination, ToPins, MovSource, FromPins, SetDestination, SetPins, MovOperation, Plain, Invert, Reverse, WaitSource, Gpio, Pin, Flag, PioOp, Jmp, Wait, In, Out, Push, Pull, Mov, Irq, Set, Reserved, SideConfig, SideDelay, operation_of, side_at, keyword_name, KOpt, KPindirs, Piece, chars_of, joined, joined_lines, header, decimal, digits, delay_text, index_text, instruction_text, is_written, line_text, operation_text, side_text, source_text, wait_source_text, word_text}
 use Rattle.pio_disasm.specs.Names.{condition_name, in_source_name, mov_destination_name, mov_operation_name, mov_source_name, out_destination_name, set_destination_name}
-use Rattle.std.specs.Fmt.{decimal, digits}
-use Rattle.pio_disasm.specs.Text.{delay_text, index_text, instruction_text, is_written, line_text, operation_text, side_text, source_text, wait_source_text, word_text}
-use Rattle.pio_asm.proofs.LinePieces.{condition_pieces, delay_if, delay_pieces, from_key, in_key, flag_pieces, index_pieces, instruction_if, instruction_pieces, is_nop, key, line_pieces, mov_operation_pieces, mov_pieces, num, operation_pieces, out_key, program_lines, rel_pieces, set_key, side_pieces, side_set_lines, side_set_pieces, tail_pieces, to_key, wait_pieces}
+use Rattle.pio_asm.proofs.LinePieces.{condition_pieces, delay_if, delay_pieces, from_key, in_key, flag_pieces, index_pieces, instruction_if, instruction_pieces, is_nop, key, line_pieces, mov_operation_pieces, mov_pieces, num, operation_pieces, out_key, program_lines, rel_pieces, set_key, side_pieces, side_set_lines, tail_pieces, to_key, wait_pieces}
 
 joined-append : (ps qs : List Piece) → joined (ps ++ qs) ≡ joined ps ++ joined qs
 joined-append [] qs = refl
@@ -80,13 +51,7 @@ from_text Reverse s = ap (λ xs. 58 ∷ 58 ∷ xs) (append-nil (keyword_name (fr
 
 mov_if_is : (b : Bool) (d : MovDestination) (o : MovOperation) (s : MovSource) → joined (mov_pieces b d o s) ≡ (if b then codes "nop" else codes "mov " ++ mov_destination_name d ++ codes ", " ++ mov_operation_name o ++ mov_source_name s)
 mov_if_is true d o s = refl
-mov_if_is false ToPins o s = ap (λ xs. codes "mov pins, " ++ xs) (from_text o s)
-mov_if_is false ToX o s = ap (λ xs. codes "mov x, " ++ xs) (from_text o s)
-mov_if_is false ToY o s = ap (λ xs. codes "mov y, " ++ xs) (from_text o s)
-mov_if_is false ToExec o s = ap (λ xs. codes "mov exec, " ++ xs) (from_text o s)
-mov_if_is false ToPc o s = ap (λ xs. codes "mov pc, " ++ xs) (from_text o s)
-mov_if_is false ToIsr o s = ap (λ xs. codes "mov isr, " ++ xs) (from_text o s)
-mov_if_is false ToOsr o s = ap (λ xs. codes "mov osr, " ++ xs) (from_text o s)
+mov_if_is false d o s = rw (from_text o s, to_is d) (simp append_assoc)
 
 condition_is : (c : JmpCondition) (n : ℕ) → joined (condition_pieces c ++ num n ∷ []) ≡ condition_name c ++ decimal n
 condition_is Always n = append-nil (decimal n)
@@ -142,14 +107,13 @@ instruction_is : (op : PioOp) (side : Option SideDelay) (word : ℕ) → joined 
 instruction_is op None word = refl
 instruction_is op (Some side) word = instruction_if_is (is_written op) op side word
 
-line_is : (side : SideConfig) (word : ℕ) (rest : List Piece) → joined (line_pieces side word ++ End ∷ rest) ≡ line_text side word ++ joined rest
-line_is side word rest = joined-append (line_pieces side word) (End ∷ rest)
-    ∙ ap (λ xs. xs ++ (10 ∷ joined rest)) (instruction_is (operation_of word) (side_at side (word / 256 % 32)) word)
-    ∙ sym (append_assoc (instruction_text (operation_of word) (side_at side (word / 256 % 32)) word) (10 ∷ []) (joined rest))
+line_is : (side : SideConfig) (word : ℕ) (rest : List ℕ) → joined (line_pieces side word) ++ 10 ∷ rest ≡ line_text side word ++ rest
+line_is side word rest = ap (λ xs. xs ++ (10 ∷ rest)) (instruction_is (operation_of word) (side_at side (word / 256 % 32)) word)
+    ∙ sym (append_assoc (instruction_text (operation_of word) (side_at side (word / 256 % 32)) word) (10 ∷ []) rest)
 
-lines_are : (side : SideConfig) (words : List ℕ) → joined (all_lines (map (line_pieces side) words)) ≡ flat_map (line_text side) words
+lines_are : (side : SideConfig) (words : List ℕ) → joined_lines (map (line_pieces side) words) ≡ flat_map (line_text side) words
 lines_are side [] = refl
-lines_are side (word ∷ words) = line_is side word (all_lines (map (line_pieces side) words)) ∙ ap (λ xs. line_text side word ++ xs) (lines_are side words)
+lines_are side (word ∷ words) = line_is side word (joined_lines (map (line_pieces side) words)) ∙ ap (λ xs. line_text side word ++ xs) (lines_are side words)
 
 flags_are : (opt pindirs : Bool) (n : ℕ) → decimal n ++ joined (flag_pieces opt KOpt ++ flag_pieces pindirs KPindirs) ≡ (decimal n ++ (if opt then codes " opt" else [])) ++ (if pindirs then codes " pindirs" else [])
 flags_are true true n = simp append_assoc
@@ -157,13 +121,12 @@ flags_are true false n = simp append-nil
 flags_are false true n = simp append-nil
 flags_are false false n = simp append-nil
 
-side_set_if : (b : Bool) (side : SideConfig) (words : List ℕ) → joined (all_lines (side_set_lines b side ++ map (line_pieces side) words)) ≡ (if b then [] else codes ".side_set " ++ decimal side.count ++ (if side.opt then codes " opt" else []) ++ (if side.pindirs then codes " pindirs" else []) ++ codes "\n") ++ flat_map (line_text side) words
+side_set_if : (b : Bool) (side : SideConfig) (words : List ℕ) → joined_lines (side_set_lines b side ++ map (line_pieces side) words) ≡ (if b then [] else codes ".side_set " ++ decimal side.count ++ (if side.opt then codes " opt" else []) ++ (if side.pindirs then codes " pindirs" else []) ++ codes "\n") ++ flat_map (line_text side) words
 side_set_if true side words = lines_are side words
 side_set_if false side words =
-    joined-append (side_set_pieces side) (End ∷ all_lines (map (line_pieces side) words))
-    ∙ ap (λ xs. codes ".side_set " ++ xs ++ (10 ∷ joined (all_lines (map (line_pieces side) words)))) (flags_are side.opt side.pindirs side.count)
+    ap (λ xs. codes ".side_set " ++ xs ++ (10 ∷ joined_lines (map (line_pieces side) words))) (flags_are side.opt side.pindirs side.count)
     ∙ ap (λ xs. codes ".side_set " ++ ((decimal side.count ++ (if side.opt then codes " opt" else [])) ++ (if side.pindirs then codes " pindirs" else [])) ++ (10 ∷ xs)) (lines_are side words)
     ∙ sym (append_assoc (codes ".side_set " ++ ((decimal side.count ++ (if side.opt then codes " opt" else [])) ++ (if side.pindirs then codes " pindirs" else []))) (10 ∷ []) (flat_map (line_text side) words))
 
-pub source_is : (side : SideConfig) (words : List ℕ) → header ++ joined (all_lines (program_lines side words)) ≡ source_text side words
+pub source_is : (side : SideConfig) (words : List ℕ) → header ++ joined_lines (program_lines side words) ≡ source_text side words
 source_is side words = ap (λ xs. header ++ xs) (side_set_if ((side.count == 0) && not side.opt) side words)

@@ -1,8 +1,6 @@
 -- Addresses of an instruction memory that are free.
-use Rattle.std.proofs.Common.{◌≡◌, ℕ, zero, suc, ◌+◌, ◌-◌, ◌<◌, ◌≤◌, Bool, true, false, ◌&&◌, Option, None, Some, Result, Ok, Err, IfOk, IfErr, refl, sym, ap, subst, arith, inl, inr, ◌∙◌}
-use Rattle.std.proofs.lemmas.Bool.Decides.{eqb_tells}
-use Rattle.pio_parse.specs.declared.fault.PioFault.{PioFault}
-use Rattle.pio_parse.specs.declared.fault.PioFault.TheVariants.{NoRoom}
+use Rattle.std.proofs.Common.{◌≡◌, ℕ, zero, suc, ◌+◌, ◌-◌, ◌<◌, ◌≤◌, true, false, Option, None, Some, Result, Ok, Err, IfOk, IfErr, refl, sym, ap, subst, arith, inl, inr, ◌∙◌}
+use Rattle.pio_asm.proofs.Shared.{both, eqb_tells, PioFault, NoRoom}
 use Rattle.pio_asm.specs.Addresses.{IsFree, AreFree, IsAddressFor, HasNoAddress}
 use Rattle.pio_asm.specs.Placing.{is_free, are_free, least_free, offset_for, or_no_room, placed}
 
@@ -17,14 +15,10 @@ are_free_of used offset zero h = refl
 are_free_of used offset (suc count) h =
     rw (is_free_of used (offset + count) (h count (omega arith))) (are_free_of used offset count (λ index lt. h index (omega (arith, lt))))
 
-and_parts : (a b : Bool) → (a && b) ≡ true → (a ≡ true) × (b ≡ true)
-and_parts true b h = (refl, h)
-and_parts false b h = absurd (cc h)
-
 free_runs : (used offset count : ℕ) → are_free used offset count ≡ true → AreFree used offset count
 free_runs used offset zero h index lt = absurd (omega (arith, lt))
 free_runs used offset (suc count) h index lt =
-    let parts = and_parts (is_free used (offset + count)) (are_free used offset count) h in
+    let parts = both (is_free used (offset + count)) (are_free used offset count) h in
     elim (eqb_tells index count) [
       | inl e ↦ subst (λ (i : ℕ). IsFree used (offset + i)) (sym e.1) (free_of used (offset + count) parts.0)
       | inr e ↦ let ne = e.1 in free_runs used offset count parts.1 index (omega (arith, lt, ne))

@@ -1,26 +1,7 @@
 use Rattle.std.proofs.Common.{◌≡◌, ℕ, ◌==◌, List, Bool, true, false, Option, None, Some, refl, ◌||◌}
-use Rattle.std.specs.Prelude.{is_some, option_map, option_and_then}
-use Rattle.pio_words.specs.declared.op.WaitSource.{WaitSource}
-use Rattle.pio_words.specs.declared.op.WaitSource.TheVariants.{Gpio, Pin, Irq as WaitFlag}
-use Rattle.pio_words.specs.declared.op.PioOp.{PioOp}
-use Rattle.pio_words.specs.declared.op.PioOp.TheVariants.{Jmp as JmpOp, Wait as WaitOp, In as InOp, Out as OutOp, Irq as IrqOp, Set as SetOp}
-use Rattle.pio_words.specs.declared.side.SideConfig.{SideConfig}
-use Rattle.pio_parse.specs.declared.expression.Term.{Term}
-use Rattle.pio_parse.specs.declared.syntax.Operation.{Operation}
-use Rattle.pio_parse.specs.declared.syntax.Operation.TheVariants.{Jmp, WaitGpio, WaitPin, WaitIrq, In, Out, Push, Pull, Mov, Irq, Set}
-use Rattle.pio_parse.specs.declared.syntax.Instruction.{Instruction}
-use Rattle.pio_asm.specs.declared.operand.Field.{Field}
-use Rattle.pio_asm.specs.declared.operand.Modifier.{Modifier}
+use Rattle.pio_asm.proofs.Shared.{neither, is_some, option_mapped as option_map, option_and_then, WaitSource, Gpio, Pin, Flag as WaitFlag, PioOp, Jmp as JmpOp, Wait as WaitOp, In as InOp, Out as OutOp, Irq as IrqOp, Set as SetOp, SideConfig, Term, Operation, JmpSyntax as Jmp, WaitGpio, WaitPin, WaitIrq, InSyntax as In, OutSyntax as Out, PushSyntax as Push, PullSyntax as Pull, MovSyntax as Mov, IrqSyntax as Irq, SetSyntax as Set, Instruction, Field, Modifier, Names, AllValued, is_kept, field_in, polarity_in, config_of, delay_bits, delay_modifier_in, greatest, instruction_in, judged_of, member_of, operation_in, planned_by, side_modifier_in, waited_for}
 use Rattle.pio_asm.specs.declared.plan.Planned.{Planned}
-use Rattle.pio_asm.specs.Symbols.{Names}
-use Rattle.pio_asm.specs.Kept.{AllValued, is_kept}
-use Rattle.pio_asm.specs.Operand.{field_in, polarity_in}
-use Rattle.pio_asm.specs.Plan.{config_of, delay_bits, delay_modifier_in, greatest, instruction_in, judged_of, member_of, operation_in, planned_by, side_modifier_in, waited_for}
 use Rattle.pio_asm.proofs.Valued.{IsFieldValued, IsFound, field-valued, modifier-found, polarity-valued}
-
-pub or-parts : (a b : Bool) → (a || b) ≡ false → (a ≡ false) × (b ≡ false)
-or-parts true b h = cc
-or-parts false b h = (refl, h)
 
 -- without a fault there is an operation
 abbrev IsPlanned : Planned → Type 0
@@ -39,8 +20,8 @@ both-some f (Some x) y h k = map-some (f x) y k
 
 planned-wait : (source : ℕ → WaitSource) (p n : Field) → IsFieldValued p → IsFieldValued n → IsPlanned (waited_for source p n)
 planned-wait source p n hp hn u r =
-    let us = or-parts p.unknown n.unknown u in
-    let rs = or-parts p.range n.range r in
+    let us = neither p.unknown n.unknown u in
+    let rs = neither p.range n.range r in
     both-some (λ q s. WaitOp (q == 1) s) p.value (option_map source n.value) (hp us.0 rs.0) (map-some source n.value (hn us.1 rs.1))
 
 planned : (locals globals : Names) (operation : Operation) → AllValued locals → AllValued globals → IsPlanned (operation_in locals globals operation)
@@ -75,10 +56,10 @@ kept_if config given (Some op) side delay h s d = rw (s, d) refl
 
 judged-kept : (config : SideConfig) (given : Bool) (p : Planned) (side delay : Modifier) → IsPlanned p → IsFound side → IsFound delay → (judged_of config given p side delay).unknown ≡ false → (judged_of config given p side delay).range ≡ false → is_kept (judged_of config given p side delay).member ≡ true
 judged-kept config given p side delay hp hs hd u r =
-    let u1 = or-parts (p.unknown || side.unknown) delay.unknown u in
-    let u2 = or-parts p.unknown side.unknown u1.0 in
-    let r1 = or-parts (p.range || side.outside) delay.outside r in
-    let r2 = or-parts p.range side.outside r1.0 in
+    let u1 = neither (p.unknown || side.unknown) delay.unknown u in
+    let u2 = neither p.unknown side.unknown u1.0 in
+    let r1 = neither (p.range || side.outside) delay.outside r in
+    let r2 = neither p.range side.outside r1.0 in
     kept_if config given p.op side delay (hp u2.0 r2.0) (hs u2.1 r2.1) (hd u1.1 r1.1)
 
 -- an instruction without an unknown name and a value out of range is kept

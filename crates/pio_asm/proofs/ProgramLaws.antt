@@ -1,11 +1,5 @@
 use Rattle.std.proofs.Common.{◌≡◌, ℕ, ◌+◌, ◌<◌, List, [], ◌∷◌, ◌++◌, length, get_or, drop, None, refl, drop-cons, add-one}
-use Rattle.std.specs.Prelude.{Result, Ok, Err, IsOkAnd}
-use Rattle.pio_parse.specs.declared.fault.PioFault.{PioFault}
-use Rattle.pio_parse.specs.declared.syntax.SourceProgram.{SourceProgram}
-use Rattle.pio_program.specs.declared.program.Program.{Program}
-use Rattle.source_text.specs.Symbols.{put}
-use Rattle.pio_asm.specs.Symbols.{Names}
-use Rattle.pio_asm.specs.Assembly.{ArePrograms, IsProgram, Plan, program_plan, programs_from}
+use Rattle.pio_asm.proofs.Shared.{Result, Ok, Err, IsOkAnd, PioFault, SourceProgram, Program, put, Names, ArePrograms, IsProgram, Plan, program_plan, programs_from}
 
 -- one more program with its plan
 pub programs-push : (plans : List Plan) (programs : List Program) (plan : Plan) (program : Program) → ArePrograms plans programs → IsProgram plan program → ArePrograms (plans ++ plan ∷ []) (programs ++ program ∷ [])

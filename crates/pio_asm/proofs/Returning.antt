@@ -1,40 +1,15 @@
 -- A source of words is read back as these words.
 use Rattle.std.proofs.Common.{◌≡◌, ◌==◌, ◌&&◌, not, ℕ, ◌+◌, ◌/◌, ◌%◌, ◌<◌, ◌≤◌, Bool, true, false, List, [], ◌∷◌, ◌++◌, map, length, Option, None, Some, Result, Ok, append_assoc, append-nil, length-append, arith, codes, refl, ap, sym, ◌∙◌}
-use Rattle.std.specs.Prelude.{All}
-use Rattle.std.proofs.lemmas.List.{length-map}
+use Rattle.pio_asm.proofs.Shared.{All, length-map, nat_tests, PioOp, SideConfig, SideDelay, operation_of, IsSideField, side_at, PioFault, and_then, Statement, SideSetStatement, WordStatement, Line, AreApart, Piece, both, not_true, AreLines, joined_lines, header, program_parses, source_of_lines, stays, is_written, source_text, Member, WordMember, Coded, Lost, Building, Names, IsConfig, StandsFor, config_of, is_member, line_step, names_of, with_definition, AreWordsOf, assembled, lines_from, plan_of}
 use Rattle.std.proofs.lemmas.List.Elements.{All-head, All-tail}
-use Rattle.std.proofs.lemmas.Bool.Decides.{nat_tests}
-use Rattle.pio_words.specs.declared.op.PioOp.{PioOp}
-use Rattle.pio_words.specs.declared.side.SideConfig.{SideConfig}
-use Rattle.pio_words.specs.declared.side.SideDelay.{SideDelay}
-use Rattle.pio_words.specs.Operation.{operation_of}
-use Rattle.pio_words.specs.Side.{IsSideField, side_at}
 use Rattle.pio_words.proofs.Unique.{word-unique}
-use Rattle.pio_parse.specs.declared.fault.PioFault.{PioFault}
-use Rattle.source_text.specs.Outcome.{and_then}
-use Rattle.pio_parse.specs.declared.syntax.Statement.{Statement}
-use Rattle.pio_parse.specs.declared.syntax.Statement.TheVariants.{SideSet as SideSetStatement, Word as WordStatement}
-use Rattle.pio_parse.specs.declared.syntax.Line.{Line}
 use Rattle.pio_parse.specs.descent.Parsed.{parsed}
 use Rattle.pio_parse.proofs.Files.{parses_grammar}
-use Rattle.pio_parse.proofs.Pieces.{AreApart, Piece, is_open, joined}
-use Rattle.pio_parse.proofs.Pieces.Piece.{End}
-use Rattle.pio_parse.proofs.Tests.{both, not_true}
-use Rattle.pio_parse.proofs.PieceLines.{AreLines, all_lines, header, program_parses, source_of_lines, stays}
-use Rattle.pio_disasm.specs.Text.{is_written, source_text}
-use Rattle.pio_asm.specs.declared.plan.Member.{Member}
-use Rattle.pio_asm.specs.declared.plan.Member.TheVariants.{Word as WordMember, Coded, Lost}
-use Rattle.pio_asm.specs.declared.building.Building.{Building}
-use Rattle.pio_asm.specs.Symbols.{Names}
-use Rattle.pio_asm.specs.Plan.{IsConfig, StandsFor, config_of}
-use Rattle.pio_asm.specs.Step.{is_member, line_step, names_of, with_definition}
-use Rattle.pio_asm.specs.Code.{AreWordsOf}
-use Rattle.pio_asm.specs.Assembly.{assembled, lines_from, plan_of}
 use Rattle.pio_asm.specs.Returns.{ReadsBack, SourcesReturn, named_side}
 use Rattle.pio_asm.proofs.Decoded.{has_operation, has_side, small_side}
 use Rattle.pio_asm.proofs.LinePieces.{instruction_if, instruction_pieces, line_pieces, program_lines, side_set_lines, word_pieces}
 use Rattle.pio_asm.proofs.LineText.{source_is}
-use Rattle.pio_asm.proofs.LineApart.{instruction_apart, instruction_open, side_set_apart, side_set_open, word_apart}
+use Rattle.pio_asm.proofs.LineApart.{instruction_apart, side_set_apart, word_apart}
 use Rattle.pio_asm.proofs.LineParse.{line_parses, line_with, number_terms, side_set_parses, statement_if, statement_of}
 use Rattle.pio_asm.proofs.LineSteps.{HasBits, built, instruction_assembles, side_set_assembles, word_assembles}
 
@@ -52,8 +27,7 @@ IsSameSide side set = (v : Option ℕ) (d f : ℕ) → IsSideField side v d f �
 
 -- what holds of the line of a word
 record IsLineOf (set : Option SideConfig) (word : ℕ) (pieces : List Piece) (statement : Statement) (member : Member) : Type 0 where
-  apart : (rest : List Piece) → AreApart rest → AreApart (pieces ++ End ∷ rest)
-  opened : is_open pieces ≡ true
+  apart : AreApart pieces
   kept : stays (Some statement) ≡ true
   counted : is_member (Some statement) ≡ true
   nameless : (globals seen : Names) → with_definition globals (Some statement) seen ≡ seen
@@ -63,8 +37,7 @@ record IsLineOf (set : Option SideConfig) (word : ℕ) (pieces : List Piece) (st
 module _ (side : SideConfig) (set : Option SideConfig) (same : IsSameSide side set) (bits : HasBits set) where
   word_line : (word : ℕ) → word < 65536 → IsLineOf set word (word_pieces word) (WordStatement (number_terms word)) (WordMember word)
   word_line word lt = record {
-    apart = λ rest a. word_apart word rest lt a;
-    opened = refl;
+    apart = word_apart word lt;
     kept = refl;
     counted = refl;
     nameless = λ globals seen. refl;
@@ -79,8 +52,7 @@ module _ (side : SideConfig) (set : Option SideConfig) (same : IsSameSide side s
       let small = small_side side.opt side.count s.value s.delay (word / 256 % 32) field in
       let there = same s.value s.delay (word / 256 % 32) field in
       record {
-        apart = λ rest a. instruction_apart (operation_of word) s (word / 8192) (word / 32 % 8) (word % 32) rest has small.0 small.1 a;
-        opened = instruction_open (operation_of word) s;
+        apart = instruction_apart (operation_of word) s (word / 8192) (word / 32 % 8) (word % 32) has small.0 small.1;
         kept = refl;
         counted = refl;
         nameless = λ globals seen. refl;
@@ -111,7 +83,6 @@ lines_step whole globals total line lines b next e = ap (λ (r : Result Building
 
 -- what holds of the lines of words
 record AreLinesOf (side : SideConfig) (set : Option SideConfig) (words : List ℕ) : Type 0 where
-  apart : AreApart (all_lines (map (line_pieces side) words))
   lines : (text : List ℕ) (number : ℕ) → AreLines text number (map (line_pieces side) words) (word_lines side number words)
   names : (globals seen : Names) (count number : ℕ) → names_of globals seen count (word_lines side number words) ≡ (seen, count + length words)
   assembles : (whole globals : Names) (total number : ℕ) (code : List Member) → length code + length words ≤ 32 → lines_from whole globals total (word_lines side number words) (built code set) ≡ Ok (built (code ++ map (word_member set side) words) set)
@@ -119,7 +90,6 @@ record AreLinesOf (side : SideConfig) (set : Option SideConfig) (words : List �
 
 lines_of : (side : SideConfig) (set : Option SideConfig) → IsSameSide side set → HasBits set → (words : List ℕ) → All (λ word. word < 65536) words → AreLinesOf side set words
 lines_of side set same bits [] h = record {
-  apart = tt;
   lines = λ text number. tt;
   names = λ globals seen count number. let e : count + 0 ≡ count = omega arith in rw e refl;
   assembles = λ whole globals total number code room. rw (append-nil code) refl;
@@ -129,8 +99,7 @@ lines_of side set same bits (word ∷ words) h =
     let line = line_of side set same bits word (side_at side (word / 256 % 32)) (All-head (λ w. w < 65536) word words h) refl in
     let rest = lines_of side set same bits words (All-tail (λ w. w < 65536) word words h) in
     record {
-      apart = line.apart (all_lines (map (line_pieces side) words)) rest.apart;
-      lines = λ text number. (line.opened, line.kept, line_parses text number (operation_of word) (side_at side (word / 256 % 32)) word, rest.lines text (number + 1));
+      lines = λ text number. (line.apart, line.kept, line_parses text number (operation_of word) (side_at side (word / 256 % 32)) word, rest.lines text (number + 1));
       names = λ globals seen count number.
           let e : count + 1 + length words ≡ count + length (word ∷ words) = omega arith in
           names_step globals seen count number (word_statement side word) (word_lines side (number + 1) words) line.counted (line.nameless globals seen)
@@ -174,7 +143,6 @@ lines_if true side words = word_lines side 2 words
 lines_if false side words = line_with 2 (SideSetStatement (number_terms side.count) side.opt side.pindirs) ∷ word_lines side 3 words
 
 record IsProgramOf (b : Bool) (side : SideConfig) (words : List ℕ) : Type 0 where
-  apart : AreApart (all_lines (side_set_lines b side ++ map (line_pieces side) words))
   lines : (text : List ℕ) → AreLines text 2 (side_set_lines b side ++ map (line_pieces side) words) (lines_if b side words)
   assembles : assembled (source_of_lines (lines_if b side words)) ≡ Ok (plan_of (codes "code") (built (map (word_member (set_if b side) side) words) (set_if b side)) ∷ [])
   stand : AreWordsOf (map (word_member (set_if b side) side) words) words
@@ -184,7 +152,6 @@ unfolding set_if lines_if
 program_of true side words h fits some few halves =
     let rest = lines_of side None (without_bits side h) tt words halves in
     record {
-      apart = rest.apart;
       lines = λ text. rest.lines text 2;
       assembles = assembles_alone None (map (word_member None side) words) (length words) (word_lines side 2 words) some
           (rest.names [] [] 0 2 ∙ rw (from_zero (length words)) refl)
@@ -195,8 +162,7 @@ program_of false side words h fits some few halves =
     let rest = lines_of side (Some side) (λ v d f field. field) h words halves in
     let low : side.count < 100 = omega arith in
     record {
-      apart = side_set_apart side (all_lines (map (line_pieces side) words)) low rest.apart;
-      lines = λ text. (side_set_open side, refl, side_set_parses text 2 side, rest.lines text 3);
+      lines = λ text. (side_set_apart side low, refl, side_set_parses text 2 side, rest.lines text 3);
       assembles = assembles_alone (Some side) (map (word_member (Some side) side) words) (length words) (line_with 2 (SideSetStatement (number_terms side.count) side.opt side.pindirs) ∷ word_lines side 3 words) some
           (rest.names [] [] 0 3 ∙ rw (from_zero (length words)) refl)
           (lines_step [] [] (length words) (line_with 2 (SideSetStatement (number_terms side.count) side.opt side.pindirs)) (word_lines side 3 words) (built [] None) (built [] (Some side)) (side_set_assembles [] [] (length words) 2 side fits)
@@ -229,11 +195,11 @@ reads_back : (b : Bool) (side : SideConfig) (words : List ℕ) → ((side.count 
 reads_back b side words h fits some few halves =
     let program = program_of b side words h fits some few halves in
     let pieces : program_lines side words ≡ side_set_lines b side ++ map (line_pieces side) words = rw h refl in
-    let text : source_text side words ≡ header ++ joined (all_lines (side_set_lines b side ++ map (line_pieces side) words)) = sym (source_is side words) ∙ rw pieces refl in
+    let text : source_text side words ≡ header ++ joined_lines (side_set_lines b side ++ map (line_pieces side) words) = sym (source_is side words) ∙ rw pieces refl in
     record {
       source = source_of_lines (lines_if b side words);
       plan = plan_of (codes "code") (built (map (word_member (set_if b side) side) words) (set_if b side));
-      parses = (parses_grammar (source_text side words) (source_of_lines (lines_if b side words))).0 (ap parsed text ∙ program_parses (side_set_lines b side ++ map (line_pieces side) words) (lines_if b side words) program.apart (program.lines (header ++ joined (all_lines (side_set_lines b side ++ map (line_pieces side) words)))));
+      parses = (parses_grammar (source_text side words) (source_of_lines (lines_if b side words))).0 (ap parsed text ∙ program_parses (side_set_lines b side ++ map (line_pieces side) words) (lines_if b side words) (program.lines (header ++ joined_lines (side_set_lines b side ++ map (line_pieces side) words))));
       assembles = program.assembles;
       same_words = program.stand;
       no_others = λ others are. same_words (map (word_member (set_if b side) side) words) words others program.stand are;

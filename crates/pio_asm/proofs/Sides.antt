@@ -1,10 +1,6 @@
 use Rattle.std.proofs.Common.{◌≡◌, ◌==◌, ◌&&◌, ◌||◌, not, ℕ, ◌+◌, ◌-◌, ◌^◌, ◌<◌, ◌≤◌, Bool, true, false, None, Some, MatchBool, cond, subst, arith, inl, inr}
-use Rattle.std.proofs.lemmas.Bool.Decides.{eqb_tells}
+use Rattle.pio_asm.proofs.Shared.{eqb_tells, SideConfig, bit, FitsOptionalSide, FitsPlainSide, FitsSide, IsConfig, delay_bits, greatest, side_value_of}
 use Rattle.std.proofs.lemmas.Nat.{pow_pos}
-use Rattle.pio_words.specs.declared.side.SideConfig.{SideConfig}
-use Rattle.pio_words.specs.Operation.{bit}
-use Rattle.pio_asm.specs.Fits.{FitsOptionalSide, FitsPlainSide, FitsSide}
-use Rattle.pio_asm.specs.Plan.{IsConfig, delay_bits, greatest, side_value_of}
 
 below : (b n : ℕ) → n ≤ greatest b → n < 2 ^ b
 below b n le = omega (arith, pow_pos b)

@@ -1,13 +1,7 @@
 -- The first fault of a source file.
 use Rattle.std.proofs.Common.{◌≡◌, List, ℕ, Ok, Err, ap}
-use Rattle.pio_parse.specs.declared.syntax.Source.{Source}
-use Rattle.pio_parse.specs.declared.fault.PioFault.{PioFault}
-use Rattle.pio_parse.specs.declared.fault.PioFault.TheVariants.{Char, Syntax, Memory}
-use Rattle.pio_parse.specs.Files.{IsFault, IsSource}
+use Rattle.pio_asm.proofs.Shared.{Source, PioFault, Char, Syntax, Memory, IsFault, IsSource, one_answer, reader, IsFaultOf, assembled, plans_in, plans_of}
 use Rattle.pio_parse.specs.Files.EarlyFault.{CharAt, SyntaxAt}
-use Rattle.pio_parse.proofs.Readers.{one_answer, reader}
-use Rattle.pio_asm.specs.Assembly.{IsFaultOf, assembled}
-use Rattle.pio_asm.specs.Listing.{plans_in, plans_of}
 
 -- a fault of the characters or tokens is the file's
 pub early_fault_of : (bytes : List ℕ) (fault : PioFault) → IsFault bytes fault → IsFaultOf (plans_of bytes) fault

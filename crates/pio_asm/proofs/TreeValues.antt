@@ -1,16 +1,8 @@
 -- The terms of a tree leave its value on the stack.
 use Rattle.std.proofs.Common.{◌≡◌, ◌||◌, not, ℕ, ℤ, pos, ◌+ℤ◌, ◌-ℤ◌, ◌*ℤ◌, neg_ℤ, nat_le, Bool, true, false, if◌then◌else◌, List, [], ◌∷◌, ◌++◌, Option, None, Some, arith, refl, sym, ap, ◌∙◌, append_assoc, append-nil}
-use Rattle.std.specs.Option.{option_map}
-use Rattle.std.proofs.lemmas.Int.{ints}
-use Rattle.pio_parse.specs.declared.expression.Operator.{Operator}
-use Rattle.pio_parse.specs.declared.expression.Operator.TheVariants.{Add, Subtract, Multiply, Negate as NegateOperator, Reverse as ReverseOperator}
-use Rattle.pio_parse.specs.declared.expression.Term.{Term}
-use Rattle.pio_parse.specs.declared.expression.Term.TheVariants.{Operator as OperatorTerm}
+use Rattle.pio_asm.proofs.Shared.{option_map, ints, Operator, Add, Subtract, Multiply, Negate as NegateOperator, ReverseOperator, Term, OperatorTerm, Evaluation, Names, bounded, evaluation_of, is_in_bounds, name_step, number_step, operator_step, outcome_of, reversed_bits, value_in, with_result}
 use Rattle.pio_parse.specs.Grammar.{Expr, postfix}
 use Rattle.pio_parse.specs.Grammar.Expr.{Number, Name, Negate, Reverse, Sum, Difference, Product}
-use Rattle.pio_asm.specs.declared.value.Evaluation.{Evaluation}
-use Rattle.pio_asm.specs.Symbols.{Names}
-use Rattle.pio_asm.specs.Value.{bounded, evaluation_of, is_in_bounds, name_step, number_step, operator_step, outcome_of, reversed_bits, value_in, with_result}
 use Rattle.pio_asm.specs.Tree.{ValuesOfTrees, is_undefined, leaves_bounds, one_leaves, tree_value, two_leave, uses_undefined, value_of_name, value_of_one, value_of_two}
 
 -- the outcome of a step, by the test of its bounds

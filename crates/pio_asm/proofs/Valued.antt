@@ -1,19 +1,6 @@
 use Rattle.std.proofs.Common.{◌≡◌, ℕ, ℤ, ◌∷◌, List, [], Bool, true, false, cond, Option, None, Some, refl, sym, ◌∙◌, inl, inr}
-use Rattle.std.specs.Prelude.{is_some, ◌⊎◌, ⊤}
+use Rattle.pio_asm.proofs.Shared.{is_some, ◌⊎◌, ⊤, Operator, Add, Subtract, Multiply, Negate, ReverseOperator as Reverse, Term, Number, Name, OperatorTerm, Evaluation, Evaluated, Field, Modifier, found, Names, AllValued, after_binary, after_unary, binary_step, evaluated, evaluation_of, name_step, one_operand, operator_step, rest_of, term_step, top_of, two_operands, unary_step, value_in, with_result, field_by, field_in, field_with, number_within, modifier_by, modifier_in, modifier_with, polarity_in}
 use Rattle.std.specs.Str.{bytes_eq}
-use Rattle.pio_parse.specs.declared.expression.Operator.{Operator}
-use Rattle.pio_parse.specs.declared.expression.Operator.TheVariants.{Add, Subtract, Multiply, Negate, Reverse}
-use Rattle.pio_parse.specs.declared.expression.Term.{Term}
-use Rattle.pio_parse.specs.declared.expression.Term.TheVariants.{Number, Name, Operator as OperatorTerm}
-use Rattle.pio_asm.specs.declared.value.Evaluation.{Evaluation}
-use Rattle.pio_asm.specs.declared.value.Evaluated.{Evaluated}
-use Rattle.pio_asm.specs.declared.operand.Field.{Field}
-use Rattle.pio_asm.specs.declared.operand.Modifier.{Modifier}
-use Rattle.source_text.specs.Symbols.{found}
-use Rattle.pio_asm.specs.Symbols.{Names}
-use Rattle.pio_asm.specs.Kept.{AllValued}
-use Rattle.pio_asm.specs.Value.{after_binary, after_unary, binary_step, evaluated, evaluation_of, name_step, one_operand, operator_step, rest_of, term_step, top_of, two_operands, unary_step, value_in, with_result}
-use Rattle.pio_asm.specs.Operand.{field_by, field_in, field_with, number_within, modifier_by, modifier_in, modifier_with, polarity_in}
 
 pub option_cases : {X : Type 0} (o : Option X) → (o ≡ None) ⊎ ((x : X) × (o ≡ Some x))
 option_cases None = inl refl

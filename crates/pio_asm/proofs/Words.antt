@@ -1,18 +1,7 @@
 use Rattle.std.proofs.Common.{◌≡◌, ℕ, ◌+◌, ◌-◌, ◌*◌, ◌/◌, ◌%◌, ◌^◌, ◌<◌, ◌≤◌, Bool, true, false, Option, None, Some, MatchBool, refl, arith, lit<}
-use Rattle.pio_words.specs.declared.op.WaitSource.{WaitSource}
-use Rattle.pio_words.specs.declared.op.WaitSource.TheVariants.{Gpio, Pin, Irq as WaitIrq}
-use Rattle.pio_words.specs.declared.op.PioOp.{PioOp}
-use Rattle.pio_words.specs.declared.op.PioOp.TheVariants.{Jmp, Wait, In, Out, Push, Pull, Mov, Irq, Set, Reserved}
-use Rattle.pio_words.specs.declared.side.SideConfig.{SideConfig}
-use Rattle.pio_words.specs.Table.{entry}
-use Rattle.pio_words.specs.MovOperation.{mov_operations}
-use Rattle.pio_words.specs.MovSource.{mov_sources}
-use Rattle.pio_words.specs.Operation.{HasFields, bit}
-use Rattle.pio_words.specs.Side.{IsOptionalSide, IsPlainSide, IsSideField}
+use Rattle.pio_asm.proofs.Shared.{WaitSource, Gpio, Pin, Flag as WaitIrq, PioOp, Jmp, Wait, In, Out, Push, Pull, Mov, Irq, Set, Reserved, SideConfig, entry, mov_operations, mov_sources, HasFields, bit, IsOptionalSide, IsPlainSide, IsSideField, scaled-lt, FitsOptionalSide, FitsPlainSide, FitsSide, IsInRange, IsWaitInRange}
 use Rattle.pio_words.specs.Word.{IsWord}
-use Rattle.pio_words.proofs.Scaled.{scaled-lt}
 use Rattle.std.proofs.Math.Pow.{pow_mono}
-use Rattle.pio_asm.specs.Fits.{FitsOptionalSide, FitsPlainSide, FitsSide, IsInRange, IsWaitInRange}
 use Rattle.pio_asm.proofs.Codes.{conditions-code, in_sources-code, out_destinations-code, mov_destinations-code, mov_operations-code, mov_sources-code, set_destinations-code}
 
 -- an operation has three fields of a word

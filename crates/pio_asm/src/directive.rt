@@ -17,20 +17,14 @@ use pio_words::SideConfig;
 fn fits_not(low: u8, high: u8, value: Value) -> bool
     ensures { result ≡ misfits low high value }
 {
-    match value {
-        None => false,
-        Some(value) => small_number(value, low, high).is_none(),
-    }
+    value.is_some() && fitting_number(low, high, value).is_none()
 }
 
 fn fitting_number(low: u8, high: u8, value: Value) -> Option<u8>
     ensures value { result ≡ fitting low high value }
     ensures inside { IfSome result (λ n. n ≤ high) }
 {
-    match value {
-        None => None,
-        Some(value) => small_number(value, low, high),
-    }
+    small_number(value?, low, high)
 }
 
 /// `.define name value`.
@@ -71,10 +65,7 @@ fn is_past_end(total: usize, origin: Option<u8>) -> bool
 {
     match origin {
         None => false,
-        Some(origin) => {
-            let room = (32 - origin) as usize;
-            room < total
-        }
+        Some(origin) => ((32 - origin) as usize) < total,
     }
 }
 

@@ -25,12 +25,10 @@ pub(crate) fn add_name<'a>(
 ) -> Result<(), AllocError>
     ensures { OnOk result (seen.new ≡ with_name globals.now seen.old name.now value) }
 {
-    match seen.get(name) {
-        Some(_) => Ok(()),
-        None => match globals.get(name) {
-            Some(_) => Ok(()),
-            None => seen.put(name, value),
-        },
+    if has_name(seen, globals, name) {
+        Ok(())
+    } else {
+        seen.put(name, value)
     }
 }
 

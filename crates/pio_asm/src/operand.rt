@@ -85,24 +85,17 @@ fn field_for(evaluated: Evaluated, low: u8, high: u8) -> Field
         unknown,
         outside,
     } = evaluated;
-    match value {
-        None => Field {
-            value: None,
-            unknown,
-            range: outside,
-        },
+    let (value, range) = match value {
+        None => (None, outside),
         Some(value) => match small_number(value, low, high) {
-            Some(number) => Field {
-                value: Some(number),
-                unknown,
-                range: outside,
-            },
-            None => Field {
-                value: None,
-                unknown,
-                range: true,
-            },
+            None => (None, true),
+            number => (number, outside),
         },
+    };
+    Field {
+        value,
+        unknown,
+        range,
     }
 }
 
@@ -147,30 +140,19 @@ fn modifier_for(evaluated: Evaluated, greatest: u8) -> Modifier
         unknown,
         outside,
     } = evaluated;
-    match value {
-        None => Modifier {
-            value: 0,
-            lost: true,
-            unknown,
-            outside,
-            fault: false,
-        },
+    let (value, lost, fault) = match value {
+        None => (0, true, false),
         Some(value) => match small_number(value, 0, greatest) {
-            Some(value) => Modifier {
-                value,
-                lost: false,
-                unknown,
-                outside,
-                fault: false,
-            },
-            None => Modifier {
-                value: 0,
-                lost: false,
-                unknown,
-                outside,
-                fault: true,
-            },
+            Some(value) => (value, false, false),
+            None => (0, false, true),
         },
+    };
+    Modifier {
+        value,
+        lost,
+        unknown,
+        outside,
+        fault,
     }
 }
 

@@ -40,15 +40,12 @@ fn plan_wait(polarity: Field, source: Option<WaitSource>, number: Field) -> Plan
     ensures value { result ≡ waited polarity source number }
     ensures fits { IfSome result.op IsInRange }
 {
-    let op = match polarity.value {
-        None => None,
-        Some(polarity) => match source {
-            None => None,
-            Some(source) => Some(PioOp::Wait {
-                polarity: polarity == 1,
-                source,
-            }),
-        },
+    let op = match (polarity.value, source) {
+        (Some(polarity), Some(source)) => Some(PioOp::Wait {
+            polarity: polarity == 1,
+            source,
+        }),
+        _ => None,
     };
     Planned {
         op,
@@ -63,10 +60,7 @@ fn wait_for_irq(number: Option<u8>, relative: bool) -> Option<WaitSource>
         (λ n. WaitSource.Irq (record { number = n; relative = relative })) number }
     ensures fits { IfSome result IsWaitInRange }
 {
-    match number {
-        None => None,
-        Some(number) => Some(WaitSource::Irq(IrqIndex { number, relative })),
-    }
+    number.map(|number| WaitSource::Irq(IrqIndex { number, relative }))
 }
 
 fn wait_for_pin(number: Option<u8>, is_gpio: bool) -> Option<WaitSource>
@@ -172,14 +166,11 @@ fn plan_irq(
     ensures fits { IfOk result (λ p. IfSome p.op IsInRange) }
 {
     let field = read_field(scope, number, 0, 7)?;
-    let op = match field.value {
-        None => None,
-        Some(number) => Some(PioOp::Irq {
-            clear,
-            wait,
-            index: IrqIndex { number, relative },
-        }),
-    };
+    let op = field.value.map(|number| PioOp::Irq {
+        clear,
+        wait,
+        index: IrqIndex { number, relative },
+    });
     Ok(plan(op, field))
 }
 

@@ -1,7 +1,7 @@
 //! The value of an expression.
 
-ghost use Rattle.std.specs.Prelude.{◌≡◌, ◌∷◌, [], ℕ, ◌+ℤ◌, ◌-ℤ◌, ◌*ℤ◌, neg_ℤ, OnOk, IfOk};
-ghost use Rattle.pio_asm.specs.Value.{bounded, bounded_option, evaluated, is_in_bounds, name_step, number_step, one_operand, operator_step, rest_of, reversed_bits, term_step, top_of, two_operands, unary_step, binary_step, value_in, with_result};
+ghost use Rattle.std.specs.Prelude.{◌≡◌, ◌∷◌, [], OnOk, IfOk};
+ghost use Rattle.pio_asm.specs.Value.{bounded_option, evaluated, is_in_bounds, name_step, number_step, one_operand, operator_step, rest_of, reversed_bits, term_step, top_of, two_operands, unary_step, binary_step, value_in, with_result};
 
 use crate::symbols::{Symbols, Value};
 use pio_parse::{Operator, Term};
@@ -84,34 +84,6 @@ fn within(value: Option<i64>) -> Option<i64>
     }
 }
 
-#[tactic(auto, using(crate::proofs::Bounds::checked_bounded))]
-fn sum(x: i64, y: i64) -> Option<i64>
-    ensures { result ≡ bounded (x +ℤ y) }
-{
-    within(x.checked_add(y))
-}
-
-#[tactic(auto, using(crate::proofs::Bounds::checked_bounded))]
-fn difference(x: i64, y: i64) -> Option<i64>
-    ensures { result ≡ bounded (x -ℤ y) }
-{
-    within(x.checked_sub(y))
-}
-
-#[tactic(auto, using(crate::proofs::Bounds::checked_bounded))]
-fn product(x: i64, y: i64) -> Option<i64>
-    ensures { result ≡ bounded (x *ℤ y) }
-{
-    within(x.checked_mul(y))
-}
-
-#[tactic(auto, using(crate::proofs::Bounds::checked_bounded))]
-fn negated(x: i64) -> Option<i64>
-    ensures { result ≡ bounded (neg_ℤ x) }
-{
-    within(x.checked_neg())
-}
-
 /// The low 32 bits in reverse order.
 fn reversed(x: i64) -> i64
     ensures { result ≡ reversed_bits x }
@@ -131,22 +103,24 @@ fn add_result(evaluation: &mut Evaluation, outcome: Option<i64>) -> Result<(), A
     Ok(())
 }
 
+#[tactic(auto, using(crate::proofs::Bounds::checked_bounded))]
 fn apply_one(operator: Operator, x: i64) -> Option<i64>
     ensures { result ≡ one_operand operator x }
 {
     match operator {
-        Operator::Negate => negated(x),
+        Operator::Negate => within(x.checked_neg()),
         _ => Some(reversed(x)),
     }
 }
 
+#[tactic(auto, using(crate::proofs::Bounds::checked_bounded))]
 fn apply_two(operator: Operator, x: i64, y: i64) -> Option<i64>
     ensures { result ≡ two_operands operator x y }
 {
     match operator {
-        Operator::Add => sum(x, y),
-        Operator::Subtract => difference(x, y),
-        _ => product(x, y),
+        Operator::Add => within(x.checked_add(y)),
+        Operator::Subtract => within(x.checked_sub(y)),
+        _ => within(x.checked_mul(y)),
     }
 }
 
@@ -166,12 +140,9 @@ fn take_binary(evaluation: &mut Evaluation, operator: Operator) -> Result<(), Al
 {
     let y = evaluation.stack.pop();
     let x = evaluation.stack.pop();
-    match x {
-        Some(x) => match y {
-            Some(y) => add_result(evaluation, apply_two(operator, x, y)),
-            None => evaluation.stack.push(None),
-        },
-        None => evaluation.stack.push(None),
+    match (x, y) {
+        (Some(x), Some(y)) => add_result(evaluation, apply_two(operator, x, y)),
+        _ => evaluation.stack.push(None),
     }
 }
 

@@ -1,48 +1,10 @@
 -- Each part of a line of the grammar is read as it stands there, where the line goes on as the grammar has it.
 use Rattle.std.proofs.Common.{◌≡◌, Bool, true, false, if◌then◌else◌, ℕ, List, ◌∷◌, Option, Some, None, Ok, refl, ap, ◌∙◌}
-use mathlib.Core.Bool.{false≢true}
-use Rattle.pio_words.specs.declared.op.JmpCondition.{JmpCondition}
-use Rattle.pio_words.specs.declared.op.JmpCondition.TheVariants.{Always}
-use Rattle.pio_words.specs.declared.op.MovOperation.{MovOperation}
+use Rattle.pio_parse.proofs.Names.{false≢true, JmpCondition, Always, MovOperation, Span, Token, Keyword, Pindirs, Side, Block, NoBlock, Public, TokenKind, Name, Number, KeywordToken, Comma, OpenBracket, OpenParenthesis, LineEnd, FileEnd, Term, Operation, Statement, InstructionStatement, map_ok, Outcome, after_head, head_kind, expression_at, operand_at, Expr, IsSum, postfix, mov_source_of, block_at, block_of, delay_at, irq_mode_at, irq_mode_of, is_comma, is_if_empty, is_if_full, is_open_bracket, is_rel, is_side, jmp_condition_at, jmp_condition_of, last_operand_at, modified_at, modifiers_at, mov_operation_at, past_comma, polarity_at, polarity_of, side_at, begins_label, is_opt, is_pindirs, label_at, statement_at, statement_of_kind, IsBlock, IsCondition, IsDelay, IsIrqMode, IsJmpCondition, IsLabel, IsLastValue, IsModifiers, IsMovOperation, IsOperation, IsPolarity, IsProgram, IsSetting, IsSide, IsStatement, IsValue, MayStand, stands, missing, number_value as number, name_value as name, parentheses_value as parentheses, last_value, x_zero, x_decrement, y_zero, y_decrement, x_not_y, pin, osr_not_empty, always, condition, no_polarity, polarity, block, noblock, no_word, plain, invert, tilde_source as tilde, reverse_source as reverse, no_mode, set_mode, nowait, wait_mode, clear_mode, jmp, wait_gpio, wait_pin, wait_irq, in_, out, push, pull, mov, irq, set, nop, no_side, side, no_delay, delay, side_first, delay_first, define, lang_opt, pio_version, program_line, nothing_said as nothing, setting, program, origin, side_set, wrap_target, wrap, word_statement as word, instruction, no_label, label}
 use Rattle.pio_words.specs.declared.op.MovSource.{MovSource}
-use Rattle.pio_parse.specs.declared.token.Span.{Span}
-use Rattle.pio_parse.specs.declared.token.Token.{Token}
-use Rattle.pio_parse.specs.declared.token.Keyword.{Keyword}
-use Rattle.pio_parse.specs.declared.token.Keyword.TheVariants.{Pindirs, Side, Block, NoBlock}
-use Rattle.pio_parse.specs.declared.token.TokenKind.{TokenKind}
-use Rattle.pio_parse.specs.declared.token.TokenKind.TheVariants.{Name, Number, Keyword as KeywordToken, Comma, OpenBracket, OpenParenthesis, LineEnd, FileEnd}
-use Rattle.pio_parse.specs.declared.expression.Term.{Term}
-use Rattle.pio_parse.specs.declared.syntax.Operation.{Operation}
-use Rattle.pio_parse.specs.declared.syntax.Statement.{Statement}
-use Rattle.pio_parse.specs.declared.syntax.Statement.TheVariants.{Instruction as InstructionStatement}
-use Rattle.source_text.specs.Outcome.{map_ok}
-use Rattle.pio_parse.specs.descent.Cursor.{Outcome, after_head}
-use Rattle.pio_parse.specs.Tokens.{head_kind}
-use Rattle.pio_parse.specs.descent.Expression.{expression_at, operand_at}
-use Rattle.pio_parse.specs.Grammar.{Expr, IsSum, postfix}
-use Rattle.pio_parse.specs.Registers.{mov_source_of}
-use Rattle.pio_parse.specs.descent.Instruction.{block_at, block_of, delay_at, irq_mode_at, irq_mode_of, is_comma, is_if_empty, is_if_full, is_open_bracket, is_rel, is_side, jmp_condition_at, jmp_condition_of, last_operand_at, modified_at, modifiers_at, mov_operation_at, past_comma, polarity_at, polarity_of, side_at}
-use Rattle.pio_parse.specs.descent.Statement.{begins_label, is_opt, is_pindirs, label_at, statement_at, statement_of_kind}
+use Rattle.pio_parse.proofs.Tests.{refused}
 use Rattle.pio_parse.proofs.Finds.{is_none_left, reads}
 use Rattle.pio_parse.proofs.Extents.{ends_sum}
-use Rattle.pio_parse.specs.Lines.{IsBlock, IsCondition, IsDelay, IsIrqMode, IsJmpCondition, IsLabel, IsLastValue, IsModifiers, IsMovOperation, IsOperation, IsPolarity, IsProgram, IsSetting, IsSide, IsStatement, IsValue, MayStand}
-use Rattle.pio_parse.specs.Lines.MayStand.{stands, missing}
-use Rattle.pio_parse.specs.Lines.IsValue.{number, name, parentheses}
-use Rattle.pio_parse.specs.Lines.IsLastValue.{last_value}
-use Rattle.pio_parse.specs.Lines.IsCondition.{x_zero, x_decrement, y_zero, y_decrement, x_not_y, pin, osr_not_empty}
-use Rattle.pio_parse.specs.Lines.IsJmpCondition.{always, condition}
-use Rattle.pio_parse.specs.Lines.IsPolarity.{no_polarity, polarity}
-use Rattle.pio_parse.specs.Lines.IsBlock.{block, noblock, no_word}
-use Rattle.pio_parse.specs.Lines.IsMovOperation.{plain, invert, tilde, reverse}
-use Rattle.pio_parse.specs.Lines.IsIrqMode.{no_mode, set as set_mode, nowait, wait as wait_mode, clear as clear_mode}
-use Rattle.pio_parse.specs.Lines.IsOperation.{jmp, wait_gpio, wait_pin, wait_irq, in_, out, push, pull, mov, irq, set, nop}
-use Rattle.pio_parse.specs.Lines.IsSide.{no_side, side}
-use Rattle.pio_parse.specs.Lines.IsDelay.{no_delay, delay}
-use Rattle.pio_parse.specs.Lines.IsModifiers.{side_first, delay_first}
-use Rattle.pio_parse.specs.Lines.IsSetting.{define, lang_opt, pio_version}
-use Rattle.pio_parse.specs.Lines.IsProgram.{program as program_line}
-use Rattle.pio_parse.specs.Lines.IsStatement.{nothing, setting, program, origin, side_set, wrap_target, wrap, word, instruction}
-use Rattle.pio_parse.specs.Lines.IsLabel.{no_label, label}
 use Rattle.pio_parse.proofs.Expressions.{no_operator}
 
 -- the end of a line comes next
@@ -149,12 +111,18 @@ no_opt missing e = at_end is_opt false refl refl e
 abbrev onwards : List ℕ → Operation → List Token → Outcome (Option Statement)
 onwards text operation tokens = map_ok (λ instruction. (Some (InstructionStatement instruction.0), instruction.1)) (modified_at text operation tokens)
 
+-- what is read as a statement begins with no label
+pub unlabelled : (text : List ℕ) (kind : TokenKind) (tokens : List Token) (x : Option Statement × List Token) → statement_of_kind text kind tokens ≡ Ok x → begins_label kind ≡ false
+unlabelled text (Name span) tokens x q = absurd (refused q)
+unlabelled text (KeywordToken Public) tokens x q = absurd (refused q)
+unlabelled text kind tokens x q = refl
+
 module _ {text : List ℕ} where
   expression_is : {tokens rest : List Token} {tree : Expr} → IsSum text tokens tree rest → Over rest → expression_at text tokens ≡ Ok (postfix tree, rest)
   expression_is {tokens = tokens} {tree = tree} sum (over {tokens = further} {token = token} h) =
       reads text tokens tree (token ∷ further) (sum, no_operator token.kind h, λ q. false≢true (ap is_none_left q))
 
-  value_is : {tokens rest : List Token} {value : List Term} → IsValue text tokens value rest → operand_at text tokens ≡ Ok (value, rest)
+  pub value_is : {tokens rest : List Token} {value : List Term} → IsValue text tokens value rest → operand_at text tokens ≡ Ok (value, rest)
   value_is (number is) = rw is refl
   value_is (name is) = rw is refl
   value_is (parentheses is sum close) = rw (is, expression_is sum (over (ap ends_sum close)), close) refl
@@ -250,40 +218,6 @@ module _ {text : List ℕ} where
   statement_is (wrap w) e = rw w refl
   statement_is (word w sum) e = rw (w, expression_is sum (over_end e)) refl
   statement_is (instruction is modifiers) e = operation_is is (modifiers_close modifiers e) ∙ rw (modifiers_are modifiers e) refl
-
-  -- a statement begins with no label
-  operation_word : {tokens rest : List Token} {operation : Operation} → IsOperation text tokens operation rest → begins_label (head_kind tokens) ≡ false
-  operation_word (jmp w c v) = ap begins_label w
-  operation_word (wait_gpio w p k v) = ap begins_label w
-  operation_word (wait_pin w p k v) = ap begins_label w
-  operation_word (wait_irq w p k v may) = ap begins_label w
-  operation_word (in_ w k v) = ap begins_label w
-  operation_word (out w k v) = ap begins_label w
-  operation_word (push w may b) = ap begins_label w
-  operation_word (pull w may b) = ap begins_label w
-  operation_word (mov w to may operation from) = ap begins_label w
-  operation_word (irq w mode v may) = ap begins_label w
-  operation_word (set w k v) = ap begins_label w
-  operation_word (nop w) = ap begins_label w
-
-  setting_word : {tokens rest : List Token} {s : Option Statement} → IsSetting text tokens s rest → begins_label (head_kind tokens) ≡ false
-  setting_word (define w may n sum) = ap begins_label w
-  setting_word (lang_opt w) = ap begins_label w
-  setting_word (pio_version w z) = ap begins_label w
-
-  program_word : {tokens rest : List Token} {s : Option Statement} → IsProgram text tokens s rest → begins_label (head_kind tokens) ≡ false
-  program_word (program_line w n) = ap begins_label w
-
-  pub statement_word : {tokens rest : List Token} {s : Option Statement} → IsStatement text tokens s rest → Ending rest → begins_label (head_kind tokens) ≡ false
-  statement_word nothing e = at_end begins_label false refl refl e
-  statement_word (setting is) e = setting_word is
-  statement_word (program is) e = program_word is
-  statement_word (origin w sum) e = ap begins_label w
-  statement_word (side_set w sum opt pindirs) e = ap begins_label w
-  statement_word (wrap_target w) e = ap begins_label w
-  statement_word (wrap w) e = ap begins_label w
-  statement_word (word w sum) e = ap begins_label w
-  statement_word (instruction is modifiers) e = operation_word is
 
   pub label_is : {tokens rest : List Token} {mark : Option (List ℕ)} → IsLabel text tokens mark rest → begins_label (head_kind rest) ≡ false → label_at text tokens ≡ Ok (mark, rest)
   label_is no_label h = rw h refl

@@ -1,19 +1,6 @@
 -- At the front of characters stands a lexeme, or none: so each file has its tokens or its first fault, and no other.
 use Rattle.std.proofs.Common.{◌≡◌, ◌==◌, ◌&&◌, ◌||◌, ℕ, zero, suc, ◌+◌, ◌<◌, ◌≤◌, Bool, true, false, List, [], ◌∷◌, ◌++◌, length, Option, None, Some, Result, Ok, Err, append_assoc, length-append, ◌⊎◌, inl, inr, arith, refl, sym, ap, ◌∙◌, subst}
-use Rattle.std.proofs.lemmas.Bool.{cases_Bool}
-use Rattle.source_text.specs.declared.position.SourcePosition.{SourcePosition}
-use Rattle.pio_parse.specs.declared.token.Token.{Token}
-use Rattle.pio_parse.specs.declared.token.TokenKind.{TokenKind}
-use Rattle.pio_parse.specs.declared.token.TokenKind.TheVariants.{Comma, Colon, DoubleColon, OpenBracket, CloseBracket, OpenParenthesis, CloseParenthesis, Plus, Minus, Star, Bang, NotEqual, Tilde, LineEnd, FileEnd}
-use Rattle.source_text.specs.Characters.{is_word_char}
-use Rattle.pio_parse.specs.descent.Scan.{scanned}
-use Rattle.pio_parse.specs.Lexical.{AreLexemes, IsCharFaultAt, IsLexed, IsLexeme, IsMisplaced, StopsAt, are_word_chars, begins_by, ends_line, ends_word, has_name, is_option, is_word, lacks, lacks_pair, tokens_at, word_at}
-use Rattle.source_text.specs.Position.{first_position, moved, past}
-use Rattle.pio_parse.specs.Lexical.IsLexeme.{space, tab, carriage_return, line_end, comma, open_bracket, close_bracket, open_parenthesis, close_parenthesis, plus, minus, star, tilde, colon, double_colon, bang, not_equal, word, option, semicolon, slashes, comment, code_block}
-use Rattle.pio_parse.specs.Lexical.AreLexemes.{nothing, lexeme}
-use Rattle.pio_parse.specs.Lexical.IsMisplaced.{other, slash, open_comment, percent, open_block}
-use Rattle.pio_parse.specs.Lexical.StopsAt.{none_here, after_lexeme}
-use Rattle.pio_parse.specs.Laws.{CharFaultsAtFirst, LexesExactly}
+use Rattle.pio_parse.proofs.Names.{cases_Bool, SourcePosition, Token, TokenKind, Comma, Colon, DoubleColon, OpenBracket, CloseBracket, OpenParenthesis, CloseParenthesis, Plus, Minus, Star, BangToken as Bang, NotEqual, Tilde, LineEnd, FileEnd, is_word_char, scanned, AreLexemes, IsCharFaultAt, IsLexed, IsLexeme, IsMisplaced, StopsAt, are_word_chars, begins_by, ends_text_line as ends_line, ends_word, has_name, is_option, is_word, lacks, lacks_pair, tokens_at, word_at, first_position, moved, past, space, tab, carriage_return, line_end, comma, open_bracket, close_bracket, open_parenthesis, close_parenthesis, plus_lexeme as plus, minus, star, tilde, colon, double_colon, bang, not_equal, word, option, semicolon, slashes, comment, code_block, nothing, lexeme, other, slash, open_comment, percent, open_block, none_here, after_lexeme, CharFaultsAtFirst, LexesExactly}
 use Rattle.pio_parse.proofs.Tests.{both, first_of, is_or, neither}
 use Rattle.pio_parse.proofs.Lexemes.{reads_lexemes, reads_stop}
 
@@ -34,35 +21,34 @@ split index chars rest token all is whole some =
 one : (index c : ℕ) (rest : List ℕ) (token : Option TokenKind) → IsLexeme index (c ∷ []) rest token → Split index (c ∷ rest)
 one index c rest token is = split index (c ∷ []) rest token (c ∷ rest) is refl (omega arith)
 
-record WordSpan (cs : List ℕ) : Type 0 where
-  word_chars : List ℕ
+-- characters with `P`, behind which stands `Q`
+record Span (P Q : List ℕ → Type 0) (cs : List ℕ) : Type 0 where
+  chars : List ℕ
   rest : List ℕ
-  whole : word_chars ++ rest ≡ cs
-  all : are_word_chars word_chars ≡ true
-  ends : ends_word rest ≡ true
+  whole : chars ++ rest ≡ cs
+  all : P chars
+  ends : Q rest
 
-word_more : (c : ℕ) (cs : List ℕ) (b : Bool) → is_word_char c ≡ b → WordSpan cs → WordSpan (c ∷ cs)
-word_more c cs true h s = record { word_chars = c ∷ s.word_chars; rest = s.rest; whole = ap (λ xs. c ∷ xs) s.whole; all = rw h s.all; ends = s.ends }
-word_more c cs false h s = record { word_chars = []; rest = c ∷ cs; whole = refl; all = refl; ends = rw h refl }
+module _ (P Q : List ℕ → Type 0) (none : P []) (over : Q []) (next : (c : ℕ) (cs : List ℕ) → ((chars : List ℕ) → P chars → P (c ∷ chars)) ⊎ Q (c ∷ cs)) where
+  span_more : (c : ℕ) (cs : List ℕ) → Span P Q cs → ((chars : List ℕ) → P chars → P (c ∷ chars)) ⊎ Q (c ∷ cs) → Span P Q (c ∷ cs)
+  span_more c cs s (inl more) = record { chars = c ∷ s.chars; rest = s.rest; whole = ap (λ xs. c ∷ xs) s.whole; all = more s.chars s.all; ends = s.ends }
+  span_more c cs s (inr here) = record { chars = []; rest = c ∷ cs; whole = refl; all = none; ends = here }
+
+  span : (cs : List ℕ) → Span P Q cs
+  span [] = record { chars = []; rest = []; whole = refl; all = none; ends = over }
+  span (c ∷ cs) = span_more c cs (span cs) (next c cs)
+
+abbrev WordSpan : List ℕ → Type 0
+WordSpan cs = Span (λ cs. are_word_chars cs ≡ true) (λ cs. ends_word cs ≡ true) cs
 
 word_span : (cs : List ℕ) → WordSpan cs
-word_span [] = record { word_chars = []; rest = []; whole = refl; all = refl; ends = refl }
-word_span (c ∷ cs) = word_more c cs (is_word_char c) refl (word_span cs)
+word_span cs = span _ _ refl refl (λ c cs. elim (cases_Bool (is_word_char c)) [ inl h ↦ inl (λ chars all. rw h all) | inr h ↦ inr (rw h refl) ]) cs
 
-record LineSpan (cs : List ℕ) : Type 0 where
-  line : List ℕ
-  rest : List ℕ
-  whole : line ++ rest ≡ cs
-  lack : lacks 10 line ≡ true
-  ends : ends_line rest ≡ true
-
-line_more : (c : ℕ) (cs : List ℕ) (b : Bool) → (c == 10) ≡ b → LineSpan cs → LineSpan (c ∷ cs)
-line_more c cs true h s = record { line = []; rest = c ∷ cs; whole = refl; lack = refl; ends = h }
-line_more c cs false h s = record { line = c ∷ s.line; rest = s.rest; whole = ap (λ xs. c ∷ xs) s.whole; lack = rw h s.lack; ends = s.ends }
+abbrev LineSpan : List ℕ → Type 0
+LineSpan cs = Span (λ cs. lacks 10 cs ≡ true) (λ cs. ends_line cs ≡ true) cs
 
 line_span : (cs : List ℕ) → LineSpan cs
-line_span [] = record { line = []; rest = []; whole = refl; lack = refl; ends = refl }
-line_span (c ∷ cs) = line_more c cs (c == 10) refl (line_span cs)
+line_span cs = span _ _ refl refl (λ c cs. elim (cases_Bool (c == 10)) [ inl h ↦ inr h | inr h ↦ inl (λ chars all. rw h all) ]) cs
 
 -- characters up to the first pair
 record PairSpan (a b : ℕ) (cs : List ℕ) : Type 0 where
@@ -102,25 +88,20 @@ abbrev stops : List ℕ → Bool
 stops [] = true
 stops (c ∷ cs) = (c == 37 || c == 10) || c == 123
 
-record NameSpan (cs : List ℕ) : Type 0 where
-  name : List ℕ
-  rest : List ℕ
-  whole : name ++ rest ≡ cs
-  no_percent : lacks 37 name ≡ true
-  no_line : lacks 10 name ≡ true
-  no_brace : lacks 123 name ≡ true
-  stop : stops rest ≡ true
+abbrev IsHeading : List ℕ → Type 0
+IsHeading name = (lacks 37 name ≡ true) × (lacks 10 name ≡ true) × (lacks 123 name ≡ true)
 
-name_more : (c : ℕ) (cs : List ℕ) (t : Bool) → ((c == 37 || c == 10) || c == 123) ≡ t → NameSpan cs → NameSpan (c ∷ cs)
-name_more c cs true h s = record { name = []; rest = c ∷ cs; whole = refl; no_percent = refl; no_line = refl; no_brace = refl; stop = h }
-name_more c cs false h s =
-    let p = neither (c == 37 || c == 10) (c == 123) h in
-    let q = neither (c == 37) (c == 10) p.0 in
-    record { name = c ∷ s.name; rest = s.rest; whole = ap (λ xs. c ∷ xs) s.whole; no_percent = rw (q.0) s.no_percent; no_line = rw (q.1) s.no_line; no_brace = rw (p.1) s.no_brace; stop = s.stop }
+abbrev NameSpan : List ℕ → Type 0
+NameSpan cs = Span IsHeading (λ cs. stops cs ≡ true) cs
 
 name_span : (cs : List ℕ) → NameSpan cs
-name_span [] = record { name = []; rest = []; whole = refl; no_percent = refl; no_line = refl; no_brace = refl; stop = refl }
-name_span (c ∷ cs) = name_more c cs ((c == 37 || c == 10) || c == 123) refl (name_span cs)
+name_span cs = span IsHeading _ (refl, refl, refl) refl (λ c cs. elim (cases_Bool ((c == 37 || c == 10) || c == 123)) [
+  | inl h ↦ inr h
+  | inr h ↦
+      let p = neither (c == 37 || c == 10) (c == 123) h in
+      let q = neither (c == 37) (c == 10) p.0 in
+      inl (λ chars all. (rw (q.0) all.0, rw (q.1) all.1, rw (p.1) all.2))
+]) cs
 
 abbrev Front : ℕ → List ℕ → Type 0
 Front index all = Split index all ⊎ IsMisplaced all
@@ -150,7 +131,7 @@ bang_front index [] = one index 33 [] (Some Bang) (bang refl)
 bang_front index (d ∷ ds) = is_or (λ d. Split index (33 ∷ d ∷ ds)) d 61 (split index (33 ∷ 61 ∷ []) ds (Some NotEqual) (33 ∷ 61 ∷ ds) not_equal refl (omega arith)) (λ no. one index 33 (d ∷ ds) (Some Bang) (bang no))
 
 slashes_front : (index : ℕ) (cs : List ℕ) → LineSpan cs → Split index (47 ∷ 47 ∷ cs)
-slashes_front index cs s = split index (47 ∷ 47 ∷ s.line) s.rest None (47 ∷ 47 ∷ cs) (slashes s.lack s.ends) (ap (λ xs. 47 ∷ 47 ∷ xs) s.whole) (omega arith)
+slashes_front index cs s = split index (47 ∷ 47 ∷ s.chars) s.rest None (47 ∷ 47 ∷ cs) (slashes s.all s.ends) (ap (λ xs. 47 ∷ 47 ∷ xs) s.whole) (omega arith)
 
 comment_front : (index : ℕ) (cs : List ℕ) → PairSpan 42 47 cs ⊎ (lacks_pair 42 47 cs ≡ true) → Front index (47 ∷ 42 ∷ cs)
 comment_front index cs (inl s) = inl (split index (47 ∷ 42 ∷ (s.body ++ 42 ∷ 47 ∷ [])) s.rest None (47 ∷ 42 ∷ cs) (comment s.body s.lack) (ap (λ xs. 47 ∷ 42 ∷ xs) s.whole) (omega arith))
@@ -162,23 +143,23 @@ slash_front index (d ∷ ds) = is_or (λ d. Front index (47 ∷ d ∷ ds)) d 47 
     (λ no. is_or (λ d. Front index (47 ∷ d ∷ ds)) d 42 (comment_front index ds (pair_span 42 47 ds)) (λ none. inr (slash no none)))
 
 semicolon_front : (index : ℕ) (cs : List ℕ) → LineSpan cs → Split index (59 ∷ cs)
-semicolon_front index cs s = split index (59 ∷ s.line) s.rest None (59 ∷ cs) (semicolon s.lack s.ends) (ap (λ xs. 59 ∷ xs) s.whole) (omega arith)
+semicolon_front index cs s = split index (59 ∷ s.chars) s.rest None (59 ∷ cs) (semicolon s.all s.ends) (ap (λ xs. 59 ∷ xs) s.whole) (omega arith)
 
 block_or_not : (index : ℕ) (cs : List ℕ) → NameSpan cs → Front index (37 ∷ cs)
-block_or_not index cs s = subst (λ (xs : List ℕ). Front index (37 ∷ xs)) s.whole (percent_front index s.name s.rest s.no_percent s.no_line s.no_brace s.stop)
+block_or_not index cs s = subst (λ (xs : List ℕ). Front index (37 ∷ xs)) s.whole (percent_front index s.chars s.rest s.all.0 s.all.1 s.all.2 s.ends)
 
 option_front : (index c : ℕ) (cs word_chars rest : List ℕ) → is_word (c ∷ word_chars) ≡ true → ends_word rest ≡ true → is_option (word_at index (c ∷ word_chars)) ≡ true → word_chars ++ rest ≡ cs → LineSpan rest → Split index (c ∷ cs)
 option_front index c cs word_chars rest w e o whole s =
-    split index ((c ∷ word_chars) ++ s.line) s.rest (Some (word_at index (c ∷ word_chars))) (c ∷ cs)
-    (option (c ∷ word_chars) s.line w (ap ends_word s.whole ∙ e) o s.lack s.ends)
-    (ap (λ xs. c ∷ xs) (append_assoc word_chars s.line s.rest ∙ ap (λ xs. word_chars ++ xs) s.whole ∙ whole)) (omega arith)
+    split index ((c ∷ word_chars) ++ s.chars) s.rest (Some (word_at index (c ∷ word_chars))) (c ∷ cs)
+    (option (c ∷ word_chars) s.chars w (ap ends_word s.whole ∙ e) o s.all s.ends)
+    (ap (λ xs. c ∷ xs) (append_assoc word_chars s.chars s.rest ∙ ap (λ xs. word_chars ++ xs) s.whole ∙ whole)) (omega arith)
 
 word_front : (index c : ℕ) (cs : List ℕ) → (is_word_char c || c == 46) ≡ true → WordSpan cs → Split index (c ∷ cs)
 word_front index c cs h s =
-    let w : is_word (c ∷ s.word_chars) ≡ true = rw h s.all in
-    elim (cases_Bool (is_option (word_at index (c ∷ s.word_chars)))) [
-      | inl o ↦ option_front index c cs s.word_chars s.rest w s.ends o s.whole (line_span s.rest)
-      | inr o ↦ split index (c ∷ s.word_chars) s.rest (Some (word_at index (c ∷ s.word_chars))) (c ∷ cs) (word w s.ends o) (ap (λ xs. c ∷ xs) s.whole) (omega arith)
+    let w : is_word (c ∷ s.chars) ≡ true = rw h s.all in
+    elim (cases_Bool (is_option (word_at index (c ∷ s.chars)))) [
+      | inl o ↦ option_front index c cs s.chars s.rest w s.ends o s.whole (line_span s.rest)
+      | inr o ↦ split index (c ∷ s.chars) s.rest (Some (word_at index (c ∷ s.chars))) (c ∷ cs) (word w s.ends o) (ap (λ xs. c ∷ xs) s.whole) (omega arith)
     ]
 
 -- a lexeme stands at the front, or none

@@ -1,27 +1,9 @@
 -- How an expression and an operand are read where a line goes on after them.
 use Rattle.std.proofs.Common.{◌≡◌, ◌≢◌, not, true, ℕ, List, [], ◌∷◌, ◌++◌, Ok, Err, inl, inr, refl, sym, ap, ◌∙◌, subst}
-use mathlib.Core.Bool.{false≢true}
-use Rattle.source_text.specs.declared.position.SourcePosition.{SourcePosition}
-use Rattle.pio_parse.specs.declared.token.Token.{Token}
-use Rattle.pio_parse.specs.declared.token.TokenKind.{TokenKind}
-use Rattle.pio_parse.specs.declared.token.TokenKind.TheVariants.{Name, Number, OpenParenthesis, CloseParenthesis, Plus, Minus, Star}
-use Rattle.pio_parse.specs.declared.expression.Term.{Term}
-use Rattle.pio_parse.specs.declared.expression.Term.TheVariants.{Number as NumberTerm, Name as NameTerm}
-use Rattle.source_text.specs.Outcome.{and_then, map_ok}
-use Rattle.pio_parse.specs.descent.Cursor.{Outcome, expected}
-use Rattle.pio_parse.specs.Tokens.{head_kind, name_at, is_end}
-use Rattle.pio_parse.specs.descent.Expression.{expression_at, is_close_parenthesis, operand_at, operand_of_kind}
-use Rattle.pio_parse.specs.Grammar.{EndsSum, Expr, IsSum, postfix}
-use Rattle.pio_parse.specs.Grammar.IsSum.{product}
-use Rattle.pio_parse.specs.Grammar.IsProduct.{operand}
-use Rattle.pio_parse.specs.Grammar.IsOperand.{number as number_operand}
-use Rattle.pio_parse.specs.Laws.{ends_line}
+use Rattle.pio_parse.proofs.Names.{false≢true, SourcePosition, Token, TokenKind, Name, Number, OpenParenthesis, CloseParenthesis, Plus, Minus, Star, Term, NumberTerm, NameTerm, and_then, map_ok, Outcome, expected, head_kind, name_at, is_end, expression_at, is_close_parenthesis, operand_at, operand_of_kind, EndsSum, Expr, IsSum, postfix, product, operand, number as number_operand, ends_line, is_line, IsValue, number_value as number, name_value as name, parentheses_value as parentheses}
 use Rattle.pio_parse.proofs.Tests.{both, err_is, not_true, refused}
 use Rattle.pio_parse.proofs.Finds.{finds_tree, is_none_left, reads}
 use Rattle.pio_parse.proofs.Extents.{Refusal, extent, ends_sum, none_ends, refusal}
-use Rattle.pio_parse.specs.GrammarLaws.{is_line}
-use Rattle.pio_parse.specs.Lines.{IsValue}
-use Rattle.pio_parse.specs.Lines.IsValue.{number, name, parentheses}
 use Rattle.pio_parse.proofs.Reading.{Answer, Can, Good, IsOne, Reads, Refused, Rest, Step, Then, bind, can_after, choose, line_inside, one_reads, reads_map, reads_then, reads_to, refused_same, token_of}
 use Rattle.pio_parse.proofs.Reading.IsOne.{one}
 use Rattle.pio_parse.proofs.Reading.Step.{misfit_here, shift, take}

@@ -1,20 +1,6 @@
 -- How far an expression goes: before whatever ends it, it is the same, and where it is refused it could have come to an end.
 use Rattle.std.proofs.Common.{◌≡◌, ◌==◌, ◌&&◌, not, Bool, true, false, if◌then◌else◌, ℕ, zero, suc, ◌-◌, List, [], ◌∷◌, ◌++◌, Option, Some, None, Result, Ok, Err, arith, refl, sym, ap, ◌∙◌, subst}
-use mathlib.Core.Bool.{false≢true}
-use Rattle.std.specs.Prelude.{⊤}
-use Rattle.source_text.specs.declared.position.SourcePosition.{SourcePosition}
-use Rattle.pio_parse.specs.declared.token.Token.{Token}
-use Rattle.pio_parse.specs.declared.token.TokenKind.{TokenKind}
-use Rattle.pio_parse.specs.declared.token.TokenKind.TheVariants.{Name, Number, DoubleColon, OpenParenthesis, CloseParenthesis, Plus, Minus, Star, LineEnd, FileEnd}
-use Rattle.pio_parse.specs.declared.expression.Pending.{Pending}
-use Rattle.pio_parse.specs.declared.expression.Reading.{Reading}
-use Rattle.pio_parse.specs.descent.Expression.{after_newest, expression_at, expression_from, nothing_read, operand_step, operator_step, reduced, token_step}
-use Rattle.pio_parse.specs.declared.expression.Term.{Term}
-use Rattle.pio_parse.specs.declared.expression.Term.TheVariants.{Number as NumberTerm}
-use Rattle.source_text.specs.Outcome.{map_ok}
-use Rattle.pio_parse.specs.descent.Cursor.{Outcome}
-use Rattle.pio_parse.specs.Tokens.{is_end}
-use Rattle.pio_parse.specs.Laws.{ends_line}
+use Rattle.pio_parse.proofs.Names.{false≢true, ⊤, SourcePosition, Token, TokenKind, Name, Number, DoubleColon, OpenParenthesis, CloseParenthesis, Plus, Minus, Star, LineEnd, FileEnd, Pending, Reading, after_newest, expression_at, expression_from, nothing_read, operand_step, operator_step, reduced, token_step, Term, NumberTerm, map_ok, Outcome, is_end, ends_line}
 use Rattle.pio_parse.proofs.Follows.{after_operand}
 use Rattle.pio_parse.proofs.Tests.{err_is, refused, same_left, same_value}
 
@@ -186,7 +172,7 @@ module _ (text : List ℕ) where
   no_end token reading next is true h = absurd (subst StopsHere is (end_stops text token.kind token.position reading.stack reading.output reading.awaited reading.depth h))
   no_end token reading next is false h = refl
 
-  abbrev ExtentOf : List Token → Type 0
+  abbrev pub ExtentOf : List Token → Type 0
   ExtentOf tokens = (reading : Reading) (terms : List Term) (rest : List Token) → expression_from text reading tokens ≡ Ok (terms, rest) → Extent (expression_from text reading) tokens terms rest
 
   extent_by : (token : Token) (tokens : List Token) → ExtentOf tokens → (reading : Reading) (terms : List Term) (rest : List Token) → expression_from text reading (token ∷ tokens) ≡ Ok (terms, rest)
@@ -209,7 +195,7 @@ module _ (text : List ℕ) where
         again = λ first further h. rw is (inner.again first further h);
       }
 
-  extent_of : (tokens : List Token) → ExtentOf tokens
+  pub extent_of : (tokens : List Token) → ExtentOf tokens
   extent_of [] reading terms rest q = absurd (refused q)
   extent_of (token ∷ tokens) reading terms rest q = extent_by token tokens (extent_of tokens) reading terms rest q (token_step text token.kind token.position reading) refl
 
@@ -276,10 +262,7 @@ module _ (text : List ℕ) where
   refusal_of (token ∷ tokens) reading position line q = refusal_by token tokens (refusal_of tokens) reading position line q (token_step text token.kind token.position reading) refl
 
   pub extent : (tokens : List Token) (terms : List Term) (rest : List Token) → expression_at text tokens ≡ Ok (terms, rest) → Extent (expression_at text) tokens terms rest
-  extent tokens terms rest q =
-      let e = extent_of tokens nothing_read terms rest q in record { consumed = e.consumed; whole = e.whole; inside = e.inside; again = e.again }
+  extent tokens terms rest q = extent_of tokens nothing_read terms rest q
 
   pub refusal : (tokens : List Token) (position : SourcePosition) → ends_line tokens ≡ true → expression_at text tokens ≡ Err position → Refusal (expression_at text) tokens position
-  refusal tokens position line q =
-      let s = refusal_of tokens nothing_read position line q in
-      record { before = s.before; token = s.token; after = s.after; whole = s.whole; at = s.at; ends = s.ends; inside = s.inside; terms = s.terms; goes = s.goes; stays = s.stays }
+  refusal tokens position line q = refusal_of tokens nothing_read position line q

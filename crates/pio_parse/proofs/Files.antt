@@ -1,23 +1,8 @@
 -- A file is parsed as the grammar of its lines has it, and its Syntax fault is at the first token that fits nothing.
 use Rattle.std.proofs.Common.{◌≡◌, ◌&&◌, ◌||◌, Bool, true, false, if◌then◌else◌, ℕ, List, [], ◌∷◌, ◌++◌, Result, Ok, Err, refl, sym, ap, ◌∙◌, subst}
-use mathlib.Core.Bool.{false≢true}
-use Rattle.source_text.specs.declared.position.SourcePosition.{SourcePosition}
-use Rattle.pio_parse.specs.declared.token.Token.{Token}
-use Rattle.pio_parse.specs.declared.syntax.Line.{Line}
-use Rattle.pio_parse.specs.declared.syntax.Source.{Source}
-use Rattle.source_text.specs.Outcome.{and_then, map_ok}
-use Rattle.pio_parse.specs.descent.Cursor.{Outcome}
-use Rattle.pio_parse.specs.descent.Scan.{scanned}
-use Rattle.pio_parse.specs.Files.{AreLines, FaultsAt, IsSource, IsSyntaxFaultAt}
-use Rattle.pio_parse.specs.Programs.{gathered, token_lines, with_first}
-use Rattle.pio_parse.specs.descent.Parsed.{lines_at, parsed, parsed_tokens, with_syntax}
-use Rattle.pio_parse.specs.Files.EarlyFault.{SyntaxAt}
-use Rattle.pio_parse.specs.Tokens.{is_end, is_program}
-use Rattle.pio_parse.specs.descent.Statement.{line_at}
+use Rattle.pio_parse.proofs.Names.{false≢true, SourcePosition, Token, Line, Source, and_then, map_ok, Outcome, scanned, AreLines, FaultsAt, IsSource, IsSyntaxFaultAt, gathered, token_lines, with_first, lines_at, parsed, parsed_tokens, with_syntax, SyntaxAt, is_end, is_program, line_at, OneMeaning, ParsesGrammar, SyntaxFaultsAtFirst, is_line, IsLine}
 use Rattle.pio_parse.proofs.Tests.{both, err_is, ok_is, refused, same_value}
 use Rattle.pio_parse.proofs.Decide.{lexes_exactly}
-use Rattle.pio_parse.specs.GrammarLaws.{OneMeaning, ParsesGrammar, SyntaxFaultsAtFirst, is_line}
-use Rattle.pio_parse.specs.Lines.{IsLine}
 use Rattle.pio_parse.specs.Files.AreLines.{no_line, one_line}
 use Rattle.pio_parse.specs.Files.FaultsAt.{fits_nothing, after_line}
 use Rattle.pio_parse.proofs.ReadLines.{complete, sound}

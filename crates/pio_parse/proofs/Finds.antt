@@ -1,24 +1,8 @@
 -- Where the stack of waiting operators accepts tokens, the grammar has a tree for them.
-use Rattle.std.proofs.Common.{◌≡◌, ◌≢◌, ◌==◌, ◌⊎◌, inl, inr, ℕ, zero, suc, ◌+◌, ◌<◌, ◌≤◌, Bool, true, false, List, [], ◌∷◌, ◌++◌, length, None, Ok, Err, arith, refl, sym, ap, ◌∙◌, subst}
-use mathlib.Core.Bool.{false≢true}
-use Rattle.source_text.specs.declared.position.SourcePosition.{SourcePosition}
-use Rattle.pio_parse.specs.declared.token.Span.{Span}
-use Rattle.pio_parse.specs.declared.token.Token.{Token}
-use Rattle.pio_parse.specs.declared.token.TokenKind.{TokenKind}
-use Rattle.pio_parse.specs.declared.token.TokenKind.TheVariants.{Name as NameToken, Number as NumberToken, DoubleColon, OpenParenthesis, CloseParenthesis, Plus, Minus, Star}
-use Rattle.pio_parse.specs.declared.expression.Operator.TheVariants.{Add, Subtract, Multiply, Negate as NegateOperator, Reverse as ReverseOperator}
-use Rattle.pio_parse.specs.declared.expression.Term.{Term}
-use Rattle.pio_parse.specs.declared.expression.Term.TheVariants.{Operator as OperatorTerm}
-use Rattle.pio_parse.specs.declared.expression.Pending.{Pending}
-use Rattle.pio_parse.specs.declared.expression.Reading.{Reading}
-use Rattle.pio_parse.specs.descent.Expression.{expression_at, operand_step, operator_step}
-use Rattle.pio_parse.specs.declared.expression.Pending.TheVariants.{Parenthesis, Operator as OperatorPending}
-use Rattle.pio_parse.specs.Tokens.{head_kind, name_at}
-use Rattle.pio_parse.specs.Grammar.{EndsProduct, EndsSum, Expr, IsExpression, IsOperand, IsProduct, IsSum, postfix}
-use Rattle.pio_parse.specs.Grammar.Expr.{Number, Name, Negate, Reverse, Sum, Difference, Product}
-use Rattle.pio_parse.specs.Grammar.IsSum.{product, plus, minus}
-use Rattle.pio_parse.specs.Grammar.IsProduct.{operand, times}
-use Rattle.pio_parse.specs.Grammar.IsOperand.{number, name, parentheses, negate, reverse}
+use Rattle.std.proofs.Common.{◌≡◌, ◌≢◌, ◌==◌, ◌⊎◌, inl, inr, ℕ, zero, suc, pred, ◌+◌, ◌<◌, ◌≤◌, Bool, true, false, List, [], ◌∷◌, ◌++◌, length, length-append, None, Ok, Err, arith, refl, sym, ap, ◌∙◌, subst}
+use Rattle.pio_parse.proofs.Names.{false≢true, SourcePosition, Span, Token, TokenKind, Name as NameToken, Number as NumberToken, DoubleColon, OpenParenthesis, CloseParenthesis, Plus, Minus, Star, Add, Subtract, Multiply, NegateOperator, ReverseOperator, Term, OperatorTerm, Pending, Reading, expression_at, operand_step, operator_step, Parenthesis, OperatorPending, head_kind, name_at, EndsProduct, EndsSum, Expr, IsExpression, IsOperand, IsProduct, IsSum, postfix, NumberTree as Number, NameTree as Name, Negate, Reverse, Sum, Difference, Product, product, plus, minus_sum as minus, operand, times, number, name, parentheses, negate, reverse}
+use Rattle.pio_parse.specs.Laws.{NoneLonger}
+use Rattle.pio_parse.proofs.Extents.{extent_of}
 use Rattle.pio_parse.proofs.Tests.{refused, same_left, same_value}
 use Rattle.pio_parse.proofs.Follows.{after_operand, before_operand, binds_less, binds_less-two, follows_operand, follows_product, follows_sum, goes_in, goes_in_negate, goes_in_reverse, goes_on_minus, goes_on_plus, goes_on_times, is_star, level_for_operand, level_for_product, settled, suc-not_zero}
 
@@ -80,35 +64,52 @@ close_or Minus h i j = absurd (j refl)
 close_or CloseParenthesis h i j = inl refl
 close_or kind h i j = inr (λ position reading e. rw e refl)
 
+-- what stands at the front of tokens has tokens
+mutual
+  sum_shorter : {text : List ℕ} {tokens rest : List Token} {tree : Expr} → IsSum text tokens tree rest → length rest < length tokens
+  sum_shorter (product is) = product_shorter is
+  sum_shorter (plus is sign_is more) = omega (arith, sum_shorter is, product_shorter more)
+  sum_shorter (minus is sign_is more) = omega (arith, sum_shorter is, product_shorter more)
+
+  product_shorter : {text : List ℕ} {tokens rest : List Token} {tree : Expr} → IsProduct text tokens tree rest → length rest < length tokens
+  product_shorter (operand is) = operand_shorter is
+  product_shorter (times is star more) = omega (arith, product_shorter is, operand_shorter more)
+
+  operand_shorter : {text : List ℕ} {tokens rest : List Token} {tree : Expr} → IsOperand text tokens tree rest → length rest < length tokens
+  operand_shorter (number is) = omega arith
+  operand_shorter (name is) = omega arith
+  operand_shorter (parentheses opens is closes) = omega (arith, sum_shorter is)
+  operand_shorter (negate sign_is is over) = omega (arith, product_shorter is)
+  operand_shorter (reverse sign_is is over) = omega (arith, sum_shorter is)
+
 module _ (text : List ℕ) (answer : List Term × List Token) where
+  -- what is found at the front of tokens that are accepted: an operand, and a product and a sum that go no further
   abbrev OperandFound : List Token → Type 0
-  OperandFound tokens = (tree : Expr) × (rest : List Token) × IsOperand text tokens tree rest × (length rest < length tokens)
+  OperandFound tokens = (tree : Expr) × (rest : List Token) × IsOperand text tokens tree rest
 
-  -- a product and a sum that go no further, with fewer tokens left than this
-  abbrev ProductFound : ℕ → List Token → Type 0
-  ProductFound few tokens = (tree : Expr) × (rest : List Token) × IsProduct text tokens tree rest × EndsProduct rest × (length rest < few)
+  abbrev ProductFound : List Token → Type 0
+  ProductFound tokens = (tree : Expr) × (rest : List Token) × EndsProduct rest × IsProduct text tokens tree rest
 
-  abbrev pub SumFound : ℕ → List Token → Type 0
-  SumFound few tokens = (tree : Expr) × (rest : List Token) × IsSum text tokens tree rest × EndsSum rest × (length rest < few)
+  abbrev SumFound : List Token → Type 0
+  SumFound tokens = (tree : Expr) × (rest : List Token) × EndsSum rest × IsSum text tokens tree rest
 
-  product_within : (few many : ℕ) (tokens : List Token) → few ≤ many → ProductFound few tokens → ProductFound many tokens
-  product_within few many tokens le (tree, rest, is, over, lt) = (tree, rest, is, over, omega (arith, le, lt))
-
-  sum_within : (few many : ℕ) (tokens : List Token) → few ≤ many → SumFound few tokens → SumFound many tokens
-  sum_within few many tokens le (tree, rest, is, over, lt) = (tree, rest, is, over, omega (arith, le, lt))
-
-  -- what is found at the front of tokens that are accepted, where there are not more of them than this
   abbrev FindsOperand : ℕ → Type 0
-  FindsOperand bound = (tokens : List Token) (stack : List Pending) (output : List Term) (depth : ℕ) → length tokens ≤ bound
-      → before_operand text stack output depth tokens ≡ Ok answer → OperandFound tokens
+  FindsOperand bound = (tokens : List Token) (stack : List Pending) (output : List Term) (depth : ℕ) → length tokens ≤ bound → before_operand text stack output depth tokens ≡ Ok answer → OperandFound tokens
 
-  abbrev FindsProduct : ℕ → Type 0
-  FindsProduct bound = (tokens : List Token) (stack : List Pending) (output : List Term) (depth : ℕ) → length tokens ≤ bound → binds_less 2 stack ≡ true
-      → before_operand text stack output depth tokens ≡ Ok answer → ProductFound (length tokens) tokens
+  -- where a product, or a sum, stands at the front of the tokens already
+  abbrev ProductOn : ℕ → Type 0
+  ProductOn bound = (tokens middle : List Token) (tree : Expr) (stack : List Pending) (output : List Term) (depth : ℕ) → length middle ≤ bound → binds_less 2 stack ≡ true
+      → IsProduct text tokens tree middle → after_operand text stack output depth middle ≡ Ok answer → ProductFound tokens
 
-  abbrev FindsSum : ℕ → Type 0
-  FindsSum bound = (tokens : List Token) (stack : List Pending) (output : List Term) (depth : ℕ) → length tokens ≤ bound → binds_less 1 stack ≡ true
-      → before_operand text stack output depth tokens ≡ Ok answer → SumFound (length tokens) tokens
+  abbrev SumOn : ℕ → Type 0
+  SumOn bound = (tokens middle : List Token) (tree : Expr) (stack : List Pending) (output : List Term) (depth : ℕ) → length middle ≤ bound → binds_less 1 stack ≡ true → head_kind middle ≢ Star
+      → IsSum text tokens tree middle → after_operand text stack output depth middle ≡ Ok answer → SumFound tokens
+
+  -- it is found where no more tokens than this are left
+  record Finds (bound : ℕ) : Type 0 where
+    operands : FindsOperand bound
+    products : ProductOn bound
+    sums : SumOn bound
 
   found_close : (stack : List Pending) (output : List Term) (depth : ℕ) (tokens : List Token) → EndsSum tokens
       → after_operand text stack output (depth + 1) tokens ≡ Ok answer
@@ -120,197 +121,91 @@ module _ (text : List ℕ) (answer : List Term × List Token) where
       close (inl is) = is
       close (inr other) = absurd (refused (rw (other token.position (record { stack = stack; output = output; awaited = false; depth = depth + 1 }) (suc-not_zero depth)) at e))
 
-  -- a sum in parentheses, and what is left after it
-  closed_sum : (token : Token) (tokens middle : List Token) (tree : Expr) → token.kind ≡ OpenParenthesis → IsSum text tokens tree middle → length middle < length tokens
-      → (close : Token) × (rest : List Token) × (middle ≡ close ∷ rest) × (close.kind ≡ CloseParenthesis) → OperandFound (token ∷ tokens)
-  closed_sum token tokens middle tree is sum lt (close, rest, same, close_is) =
-      let shorter : length middle ≡ suc (length rest) = ap (λ (m : List Token). length m) same in
-      (tree, rest, parentheses is (subst (IsSum text tokens tree) same sum) close_is, omega (arith, shorter, lt))
+  module _ (bound : ℕ) (f : Finds bound) where
+    product_there : (tokens : List Token) (stack : List Pending) (output : List Term) (depth : ℕ) → length tokens ≤ bound → binds_less 2 stack ≡ true → before_operand text stack output depth tokens ≡ Ok answer → ProductFound tokens
+    product_there tokens stack output depth le h e =
+        let found = f.operands tokens stack output depth le e in
+        f.products tokens found.1 found.0 stack (output ++ postfix found.0) depth (omega (arith, le, operand_shorter found.2)) h (operand found.2) (sym (follows_operand found.2 stack output depth) ∙ e)
 
-  in_parentheses : (token : Token) (tokens : List Token) (stack : List Pending) (output : List Term) (depth : ℕ) → token.kind ≡ OpenParenthesis
-      → SumFound (length tokens) tokens → before_operand text (Parenthesis ∷ stack) output (depth + 1) tokens ≡ Ok answer → OperandFound (token ∷ tokens)
-  in_parentheses token tokens stack output depth is (tree, middle, sum, over, lt) e =
-      closed_sum token tokens middle tree is sum lt
-      (found_close (Parenthesis ∷ stack) (output ++ postfix tree) depth middle over (sym (follows_sum sum (Parenthesis ∷ stack) output (depth + 1) refl over.0) ∙ e))
+    sum_there : (tokens : List Token) (stack : List Pending) (output : List Term) (depth : ℕ) → length tokens ≤ bound → binds_less 1 stack ≡ true → before_operand text stack output depth tokens ≡ Ok answer → SumFound tokens
+    sum_there tokens stack output depth le h e =
+        let found = product_there tokens stack output depth le (binds_less-two stack h) e in
+        f.sums tokens found.1 found.0 stack (output ++ postfix found.0) depth (omega (arith, le, product_shorter found.3)) h found.2 (product found.3)
+        (sym (follows_product found.3 stack output depth (binds_less-two stack h)) ∙ e)
 
-  -- an operand by its first token
-  operand_by : (bound : ℕ) → FindsProduct bound → FindsSum bound
-      → (token : Token) (tokens : List Token) (stack : List Pending) (output : List Term) (depth : ℕ) → length tokens ≤ bound
-      → before_operand text stack output depth (token ∷ tokens) ≡ Ok answer → First token.kind → OperandFound (token ∷ tokens)
-  operand_by bound products sums token tokens stack output depth le e (first_number n is) = (Number n, tokens, number is, omega arith)
-  operand_by bound products sums token tokens stack output depth le e (first_name span is) = (Name (name_at text span), tokens, name is, omega arith)
-  operand_by bound products sums token tokens stack output depth le e (first_open is) =
-      let inside = sym (goes_in text stack output depth token tokens is) ∙ e in
-      in_parentheses token tokens stack output depth is (sums tokens (Parenthesis ∷ stack) output (depth + 1) le refl inside) inside
-  operand_by bound products sums token tokens stack output depth le e (first_minus is) =
-      let found = products tokens (OperatorPending NegateOperator ∷ stack) output depth le refl (sym (goes_in_negate text stack output depth token tokens is) ∙ e) in
-      (Negate found.0, found.1, negate is found.2 found.3, omega (arith, found.4))
-  operand_by bound products sums token tokens stack output depth le e (first_colons is) =
-      let found = sums tokens (OperatorPending ReverseOperator ∷ stack) output depth le refl (sym (goes_in_reverse text stack output depth token tokens is) ∙ e) in
-      (Reverse found.0, found.1, reverse is found.2 found.3, omega (arith, found.4))
-  operand_by bound products sums token tokens stack output depth le e (first_other is) =
-      absurd (refused (rw (is text token.position (record { stack = stack; output = output; awaited = true; depth = depth })) at e))
+    -- an operand by its first token
+    operand_by : (token : Token) (tokens : List Token) (stack : List Pending) (output : List Term) (depth : ℕ) → length tokens ≤ bound
+        → before_operand text stack output depth (token ∷ tokens) ≡ Ok answer → First token.kind → OperandFound (token ∷ tokens)
+    operand_by token tokens stack output depth le e (first_number n is) = (Number n, tokens, number is)
+    operand_by token tokens stack output depth le e (first_name span is) = (Name (name_at text span), tokens, name is)
+    operand_by token tokens stack output depth le e (first_open is) =
+        let inside = sym (goes_in text stack output depth token tokens is) ∙ e in
+        let found = sum_there tokens (Parenthesis ∷ stack) output (depth + 1) le refl inside in
+        let close = found_close (Parenthesis ∷ stack) (output ++ postfix found.0) depth found.1 found.2 (sym (follows_sum found.3 (Parenthesis ∷ stack) output (depth + 1) refl found.2.0) ∙ inside) in
+        (found.0, close.1, parentheses is (subst (IsSum text tokens found.0) close.2 found.3) close.3)
+    operand_by token tokens stack output depth le e (first_minus is) =
+        let found = product_there tokens (OperatorPending NegateOperator ∷ stack) output depth le refl (sym (goes_in_negate text stack output depth token tokens is) ∙ e) in
+        (Negate found.0, found.1, negate is found.3 found.2)
+    operand_by token tokens stack output depth le e (first_colons is) =
+        let found = sum_there tokens (OperatorPending ReverseOperator ∷ stack) output depth le refl (sym (goes_in_reverse text stack output depth token tokens is) ∙ e) in
+        (Reverse found.0, found.1, reverse is found.3 found.2)
+    operand_by token tokens stack output depth le e (first_other is) =
+        absurd (refused (rw (is text token.position (record { stack = stack; output = output; awaited = true; depth = depth })) at e))
 
-  operand_more : (bound : ℕ) → FindsProduct bound → FindsSum bound → FindsOperand (suc bound)
-  operand_more bound products sums [] stack output depth le e = absurd (refused e)
-  operand_more bound products sums (token ∷ tokens) stack output depth le e =
-      operand_by bound products sums token tokens stack output depth (omega (arith, le)) e (first_of_kind token.kind)
+    -- a product by the token after it: one more `*` and its operand, or its end
+    product_by : (tokens middle : List Token) (sign : Token) (tree : Expr) (stack : List Pending) (output : List Term) (depth : ℕ) → length middle ≤ bound → binds_less 2 stack ≡ true
+        → IsProduct text tokens tree (sign ∷ middle) → after_operand text stack output depth (sign ∷ middle) ≡ Ok answer → Next sign.kind → ProductFound tokens
+    product_by tokens middle sign tree stack output depth le h is e (next_times star) =
+        let after = sym (goes_on_times text stack output depth sign middle star h) ∙ e in
+        let found = f.operands middle (OperatorPending Multiply ∷ stack) output depth le after in
+        f.products tokens found.1 (Product tree found.0) stack ((output ++ postfix found.0) ++ OperatorTerm Multiply ∷ []) depth (omega (arith, le, operand_shorter found.2)) h (times is star found.2)
+        (sym (settled text Multiply stack (output ++ postfix found.0) depth found.1 (level_for_operand (head_kind found.1))) ∙ sym (follows_operand found.2 (OperatorPending Multiply ∷ stack) output depth) ∙ after)
+    product_by tokens middle sign tree stack output depth le h is e (next_plus is_next) = (tree, sign ∷ middle, (λ q. false≢true (ap is_star (sym is_next ∙ q))), is)
+    product_by tokens middle sign tree stack output depth le h is e (next_minus is_next) = (tree, sign ∷ middle, (λ q. false≢true (ap is_star (sym is_next ∙ q))), is)
+    product_by tokens middle sign tree stack output depth le h is e (next_other no_star no_plus no_minus) = (tree, sign ∷ middle, no_star, is)
 
-  -- what is found where a product stands at the front of the tokens already
-  abbrev ProductOn : ℕ → ℕ → Type 0
-  ProductOn bound left = (tokens middle : List Token) (tree : Expr) (stack : List Pending) (output : List Term) (depth : ℕ)
-      → length middle ≤ left → length middle ≤ bound → binds_less 2 stack ≡ true
-      → IsProduct text tokens tree middle → after_operand text stack output depth middle ≡ Ok answer → ProductFound (suc (length middle)) tokens
+    -- a sum by the token after it: one more `+` or `-` and its product, or its end
+    sum_by : (tokens middle : List Token) (sign : Token) (tree : Expr) (stack : List Pending) (output : List Term) (depth : ℕ) → length middle ≤ bound → binds_less 1 stack ≡ true → sign.kind ≢ Star
+        → IsSum text tokens tree (sign ∷ middle) → after_operand text stack output depth (sign ∷ middle) ≡ Ok answer → Next sign.kind → SumFound tokens
+    sum_by tokens middle sign tree stack output depth le h no_star is e (next_times star) = absurd (no_star star)
+    sum_by tokens middle sign tree stack output depth le h no_star is e (next_plus sign_is) =
+        let after = sym (goes_on_plus text stack output depth sign middle sign_is h) ∙ e in
+        let found = product_there middle (OperatorPending Add ∷ stack) output depth le refl after in
+        f.sums tokens found.1 (Sum tree found.0) stack ((output ++ postfix found.0) ++ OperatorTerm Add ∷ []) depth (omega (arith, le, product_shorter found.3)) h found.2 (plus is sign_is found.3)
+        (sym (settled text Add stack (output ++ postfix found.0) depth found.1 (level_for_product (head_kind found.1) found.2)) ∙ sym (follows_product found.3 (OperatorPending Add ∷ stack) output depth refl) ∙ after)
+    sum_by tokens middle sign tree stack output depth le h no_star is e (next_minus sign_is) =
+        let after = sym (goes_on_minus text stack output depth sign middle sign_is h) ∙ e in
+        let found = product_there middle (OperatorPending Subtract ∷ stack) output depth le refl after in
+        f.sums tokens found.1 (Difference tree found.0) stack ((output ++ postfix found.0) ++ OperatorTerm Subtract ∷ []) depth (omega (arith, le, product_shorter found.3)) h found.2 (minus is sign_is found.3)
+        (sym (settled text Subtract stack (output ++ postfix found.0) depth found.1 (level_for_product (head_kind found.1) found.2)) ∙ sym (follows_product found.3 (OperatorPending Subtract ∷ stack) output depth refl) ∙ after)
+    sum_by tokens middle sign tree stack output depth le h no_star is e (next_other no_times no_plus no_minus) = (tree, sign ∷ middle, (no_times, no_plus, no_minus), is)
 
-  product_none : (bound : ℕ) → ProductOn bound zero
-  product_none bound tokens [] tree stack output depth few le h is e = absurd (refused e)
-  product_none bound tokens (sign ∷ middle) tree stack output depth few le h is e = absurd (omega (arith, few))
+  within : (n bound : ℕ) → suc n ≤ bound → n ≤ pred bound
+  within n zero le = absurd (omega (arith, le))
+  within n (suc bound) le = omega (arith, le)
 
-  -- one more `*` and its operand
-  product_times : (bound left : ℕ) → ProductOn bound left → (tokens middle : List Token) (sign : Token) (tree : Expr) (stack : List Pending) (output : List Term) (depth : ℕ)
-      → length middle ≤ left → length middle < bound → binds_less 2 stack ≡ true
-      → IsProduct text tokens tree (sign ∷ middle) → sign.kind ≡ Star
-      → before_operand text (OperatorPending Multiply ∷ stack) output depth middle ≡ Ok answer → OperandFound middle → ProductFound (suc (suc (length middle))) tokens
-  product_times bound left on tokens middle sign tree stack output depth few le h is star e (right, rest, more, shorter) =
-      product_within (suc (length rest)) (suc (suc (length middle))) tokens (omega (arith, shorter)) (on tokens rest (Product tree right) stack ((output ++ postfix right) ++ OperatorTerm Multiply ∷ []) depth (omega (arith, few, shorter)) (omega (arith, le, shorter)) h
-      (times is star more)
-      (sym (settled text Multiply stack (output ++ postfix right) depth rest (level_for_operand (head_kind rest)))
-      ∙ sym (follows_operand more (OperatorPending Multiply ∷ stack) output depth) ∙ e))
+  module _ (bound : ℕ) (earlier : 0 < bound → Finds (pred bound)) where
+    operand_more : FindsOperand bound
+    operand_more [] stack output depth le e = absurd (refused e)
+    operand_more (token ∷ tokens) stack output depth le e = operand_by (pred bound) (earlier (omega (arith, le))) token tokens stack output depth (within (length tokens) bound le) e (first_of_kind token.kind)
 
-  product_step : (bound left : ℕ) → FindsOperand bound → ProductOn bound left → ProductOn bound (suc left)
-  product_step bound left operands on tokens [] tree stack output depth few le h is e = absurd (refused e)
-  product_step bound left operands on tokens (sign ∷ middle) tree stack output depth few le h is e = go (next_of sign.kind)
-    where
-      go : Next sign.kind → ProductFound (suc (suc (length middle))) tokens
-      go (next_times star) =
-          let after = sym (goes_on_times text stack output depth sign middle star h) ∙ e in
-          product_times bound left on tokens middle sign tree stack output depth (omega (arith, few)) (omega (arith, le)) h is star after
-          (operands middle (OperatorPending Multiply ∷ stack) output depth (omega (arith, le)) after)
-      go (next_plus is_next) = (tree, sign ∷ middle, is, (λ q. false≢true (ap is_star (sym is_next ∙ q))), omega arith)
-      go (next_minus is_next) = (tree, sign ∷ middle, is, (λ q. false≢true (ap is_star (sym is_next ∙ q))), omega arith)
-      go (next_other no_star no_plus no_minus) = (tree, sign ∷ middle, is, no_star, omega arith)
+    product_more : ProductOn bound
+    product_more tokens [] tree stack output depth le h is e = absurd (refused e)
+    product_more tokens (sign ∷ middle) tree stack output depth le h is e = product_by (pred bound) (earlier (omega (arith, le))) tokens middle sign tree stack output depth (within (length middle) bound le) h is e (next_of sign.kind)
 
-  product_on : (bound : ℕ) → FindsOperand bound → (left : ℕ) → ProductOn bound left
-  product_on bound operands zero = product_none bound
-  product_on bound operands (suc left) = product_step bound left operands (product_on bound operands left)
+    sum_more : SumOn bound
+    sum_more tokens [] tree stack output depth le h no_star is e = absurd (refused e)
+    sum_more tokens (sign ∷ middle) tree stack output depth le h no_star is e = sum_by (pred bound) (earlier (omega (arith, le))) tokens middle sign tree stack output depth (within (length middle) bound le) h no_star is e (next_of sign.kind)
 
-  finds_product : (bound : ℕ) → FindsOperand bound → FindsProduct bound
-  finds_product bound operands tokens stack output depth le h e = go (operands tokens stack output depth le e)
-    where
-      go : OperandFound tokens → ProductFound (length tokens) tokens
-      go (tree, rest, is, lt) = product_within (suc (length rest)) (length tokens) tokens lt
-          (product_on bound operands (length rest) tokens rest tree stack (output ++ postfix tree) depth (omega arith) (omega (arith, le, lt)) h (operand is)
-          (sym (follows_operand is stack output depth) ∙ e))
+    finds_more : Finds bound
+    finds_more = record { operands = operand_more; products = product_more; sums = sum_more }
 
-  -- what is found where a sum stands at the front of the tokens already
-  abbrev SumOn : ℕ → ℕ → Type 0
-  SumOn bound left = (tokens middle : List Token) (tree : Expr) (stack : List Pending) (output : List Term) (depth : ℕ)
-      → length middle ≤ left → length middle ≤ bound → binds_less 1 stack ≡ true → head_kind middle ≢ Star
-      → IsSum text tokens tree middle → after_operand text stack output depth middle ≡ Ok answer → SumFound (suc (length middle)) tokens
+  finds_all : (bound : ℕ) → Finds bound
+  finds_all zero = finds_more zero (λ some. absurd (omega (arith, some)))
+  finds_all (suc bound) = finds_more (suc bound) (λ some. finds_all bound)
 
-  sum_none : (bound : ℕ) → SumOn bound zero
-  sum_none bound tokens [] tree stack output depth few le h no_star is e = absurd (refused e)
-  sum_none bound tokens (sign ∷ middle) tree stack output depth few le h no_star is e = absurd (omega (arith, few))
-
-  -- one more `+` or `-` and its product
-  sum_plus : (bound left : ℕ) → SumOn bound left → (tokens middle : List Token) (sign : Token) (tree : Expr) (stack : List Pending) (output : List Term) (depth : ℕ)
-      → length middle ≤ left → length middle < bound → binds_less 1 stack ≡ true
-      → IsSum text tokens tree (sign ∷ middle) → sign.kind ≡ Plus
-      → before_operand text (OperatorPending Add ∷ stack) output depth middle ≡ Ok answer → ProductFound (length middle) middle → SumFound (suc (suc (length middle))) tokens
-  sum_plus bound left on tokens middle sign tree stack output depth few le h is sign_is e (right, rest, more, over, shorter) =
-      sum_within (suc (length rest)) (suc (suc (length middle))) tokens (omega (arith, shorter)) (on tokens rest (Sum tree right) stack ((output ++ postfix right) ++ OperatorTerm Add ∷ []) depth (omega (arith, few, shorter)) (omega (arith, le, shorter)) h over
-      (plus is sign_is more)
-      (sym (settled text Add stack (output ++ postfix right) depth rest (level_for_product (head_kind rest) over))
-      ∙ sym (follows_product more (OperatorPending Add ∷ stack) output depth refl) ∙ e))
-
-  sum_minus : (bound left : ℕ) → SumOn bound left → (tokens middle : List Token) (sign : Token) (tree : Expr) (stack : List Pending) (output : List Term) (depth : ℕ)
-      → length middle ≤ left → length middle < bound → binds_less 1 stack ≡ true
-      → IsSum text tokens tree (sign ∷ middle) → sign.kind ≡ Minus
-      → before_operand text (OperatorPending Subtract ∷ stack) output depth middle ≡ Ok answer → ProductFound (length middle) middle → SumFound (suc (suc (length middle))) tokens
-  sum_minus bound left on tokens middle sign tree stack output depth few le h is sign_is e (right, rest, more, over, shorter) =
-      sum_within (suc (length rest)) (suc (suc (length middle))) tokens (omega (arith, shorter)) (on tokens rest (Difference tree right) stack ((output ++ postfix right) ++ OperatorTerm Subtract ∷ []) depth (omega (arith, few, shorter)) (omega (arith, le, shorter)) h over
-      (minus is sign_is more)
-      (sym (settled text Subtract stack (output ++ postfix right) depth rest (level_for_product (head_kind rest) over))
-      ∙ sym (follows_product more (OperatorPending Subtract ∷ stack) output depth refl) ∙ e))
-
-  sum_step : (bound left : ℕ) → FindsProduct bound → SumOn bound left → SumOn bound (suc left)
-  sum_step bound left products on tokens [] tree stack output depth few le h no_star is e = absurd (refused e)
-  sum_step bound left products on tokens (sign ∷ middle) tree stack output depth few le h no_star is e = go (next_of sign.kind)
-    where
-      go : Next sign.kind → SumFound (suc (suc (length middle))) tokens
-      go (next_times star) = absurd (no_star star)
-      go (next_plus sign_is) =
-          let after = sym (goes_on_plus text stack output depth sign middle sign_is h) ∙ e in
-          sum_plus bound left on tokens middle sign tree stack output depth (omega (arith, few)) (omega (arith, le)) h is sign_is after
-          (products middle (OperatorPending Add ∷ stack) output depth (omega (arith, le)) refl after)
-      go (next_minus sign_is) =
-          let after = sym (goes_on_minus text stack output depth sign middle sign_is h) ∙ e in
-          sum_minus bound left on tokens middle sign tree stack output depth (omega (arith, few)) (omega (arith, le)) h is sign_is after
-          (products middle (OperatorPending Subtract ∷ stack) output depth (omega (arith, le)) refl after)
-      go (next_other no_times no_plus no_minus) = (tree, sign ∷ middle, is, (no_times, no_plus, no_minus), omega arith)
-
-  sum_on : (bound : ℕ) → FindsProduct bound → (left : ℕ) → SumOn bound left
-  sum_on bound products zero = sum_none bound
-  sum_on bound products (suc left) = sum_step bound left products (sum_on bound products left)
-
-  finds_sum : (bound : ℕ) → FindsProduct bound → FindsSum bound
-  finds_sum bound products tokens stack output depth le h e = go (products tokens stack output depth le (binds_less-two stack h) e)
-    where
-      go : ProductFound (length tokens) tokens → SumFound (length tokens) tokens
-      go (tree, rest, is, over, lt) = sum_within (suc (length rest)) (length tokens) tokens lt
-          (sum_on bound products (length rest) tokens rest tree stack (output ++ postfix tree) depth (omega arith) (omega (arith, le, lt)) h over (product is)
-          (sym (follows_product is stack output depth (binds_less-two stack h)) ∙ e))
-
-  -- operands of any length
-  finds_none : FindsOperand zero
-  finds_none [] stack output depth le e = absurd (refused e)
-  finds_none (token ∷ tokens) stack output depth le e = absurd (omega (arith, le))
-
-  finds_operand : (bound : ℕ) → FindsOperand bound
-  finds_operand zero = finds_none
-  finds_operand (suc bound) = operand_more bound (finds_product bound (finds_operand bound)) (finds_sum bound (finds_product bound (finds_operand bound)))
-
-  -- products and sums of any length
-  products_on : (bound : ℕ) → ProductOn bound bound
-  products_on bound = product_on bound (finds_operand bound) bound
-
-  sums_on : (bound : ℕ) → SumOn bound bound
-  sums_on bound = sum_on bound (finds_product bound (finds_operand bound)) bound
-
-  pub finds : (tokens : List Token) → before_operand text [] [] 0 tokens ≡ Ok answer → SumFound (length tokens) tokens
-  finds tokens e = let bound = length tokens in finds_sum bound (finds_product bound (finds_operand bound)) tokens [] [] 0 (omega arith) refl e
-
-  -- a sum at the front of tokens that are accepted goes on to one that goes no further
-  sum_to_end : (tokens middle : List Token) (tree : Expr) (few : ℕ) → length middle < few → head_kind middle ≢ Star → IsSum text tokens tree middle
-      → before_operand text [] [] 0 tokens ≡ Ok answer → SumFound few tokens
-  sum_to_end tokens middle tree few lt no_star is e = sum_within (suc (length middle)) few tokens lt
-      (sums_on (length middle) tokens middle tree [] (postfix tree) 0 (omega arith) (omega arith) refl no_star is (sym (follows_sum is [] [] 0 refl no_star) ∙ e))
-
-  product_to_end : (tokens : List Token) (few : ℕ) → before_operand text [] [] 0 tokens ≡ Ok answer → ProductFound few tokens → SumFound few tokens
-  product_to_end tokens few e (tree, rest, is, over, lt) = sum_to_end tokens rest tree few lt over (product is) e
-
-  plus_to_end : (tokens middle : List Token) (sign : Token) (left : Expr) (few : ℕ) → IsSum text tokens left (sign ∷ middle) → sign.kind ≡ Plus
-      → before_operand text [] [] 0 tokens ≡ Ok answer → ProductFound few middle → SumFound few tokens
-  plus_to_end tokens middle sign left few is sign_is e (right, rest, more, over, lt) = sum_to_end tokens rest (Sum left right) few lt over (plus is sign_is more) e
-
-  minus_to_end : (tokens middle : List Token) (sign : Token) (left : Expr) (few : ℕ) → IsSum text tokens left (sign ∷ middle) → sign.kind ≡ Minus
-      → before_operand text [] [] 0 tokens ≡ Ok answer → ProductFound few middle → SumFound few tokens
-  minus_to_end tokens middle sign left few is sign_is e (right, rest, more, over, lt) = sum_to_end tokens rest (Difference left right) few lt over (minus is sign_is more) e
-
-  reaches_end : {tokens rest : List Token} {tree : Expr} → IsSum text tokens tree rest → before_operand text [] [] 0 tokens ≡ Ok answer → SumFound (suc (length rest)) tokens
-  reaches_end (product {tokens = tokens} {rest = rest} {tree = tree} is) e =
-      product_to_end tokens (suc (length rest)) e
-      (products_on (length rest) tokens rest tree [] (postfix tree) 0 (omega arith) (omega arith) refl is (sym (follows_product is [] [] 0 refl) ∙ e))
-  reaches_end (plus {tokens = tokens} {middle = middle} {rest = rest} {left = left} {right = right} {sign = sign} is sign_is more) e =
-      let after = sym (goes_on_plus text [] (postfix left) 0 sign middle sign_is refl) ∙ sym (follows_sum is [] [] 0 refl (λ q. false≢true (ap is_star (sym sign_is ∙ q)))) ∙ e in
-      plus_to_end tokens middle sign left (suc (length rest)) is sign_is e
-      (products_on (length rest) middle rest right (OperatorPending Add ∷ []) (postfix left ++ postfix right) 0 (omega arith) (omega arith) refl more
-      (sym (follows_product more (OperatorPending Add ∷ []) (postfix left) 0 refl) ∙ after))
-  reaches_end (minus {tokens = tokens} {middle = middle} {rest = rest} {left = left} {right = right} {sign = sign} is sign_is more) e =
-      let after = sym (goes_on_minus text [] (postfix left) 0 sign middle sign_is refl) ∙ sym (follows_sum is [] [] 0 refl (λ q. false≢true (ap is_star (sym sign_is ∙ q)))) ∙ e in
-      minus_to_end tokens middle sign left (suc (length rest)) is sign_is e
-      (products_on (length rest) middle rest right (OperatorPending Subtract ∷ []) (postfix left ++ postfix right) 0 (omega arith) (omega arith) refl more
-      (sym (follows_product more (OperatorPending Subtract ∷ []) (postfix left) 0 refl) ∙ after))
+  pub finds : (tokens : List Token) → before_operand text [] [] 0 tokens ≡ Ok answer → SumFound tokens
+  finds tokens e = sum_there (length tokens) (finds_all (length tokens)) tokens [] [] 0 (omega arith) refl e
 
 -- an expression is over at a token with which it does not go on
 over : (text : List ℕ) (output : List Term) (token : Token) (rest : List Token) → EndsSum (token ∷ rest) → after_operand text [] output 0 (token ∷ rest) ≡ Ok (output, token ∷ rest)
@@ -333,15 +228,28 @@ module _ (text : List ℕ) (tokens : List Token) (terms : List Term) (rest : Lis
       not_none q = false≢true (ap is_none_left q)
 
   pub finds_tree : (tree : Expr) × IsExpression text tokens tree rest × (postfix tree ≡ terms)
-  finds_tree = let found = finds text (terms, rest) tokens e in found_whole found.0 found.1 found.2 found.3
+  finds_tree = let found = finds text (terms, rest) tokens e in found_whole found.0 found.1 found.3 found.2
 
-  -- a sum that goes no further leaves what is left
-  left_after : (tree : Expr) (end : List Token) → IsSum text tokens tree end → EndsSum end → end ≡ rest
-  left_after tree [] is ends = absurd (refused (sym (follows_sum is [] [] 0 refl ends.0) ∙ e))
-  left_after tree (token ∷ end) is ends = same_left (sym (follows_sum is [] [] 0 refl ends.0 ∙ over text (postfix tree) token end ends) ∙ e)
+-- tokens with a sum at their front are read from its end on
+from_end : (text : List ℕ) (answer : List Term × List Token) {tokens rest : List Token} {tree : Expr} → IsSum text tokens tree rest → before_operand text [] [] 0 tokens ≡ Ok answer
+    → (stack : List Pending) × (output : List Term) × (after_operand text stack output 0 rest ≡ Ok answer)
+from_end text answer (product {tree = tree} is) e = ([], postfix tree, sym (follows_product is [] [] 0 refl) ∙ e)
+from_end text answer (plus {middle = middle} {left = left} {right = right} {sign = sign} is sign_is more) e = (
+  OperatorPending Add ∷ [],
+  postfix left ++ postfix right,
+  sym (follows_product more (OperatorPending Add ∷ []) (postfix left) 0 refl) ∙ sym (goes_on_plus text [] (postfix left) 0 sign middle sign_is refl)
+      ∙ sym (follows_sum is [] [] 0 refl (λ q. false≢true (ap is_star (sym sign_is ∙ q)))) ∙ e,
+)
+from_end text answer (minus {middle = middle} {left = left} {right = right} {sign = sign} is sign_is more) e = (
+  OperatorPending Subtract ∷ [],
+  postfix left ++ postfix right,
+  sym (follows_product more (OperatorPending Subtract ∷ []) (postfix left) 0 refl) ∙ sym (goes_on_minus text [] (postfix left) 0 sign middle sign_is refl)
+      ∙ sym (follows_sum is [] [] 0 refl (λ q. false≢true (ap is_star (sym sign_is ∙ q)))) ∙ e,
+)
 
-  none_longer_by : (few : ℕ) → SumFound text (terms, rest) few tokens → length rest < few
-  none_longer_by few (tree, end, is, ends, lt) = subst (λ (l : List Token). length l < few) (left_after tree end is ends) lt
-
-  pub none_longer : (other : Expr) (end : List Token) → IsSum text tokens other end → length rest ≤ length end
-  none_longer other end is = omega (arith, none_longer_by (suc (length end)) (reaches_end text (terms, rest) is e))
+pub none_longer : NoneLonger
+none_longer text tokens tree other rest rest' is sum =
+    let at = from_end text (postfix tree, rest) sum (reads text tokens tree rest is) in
+    let e = extent_of text rest' (record { stack = at.0; output = at.1; awaited = false; depth = 0 }) (postfix tree) rest at.2 in
+    let whole : rest' ≡ e.consumed ++ rest = e.whole in
+    omega (arith, ap length whole, length-append e.consumed rest)

@@ -1,18 +1,7 @@
 -- A line, and an expression, is refused at the first token with which none of the grammar begins as the tokens up to it do.
 use Rattle.std.proofs.Common.{◌≡◌, not, Bool, true, false, ℕ, List, [], ◌∷◌, ◌++◌, Result, Ok, Err, inl, inr, append_assoc, append-nil, refl, sym, ap, ◌∙◌, subst}
-use Rattle.source_text.specs.declared.position.SourcePosition.{SourcePosition}
-use Rattle.pio_parse.specs.declared.token.Token.{Token}
-use Rattle.pio_parse.specs.declared.token.TokenKind.TheVariants.{LineEnd}
-use Rattle.source_text.specs.Outcome.{map_ok}
-use Rattle.pio_parse.specs.descent.Cursor.{Outcome}
-use Rattle.pio_parse.specs.Tokens.{is_end}
-use Rattle.pio_parse.specs.descent.Statement.{line_at}
+use Rattle.pio_parse.proofs.Names.{SourcePosition, Token, LineEnd, map_ok, Outcome, is_end, line_at, expression_at, BeginsExpression, IsExpression, FaultsAtFirst, ends_line, LineFaultsAtFirst, is_line, BeginsLine, IsLine}
 use Rattle.pio_parse.proofs.Tests.{both, err_is, not_true, refused}
-use Rattle.pio_parse.specs.descent.Expression.{expression_at}
-use Rattle.pio_parse.specs.Grammar.{BeginsExpression, IsExpression}
-use Rattle.pio_parse.specs.Laws.{FaultsAtFirst, ends_line}
-use Rattle.pio_parse.specs.GrammarLaws.{LineFaultsAtFirst, is_line}
-use Rattle.pio_parse.specs.Lines.{BeginsLine, IsLine}
 use Rattle.pio_parse.proofs.Finds.{finds_tree, reads}
 use Rattle.pio_parse.proofs.Extents.{refusal}
 use Rattle.pio_parse.proofs.Reading.{Answer, Can, Refused, Rest, token_of}

@@ -1,26 +1,6 @@
 -- The stack of waiting operators follows the grammar: where tokens are a sum, a product or an operand, it comes to the terms of its tree.
 use Rattle.std.proofs.Common.{◌≡◌, ◌≢◌, ◌==◌, ℕ, ◌+◌, ◌-◌, nat_le, Bool, true, false, not, if◌then◌else◌, List, [], ◌∷◌, ◌++◌, Option, Some, None, Result, Ok, Err, arith, refl, sym, ap, ◌∙◌, append_assoc}
-use mathlib.Core.Bool.{false≢true}
-use Rattle.std.specs.Option.{option_map_or}
-use Rattle.source_text.specs.declared.position.SourcePosition.{SourcePosition}
-use Rattle.pio_parse.specs.declared.token.Token.{Token}
-use Rattle.pio_parse.specs.declared.token.TokenKind.{TokenKind}
-use Rattle.pio_parse.specs.declared.token.TokenKind.TheVariants.{DoubleColon, OpenParenthesis, CloseParenthesis, Plus, Minus, Star}
-use Rattle.pio_parse.specs.declared.expression.Operator.{Operator}
-use Rattle.pio_parse.specs.declared.expression.Operator.TheVariants.{Add, Subtract, Multiply, Negate as NegateOperator, Reverse as ReverseOperator}
-use Rattle.pio_parse.specs.declared.expression.Term.{Term}
-use Rattle.pio_parse.specs.declared.expression.Term.TheVariants.{Operator as OperatorTerm}
-use Rattle.pio_parse.specs.declared.expression.Pending.{Pending}
-use Rattle.pio_parse.specs.declared.expression.Reading.{Reading}
-use Rattle.pio_parse.specs.descent.Expression.{expression_from, level_of, operator_step, reduced, with_closed}
-use Rattle.pio_parse.specs.declared.expression.Pending.TheVariants.{Parenthesis, Operator as OperatorPending}
-use Rattle.source_text.specs.Outcome.{and_then}
-use Rattle.pio_parse.specs.descent.Cursor.{Outcome}
-use Rattle.pio_parse.specs.Tokens.{head_kind}
-use Rattle.pio_parse.specs.Grammar.{Expr, IsOperand, IsProduct, IsSum, postfix}
-use Rattle.pio_parse.specs.Grammar.IsSum.{product, plus, minus}
-use Rattle.pio_parse.specs.Grammar.IsProduct.{operand, times}
-use Rattle.pio_parse.specs.Grammar.IsOperand.{number, name, parentheses, negate, reverse}
+use Rattle.pio_parse.proofs.Names.{false≢true, option_map_or, SourcePosition, Token, TokenKind, DoubleColon, OpenParenthesis, CloseParenthesis, Plus, Minus, Star, Operator, Add, Subtract, Multiply, NegateOperator, ReverseOperator, Term, OperatorTerm, Pending, Reading, expression_from, level_of, operator_step, reduced, with_closed, Parenthesis, OperatorPending, and_then, Outcome, head_kind, Expr, IsOperand, IsProduct, IsSum, postfix, product, plus, minus_sum as minus, operand, times, number, name, parentheses, negate, reverse}
 
 -- what is read where an operand comes next, and after an operand
 abbrev pub before_operand : List ℕ → List Pending → List Term → ℕ → List Token → Outcome (List Term)

@@ -1,20 +1,6 @@
 -- The lines that `parse` gathers one after the other make the source of the lines.
 use Rattle.std.proofs.Common.{◌≡◌, ◌||◌, ℕ, Bool, true, false, cond, List, [], ◌∷◌, ◌++◌, Option, None, Some, append-nil, append_assoc, refl, sym, ap, ◌∙◌}
-use Rattle.std.specs.Prelude.{Result, Ok, Err, is_some, option_to_list}
-use Rattle.source_text.specs.declared.position.SourcePosition.{SourcePosition}
-use Rattle.pio_parse.specs.declared.token.Token.{Token}
-use Rattle.pio_parse.specs.declared.syntax.Statement.{Statement}
-use Rattle.pio_parse.specs.declared.syntax.Statement.TheVariants.{Program}
-use Rattle.pio_parse.specs.declared.syntax.Line.{Line}
-use Rattle.pio_parse.specs.declared.syntax.SourceProgram.{SourceProgram}
-use Rattle.pio_parse.specs.declared.syntax.Source.{Source}
-use Rattle.pio_parse.specs.declared.parser.Groups.{Groups}
-use Rattle.source_text.specs.Outcome.{and_then, map_ok}
-use Rattle.pio_parse.specs.Tokens.{is_end, is_program}
-use Rattle.pio_parse.specs.descent.Statement.{line_at}
-use Rattle.pio_parse.specs.Programs.{before_by, gathered, token_lines, with_first}
-use Rattle.pio_parse.specs.descent.Parsed.{lines_at, source_of}
-use Rattle.pio_parse.specs.descent.Gathering.{grouped, grouped_by, line_step, no_groups, source_from}
+use Rattle.pio_parse.proofs.Names.{Result, Ok, Err, is_some, option_to_list, SourcePosition, Token, Statement, Program, Line, SourceProgram, Source, Groups, and_then, map_ok, is_end, is_program, line_at, before_by, gathered, token_lines, with_first, lines_at, source_of, grouped, grouped_by, line_step, no_groups, source_from}
 
 -- what is gathered, with the source of the lines that come
 abbrev joined_to : List Line → List SourceProgram → Option SourceProgram → Source → Source

@@ -1,3 +1,4 @@
+pub mod Names
 pub mod Tests
 pub mod Gathered
 pub mod SourceLines

@@ -1,58 +1,17 @@
 -- How the parts of a line are read: its label, its directive or its instruction with its operands and modifiers, and its end.
 use Rattle.std.proofs.Common.{◌≡◌, ◌==◌, ◌&&◌, ◌||◌, Bool, true, false, if◌then◌else◌, ℕ, suc, ◌-◌, List, [], ◌∷◌, Option, Some, None, Ok, Err, inl, inr, arith, refl, sym, ap, ◌∙◌, subst}
-use Rattle.std.proofs.lemmas.Bool.Decides.{eqb_tells}
-use mathlib.Core.Bool.{false≢true}
-use Rattle.pio_words.specs.declared.op.JmpCondition.{JmpCondition}
-use Rattle.pio_words.specs.declared.op.JmpCondition.TheVariants.{Always, XZero, XDecrement, YZero, YDecrement, XNotY, Pin as PinHigh, OsrNotEmpty}
+use Rattle.pio_parse.proofs.Names.{eqb_tells, false≢true, JmpCondition, Always, XZero, XDecrement, YZero, YDecrement, XNotY, PinHigh, OsrNotEmpty, MovOperation, SourcePosition, Span, Token, Keyword, Public, Opt, Pindirs, Jmp, Wait, In, Out, Push, Pull, Mov, Irq, Set, Nop, Side, Gpio, Pin, Rel, Pins, X, Y, Osre, IfFull, IfEmpty, Block, NoBlock, NoWait, Clear, ProgramDirective as Program, Define, Origin, SideSet, WrapTarget, Wrap, WordDirective as Word, LangOpt, PioVersion, TokenKind, Name, KeywordToken, DirectiveToken, Number, Comma, Colon, Minus, NotEqual, BangToken as Bang, Tilde, DoubleColon, OpenBracket, CloseBracket, LineEnd, FileEnd, Term, NumberTerm, Operation, Statement, Program as ProgramStatement, DefineStatement, OriginStatement, SideSetStatement, WrapTargetStatement, WrapStatement, WordStatement, InstructionStatement, and_then, map_ok, Outcome, after_head, expected, misfit, are_together, head_kind, head_position, is_program, name_at, expression_at, operand_at, in_source_of, mov_destination_of, mov_source_of, out_destination_of, set_destination_of, block_at, block_of, conditional_at, decrement_at, delay_at, flag_at, in_at, irq_at, irq_mode_at, irq_mode_of, is_close_bracket, is_comma, is_if_empty, is_if_full, is_minus, is_not_equal, is_open_bracket, is_rel, is_side, is_y, jmp_at, jmp_condition_at, jmp_condition_of, last_operand_at, modified_at, modifiers_at, mov_at, mov_operation_at, mov_operation_of, named_at, not_condition_at, not_condition_of, out_at, past_comma, polarity_at, polarity_of, pull_at, push_at, set_at, side_at, wait_at, wait_for, x_condition_at, begins_label, define_at, is_colon, is_end_after, is_opt, is_pindirs, is_public, is_zero, label_at, name_of_kind, name_token_at, past_public, side_set_at, statement_at, statement_of_kind, version_at, is_line, IsBlock, IsCondition, IsDecrement, IsDelay, IsIrqMode, IsJmpCondition, IsLabel, IsLastValue, IsModifiers, IsMovOperation, IsOperation, IsPolarity, IsProgram, IsSetting, IsSide, IsStatement, MayStand, last_value, x_zero, x_decrement, y_zero, y_decrement, x_not_y, pin, osr_not_empty, always, condition, no_polarity, polarity, block, noblock, no_word, plain, invert, tilde_source as tilde, reverse_source as reverse, no_mode, set_mode, nowait, wait_mode, clear_mode, jmp, wait_gpio, wait_pin, wait_irq, in_, out, push, pull, mov, irq, set, nop, no_side, side, no_delay, delay, side_first, delay_first, define, lang_opt, pio_version, program_line, nothing_said as nothing, setting, program, origin, side_set, wrap_target, wrap, word_statement, instruction, no_label, label}
 use Rattle.pio_words.specs.declared.op.InSource.TheVariants.{Pins as InPins}
 use Rattle.pio_words.specs.declared.op.OutDestination.TheVariants.{Pins as OutPins}
 use Rattle.pio_words.specs.declared.op.SetDestination.TheVariants.{Pins as SetPins}
 use Rattle.pio_words.specs.declared.op.MovDestination.{MovDestination}
 use Rattle.pio_words.specs.declared.op.MovDestination.TheVariants.{Pins as ToPins, Y as MovToY}
-use Rattle.pio_words.specs.declared.op.MovOperation.{MovOperation}
 use Rattle.pio_words.specs.declared.op.MovOperation.TheVariants.{Plain, Invert, Reverse}
 use Rattle.pio_words.specs.declared.op.MovSource.TheVariants.{Pins as FromPins, Y as MovFromY}
-use Rattle.source_text.specs.declared.position.SourcePosition.{SourcePosition}
-use Rattle.pio_parse.specs.declared.token.Span.{Span}
-use Rattle.pio_parse.specs.declared.token.Token.{Token}
-use Rattle.pio_parse.specs.declared.token.Keyword.{Keyword}
-use Rattle.pio_parse.specs.declared.token.Keyword.TheVariants.{Public, Opt, Pindirs, Jmp, Wait, In, Out, Push, Pull, Mov, Irq, Set, Nop, Side, Gpio, Pin, Rel, Pins, X, Y, Osre, IfFull, IfEmpty, Block, NoBlock, NoWait, Clear}
 use Rattle.pio_parse.specs.declared.token.Directive.{Directive}
-use Rattle.pio_parse.specs.declared.token.Directive.TheVariants.{Program, Define, Origin, SideSet, WrapTarget, Wrap, Word, LangOpt, PioVersion}
-use Rattle.pio_parse.specs.declared.token.TokenKind.{TokenKind}
-use Rattle.pio_parse.specs.declared.token.TokenKind.TheVariants.{Name, Keyword as KeywordToken, Directive as DirectiveToken, Number, Comma, Colon, Minus, NotEqual, Bang, Tilde, DoubleColon, OpenBracket, CloseBracket, LineEnd, FileEnd}
-use Rattle.pio_parse.specs.declared.expression.Term.{Term}
-use Rattle.pio_parse.specs.declared.expression.Term.TheVariants.{Number as NumberTerm}
-use Rattle.pio_parse.specs.declared.syntax.Operation.{Operation}
 use Rattle.pio_parse.specs.declared.syntax.Operation.TheVariants.{Jmp as JmpOperation, WaitGpio, WaitPin, WaitIrq, In as InOperation, Out as OutOperation, Push as PushOperation, Pull as PullOperation, Mov as MovOperation', Irq as IrqOperation, Set as SetOperation}
 use Rattle.pio_parse.specs.declared.syntax.Instruction.{Instruction}
-use Rattle.pio_parse.specs.declared.syntax.Statement.{Statement}
-use Rattle.pio_parse.specs.declared.syntax.Statement.TheVariants.{Program as ProgramStatement, Define as DefineStatement, Origin as OriginStatement, SideSet as SideSetStatement, WrapTarget as WrapTargetStatement, Wrap as WrapStatement, Word as WordStatement, Instruction as InstructionStatement}
-use Rattle.source_text.specs.Outcome.{and_then, map_ok}
-use Rattle.pio_parse.specs.descent.Cursor.{Outcome, after_head, expected, misfit}
-use Rattle.pio_parse.specs.Tokens.{are_together, head_kind, head_position, is_program, name_at}
-use Rattle.pio_parse.specs.descent.Expression.{expression_at, operand_at}
-use Rattle.pio_parse.specs.Registers.{in_source_of, mov_destination_of, mov_source_of, out_destination_of, set_destination_of}
-use Rattle.pio_parse.specs.descent.Instruction.{block_at, block_of, conditional_at, decrement_at, delay_at, flag_at, in_at, irq_at, irq_mode_at, irq_mode_of, is_close_bracket, is_comma, is_if_empty, is_if_full, is_minus, is_not_equal, is_open_bracket, is_rel, is_side, is_y, jmp_at, jmp_condition_at, jmp_condition_of, last_operand_at, modified_at, modifiers_at, mov_at, mov_operation_at, mov_operation_of, named_at, not_condition_at, not_condition_of, out_at, past_comma, polarity_at, polarity_of, pull_at, push_at, set_at, side_at, wait_at, wait_for, x_condition_at}
-use Rattle.pio_parse.specs.descent.Statement.{begins_label, define_at, is_colon, is_end_after, is_opt, is_pindirs, is_public, is_zero, label_at, name_of_kind, name_token_at, past_public, side_set_at, statement_at, statement_of_kind, version_at}
 use Rattle.pio_parse.proofs.Tests.{both, err_is, ok_is, refused, same_left}
-use Rattle.pio_parse.specs.GrammarLaws.{is_line}
-use Rattle.pio_parse.specs.Lines.{IsBlock, IsCondition, IsDecrement, IsDelay, IsIrqMode, IsJmpCondition, IsLabel, IsLastValue, IsModifiers, IsMovOperation, IsOperation, IsPolarity, IsProgram, IsSetting, IsSide, IsStatement, MayStand}
-use Rattle.pio_parse.specs.Lines.IsLastValue.{last_value}
-use Rattle.pio_parse.specs.Lines.IsCondition.{x_zero, x_decrement, y_zero, y_decrement, x_not_y, pin, osr_not_empty}
-use Rattle.pio_parse.specs.Lines.IsJmpCondition.{always, condition}
-use Rattle.pio_parse.specs.Lines.IsPolarity.{no_polarity, polarity}
-use Rattle.pio_parse.specs.Lines.IsBlock.{block, noblock, no_word}
-use Rattle.pio_parse.specs.Lines.IsMovOperation.{plain, invert, tilde, reverse}
-use Rattle.pio_parse.specs.Lines.IsIrqMode.{no_mode, set as set_mode, nowait, wait as wait_mode, clear as clear_mode}
-use Rattle.pio_parse.specs.Lines.IsOperation.{jmp, wait_gpio, wait_pin, wait_irq, in_, out, push, pull, mov, irq, set, nop}
-use Rattle.pio_parse.specs.Lines.IsSide.{no_side, side}
-use Rattle.pio_parse.specs.Lines.IsDelay.{no_delay, delay}
-use Rattle.pio_parse.specs.Lines.IsModifiers.{side_first, delay_first}
-use Rattle.pio_parse.specs.Lines.IsSetting.{define, lang_opt, pio_version}
-use Rattle.pio_parse.specs.Lines.IsProgram.{program as program_line}
-use Rattle.pio_parse.specs.Lines.IsStatement.{nothing, setting, program, origin, side_set, wrap_target, wrap, word as word_statement, instruction}
-use Rattle.pio_parse.specs.Lines.IsLabel.{no_label, label}
 use Rattle.pio_parse.proofs.Reading.{After, Answer, Can, Good, IsNamed, IsOne, Reads, Refused, Rest, Step, begins, bind, can_after, choose, chosen, flag_reads, good_to, named_reads, not_end, one_reads, reads_map, reads_then, reads_to, token_of}
 use Rattle.pio_parse.proofs.Reading.IsNamed.{named}
 use Rattle.pio_parse.proofs.Reading.IsOne.{one}

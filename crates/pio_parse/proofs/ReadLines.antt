@@ -1,28 +1,13 @@
 -- A line is read as the grammar has it, and is refused at the first token with which no line of the grammar begins so.
 use Rattle.std.proofs.Common.{◌≡◌, ◌||◌, not, Bool, true, false, if◌then◌else◌, ℕ, List, [], ◌∷◌, Option, None, Ok, Err, ◌⊎◌, inl, inr, refl, sym, ap, ◌∙◌, subst}
-use mathlib.Core.Bool.{false≢true}
-use Rattle.source_text.specs.declared.position.SourcePosition.{SourcePosition}
-use Rattle.pio_parse.specs.declared.token.Token.{Token}
-use Rattle.pio_parse.specs.declared.token.Directive.TheVariants.{Program, Define, LangOpt, PioVersion}
-use Rattle.pio_parse.specs.declared.token.TokenKind.{TokenKind}
-use Rattle.pio_parse.specs.declared.token.TokenKind.TheVariants.{Directive as DirectiveToken, LineEnd, FileEnd}
-use Rattle.pio_parse.specs.declared.syntax.Statement.{Statement}
-use Rattle.pio_parse.specs.declared.syntax.Line.{Line}
-use Rattle.source_text.specs.Outcome.{and_then, map_ok}
-use Rattle.pio_parse.specs.descent.Cursor.{Outcome, after_head, misfit}
-use Rattle.pio_parse.specs.Tokens.{head_kind, head_position, is_end, is_program}
-use Rattle.pio_parse.specs.descent.Statement.{begins_label, end_at, is_end_after, is_first, label_at, line_at, statement_at, statement_of_kind}
+use Rattle.pio_parse.proofs.Names.{false≢true, SourcePosition, Token, ProgramDirective as Program, Define, LangOpt, PioVersion, TokenKind, DirectiveToken, LineEnd, FileEnd, Statement, Line, and_then, map_ok, Outcome, after_head, misfit, head_kind, head_position, is_end, is_program, begins_label, end_at, is_end_after, is_first, label_at, line_at, statement_at, statement_of_kind, ReadsLines, is_line, IsLabel, IsLine, IsProgram, IsSetting, IsStatement, define, lang_opt, pio_version, program_line}
 use Rattle.pio_parse.proofs.Tests.{both, not_true, refused, same_left, same_value}
-use Rattle.pio_parse.specs.GrammarLaws.{ReadsLines, is_line}
-use Rattle.pio_parse.specs.Lines.{IsLabel, IsLine, IsProgram, IsSetting, IsStatement}
-use Rattle.pio_parse.specs.Lines.IsSetting.{define, lang_opt, pio_version}
-use Rattle.pio_parse.specs.Lines.IsProgram.{program as program_line}
 use Rattle.pio_parse.specs.Lines.IsLine.{line as a_line, blank_before, setting_before, first_program}
 use Rattle.pio_parse.proofs.Reading.{Answer, Good, Rest, Step, Then, bind, choose, reads_to, token_of}
 use Rattle.pio_parse.proofs.Reading.Step.{misfit_here, shift, take, keep}
 use Rattle.pio_parse.proofs.Parts.{IsEnded, define_reads, ended, ended_good, label_reads, program_reads, statement_reads, version_reads}
 use Rattle.pio_parse.proofs.Parts.IsEnded.{end_here}
-use Rattle.pio_parse.proofs.Completes.{Ending, label_is, program_is, setting_is, statement_is, statement_word}
+use Rattle.pio_parse.proofs.Completes.{Ending, label_is, program_is, setting_is, statement_is, unlabelled}
 use Rattle.pio_parse.proofs.Completes.Ending.{line_next, file_next}
 
 -- what may stand before the first `.program`
@@ -170,9 +155,10 @@ module _ {text : List ℕ} where
 
   -- each line of the grammar is read
   pub complete : {started : Bool} {tokens : List Token} {line : Line} → IsLine text started tokens line → line_at text started tokens ≡ Ok (line, [])
-  complete {tokens = tokens} (a_line {end = end} is_label is_statement ends) =
+  complete {tokens = tokens} (a_line {middle = middle} {end = end} is_label is_statement ends) =
       let e = ending end [] ends in
-      line_is text true tokens ∙ rw (label_is is_label (statement_word is_statement e), statement_is is_statement e, end_true end.kind ends) refl
+      let plain : begins_label (head_kind middle) ≡ false = unlabelled text (head_kind middle) middle _ (statement_is is_statement e) in
+      line_is text true tokens ∙ rw (label_is is_label plain, statement_is is_statement e, end_true end.kind ends) refl
   complete {tokens = tokens} (blank_before k) = line_is text false tokens ∙ rw k refl
   complete {tokens = tokens} (setting_before set k) = line_is text false tokens ∙ rw (setting_first set, setting_is set (line_next k), k) refl
   complete {tokens = tokens} (first_program {end = end} p ends) = line_is text false tokens ∙ rw (program_first p, program_is p, program_is_one p, end_true end.kind ends) refl

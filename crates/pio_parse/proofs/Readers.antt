@@ -1,16 +1,8 @@
 -- What `parse` reads is what the grammar has, and the grammar has one answer for each file.
 use Rattle.std.proofs.Common.{◌≡◌, ℕ, List, Result, Ok, Err, refl, sym, ap, ◌∙◌}
-use Rattle.std.specs.Prelude.{IfOk, IfErr}
-use Rattle.source_text.specs.declared.position.SourcePosition.{SourcePosition}
-use Rattle.pio_parse.specs.declared.token.Token.{Token}
-use Rattle.pio_parse.specs.declared.syntax.Source.{Source}
+use Rattle.pio_parse.proofs.Names.{IfOk, IfErr, SourcePosition, Token, Source, EarlyFault, IsAnswer, IsFault, IsSource, Reader, CharAt, SyntaxAt, OneAnswer, IsFaultOf, parsed, parsed_tokens, with_syntax, scanned}
 use Rattle.pio_parse.specs.declared.fault.PioFault.{PioFault}
 use Rattle.pio_parse.specs.declared.fault.PioFault.TheVariants.{Char, Syntax}
-use Rattle.pio_parse.specs.Files.{EarlyFault, IsAnswer, IsFault, IsSource, Reader}
-use Rattle.pio_parse.specs.Files.EarlyFault.{CharAt, SyntaxAt}
-use Rattle.pio_parse.specs.GrammarLaws.{OneAnswer}
-use Rattle.pio_parse.specs.descent.Parsed.{IsFaultOf, parsed, parsed_tokens, with_syntax}
-use Rattle.pio_parse.specs.descent.Scan.{scanned}
 use Rattle.pio_parse.proofs.Decide.{char_faults_at_first}
 use Rattle.pio_parse.proofs.Files.{parses_grammar, syntax_faults_at_first}
 

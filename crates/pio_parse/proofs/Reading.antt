@@ -1,20 +1,8 @@
 -- How the rest of a line is read, part by part: what stands there where it is read, and where it is refused.
 use Rattle.std.proofs.Common.{◌≡◌, not, Bool, true, false, ℕ, List, [], ◌∷◌, Option, Some, None, Ok, Err, ◌⊎◌, inl, inr, refl, sym, ap, ◌∙◌}
-use mathlib.Core.Bool.{false≢true}
-use Rattle.source_text.specs.declared.position.SourcePosition.{SourcePosition}
-use Rattle.pio_parse.specs.declared.token.Token.{Token}
-use Rattle.pio_parse.specs.declared.token.TokenKind.{TokenKind}
-use Rattle.pio_parse.specs.declared.token.TokenKind.TheVariants.{LineEnd, FileEnd}
-use Rattle.pio_parse.specs.declared.syntax.Statement.{Statement}
-use Rattle.source_text.specs.Outcome.{and_then, map_ok}
-use Rattle.pio_parse.specs.descent.Cursor.{Outcome, after_head, expected, misfit}
-use Rattle.pio_parse.specs.Tokens.{head_kind, head_position, is_end}
-use Rattle.pio_parse.specs.descent.Instruction.{flag_at, named_at}
+use Rattle.pio_parse.proofs.Names.{false≢true, SourcePosition, Token, TokenKind, LineEnd, FileEnd, Statement, and_then, map_ok, Outcome, after_head, expected, misfit, head_kind, head_position, is_end, flag_at, named_at, MayStand, stands, missing, is_line}
 use Rattle.pio_parse.proofs.Tests.{both, err_is, refused}
 use Rattle.pio_parse.proofs.Extents.{ends_sum}
-use Rattle.pio_parse.specs.Lines.{MayStand}
-use Rattle.pio_parse.specs.Lines.MayStand.{stands, missing}
-use Rattle.pio_parse.specs.GrammarLaws.{is_line}
 
 -- what a line says: its label and its statement
 abbrev pub Answer : Type 0

@@ -1,19 +1,9 @@
 use Rattle.std.proofs.Common.{◌≡◌, ℕ, suc, ◌+◌, ◌-◌, ◌<◌, ◌≤◌, true, false, List, [], ◌∷◌, ◌++◌, length, take, drop, get_or, arith, refl, ap, ◌∙◌, length-drop, drop-cons, add-one}
-use Rattle.std.specs.Prelude.{slice_range}
+use Rattle.pio_parse.proofs.Names.{slice_range, Result, Ok, get_or-drop, SourcePosition, Token, Source, Groups, and_then, is_end, source_of, line_step, source_from}
 use Rattle.std.proofs.Math.Seq.{take-suc}
-use Rattle.std.proofs.lemmas.List.{get_or-drop}
 use Rattle.pio_parse.specs.declared.cursor.Stop.{Stop}
 use Rattle.pio_parse.specs.declared.cursor.Stop.TheVariants.{Syntax, Memory}
-use Rattle.std.specs.Prelude.{Result, Ok}
-use Rattle.source_text.specs.declared.position.SourcePosition.{SourcePosition}
-use Rattle.pio_parse.specs.declared.token.Token.{Token}
-use Rattle.pio_parse.specs.declared.syntax.Source.{Source}
-use Rattle.pio_parse.specs.declared.parser.Groups.{Groups}
-use Rattle.source_text.specs.Outcome.{and_then}
-use Rattle.pio_parse.specs.Tokens.{is_end}
-use Rattle.pio_parse.specs.descent.Parsed.{source_of}
 use Rattle.pio_parse.specs.descent.Calls.{IsStopOf}
-use Rattle.pio_parse.specs.descent.Gathering.{line_step, source_from}
 use Rattle.pio_parse.proofs.Gathered.{source_gathered}
 
 get_or_dropped : {X : Type 0} (xs : List X) (i j : ℕ) (d : X) → i ≤ j → get_or (drop i xs) (j - i) d ≡ get_or xs j d
@@ -29,7 +19,7 @@ slice_next xs i j d le lt =
 slice_none : {X : Type 0} (xs : List X) (i : ℕ) → slice_range xs i i ≡ []
 slice_none xs i = let e : i - i ≡ 0 = omega arith in rw e refl
 
-drop_next : {X : Type 0} (xs : List X) (j : ℕ) (d : X) → j < length xs → drop j xs ≡ get_or xs j d ∷ drop (j + 1) xs
+pub drop_next : {X : Type 0} (xs : List X) (j : ℕ) (d : X) → j < length xs → drop j xs ≡ get_or xs j d ∷ drop (j + 1) xs
 drop_next xs j d lt = rw add-one (drop-cons xs j d lt)
 
 abbrev lines-then : List ℕ → Groups → List Token → ℕ → ℕ → Result Source SourcePosition

@@ -1,13 +1,6 @@
 -- A tree can be told from its terms in postfix order, so tokens have one tree at most.
 use Rattle.std.proofs.Common.{◌≡◌, ℕ, List, [], ◌∷◌, ◌++◌, Ok, refl, sym, ap, ◌∙◌, subst, append_assoc, append-nil}
-use Rattle.pio_parse.specs.declared.token.Token.{Token}
-use Rattle.pio_parse.specs.declared.expression.Operator.{Operator}
-use Rattle.pio_parse.specs.declared.expression.Operator.TheVariants.{Add, Subtract, Multiply, Negate as NegateOperator, Reverse as ReverseOperator}
-use Rattle.pio_parse.specs.declared.expression.Term.{Term}
-use Rattle.pio_parse.specs.declared.expression.Term.TheVariants.{Number as NumberTerm, Name as NameTerm, Operator as OperatorTerm}
-use Rattle.pio_parse.specs.descent.Expression.{expression_at}
-use Rattle.pio_parse.specs.Grammar.{Expr, IsExpression, postfix}
-use Rattle.pio_parse.specs.Grammar.Expr.{Number, Name, Negate, Reverse, Sum, Difference, Product}
+use Rattle.pio_parse.proofs.Names.{Token, Operator, Add, Subtract, Multiply, NegateOperator, ReverseOperator, Term, NumberTerm, NameTerm, OperatorTerm, expression_at, Expr, IsExpression, postfix, NumberTree as Number, NameTree as Name, Negate, Reverse, Sum, Difference, Product}
 use Rattle.pio_parse.proofs.Tests.{same_left, same_value}
 use Rattle.pio_parse.proofs.Finds.{finds_tree, reads}
 

@@ -2,6 +2,7 @@
 ghost use Rattle.pio_parse.specs.GrammarLaws.{Examples, LineFaultsAtFirst, OneAnswer, OneMeaning, ParsesGrammar, ReadsLines, SyntaxFaultsAtFirst};
 
 /// A line that is read is one of the grammar, with what it says, and each line of the grammar is read as that.
+#[tactic(auto, using(crate::proofs::ReadLines::reads_lines))]
 pub fn reads_lines()
     ensures { ReadsLines }
 {}
@@ -23,11 +24,13 @@ pub fn syntax_faults_at_first()
 {}
 
 /// The grammar gives a line one meaning at most, and a file one source.
+#[tactic(auto, using(crate::proofs::Files::one_meaning))]
 pub fn one_meaning()
     ensures { OneMeaning }
 {}
 
 /// The grammar has one answer for each file: a source, or its first fault, which is of a character or else of a token.
+#[tactic(auto, using(crate::proofs::Readers::one_answer))]
 pub fn one_answer()
     ensures { OneAnswer }
 {}

@@ -7,6 +7,7 @@ pub fn lexes_exactly()
 {}
 
 /// A character is refused exactly where a file's characters are lexemes up to it, and none stands there.
+#[tactic(auto, using(crate::proofs::Decide::char_faults_at_first))]
 pub fn char_faults_at_first()
     ensures { CharFaultsAtFirst }
 {}
@@ -18,11 +19,13 @@ pub fn reads_grammar()
 {}
 
 /// The grammar gives tokens one tree at most, and one end.
+#[tactic(auto, using(crate::proofs::Trees::one_expression))]
 pub fn one_expression()
     ensures { OneExpression }
 {}
 
 /// No sum at the front of the tokens goes further than their expression: it is the longest.
+#[tactic(auto, using(crate::proofs::Finds::none_longer))]
 pub fn none_longer()
     ensures { NoneLonger }
 {}

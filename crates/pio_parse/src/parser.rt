@@ -82,28 +82,15 @@ fn group(alloc: Global, groups: &mut Groups, line: Line) -> Result<(), AllocErro
     } = line;
     match statement {
         Some(Statement::Program(name)) => begin(groups, number, label, name, Lines::new(alloc)),
-        Some(statement) => add(
+        None if label.is_none() => Ok(()),
+        statement => add(
             groups,
             Line {
                 number,
                 label,
-                statement: Some(statement),
+                statement,
             },
         ),
-        None => {
-            if label.is_some() {
-                add(
-                    groups,
-                    Line {
-                        number,
-                        label,
-                        statement: None,
-                    },
-                )
-            } else {
-                Ok(())
-            }
-        }
     }
 }
 
@@ -176,6 +163,7 @@ fn read_file(alloc: Global, text: &[u8]) -> Result<Source, PioFault>
 /// Datasheet, 3.3).
 ///
 /// Memory may run out at any time.
+#[tactic(auto, using(crate::proofs::Readers::source_read))]
 pub fn parse(alloc: Global, text: &[u8]) -> Result<Source, PioFault>
     ensures ok { IfOk result (IsSource text.now) }
     ensures err { IfErr result (IsFault text.now) }

@@ -160,9 +160,9 @@ fn find_number(word: &[u8]) -> Option<u64>
 {
     match word {
         [first, second, _, ..] => {
-            if *first == b'0' && *second == b'x' {
+            if (*first == b'0') & (*second == b'x') {
                 number_to(16, &word[2..])
-            } else if *first == b'0' && *second == b'b' {
+            } else if (*first == b'0') & (*second == b'b') {
                 number_to(2, &word[2..])
             } else {
                 number_to(10, word)

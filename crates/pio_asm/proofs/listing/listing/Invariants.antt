@@ -1,6 +1,5 @@
 use Rattle.std.proofs.Common.{◌≡◌, ◌++◌, drop}
-use Rattle.std.specs.Prelude.{flat_map}
-use Rattle.pio_asm.specs.Listing.{program_text, listing}
+use Rattle.pio_asm.proofs.Shared.{flat_map, program_text, listing}
 use Rattle.pio_asm.proofs.listing.listing.Given as goal
 
 -- what is there with the texts of the programs that are left is the listing

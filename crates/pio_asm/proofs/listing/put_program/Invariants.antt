@@ -1,6 +1,5 @@
 use Rattle.std.proofs.Common.{◌≡◌, ◌++◌, drop}
-use Rattle.std.specs.Prelude.{flat_map}
-use Rattle.pio_asm.specs.Listing.{word_line, program_text}
+use Rattle.pio_asm.proofs.Shared.{flat_map, word_line, program_text}
 use Rattle.pio_asm.proofs.listing.put_program.Given as goal
 
 -- what is there with the lines of the words that are left is the whole text

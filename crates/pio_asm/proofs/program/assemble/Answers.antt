@@ -1,14 +1,5 @@
 use Rattle.std.proofs.Common.{◌≡◌, ℕ, List, [], ap, subst}
-use Rattle.std.specs.Prelude.{Result, Ok, Err, MatchResult, IfOk}
-use Rattle.pio_parse.specs.declared.fault.PioFault.{PioFault}
-use Rattle.pio_parse.specs.declared.fault.PioFault.TheVariants.{Memory}
-use Rattle.source_text.specs.Outcome.{and_then}
-use Rattle.pio_parse.specs.declared.syntax.Line.{Line}
-use Rattle.pio_parse.specs.declared.syntax.Source.{Source}
-use Rattle.pio_asm.specs.declared.building.Building.{Building}
-use Rattle.pio_asm.specs.Symbols.{Names}
-use Rattle.pio_asm.specs.Step.{names_of}
-use Rattle.pio_asm.specs.Assembly.{assembled, lines_of, programs_from}
+use Rattle.pio_asm.proofs.Shared.{Result, Ok, Err, MatchResult, IfOk, PioFault, Memory, and_then, Line, Source, Building, Names, names_of, assembled, lines_of, programs_from}
 use Rattle.pio_asm.proofs.program.assemble.Goals as goal
 
 -- what a call that may want memory gave is known where its answer is Ok

@@ -1,7 +1,5 @@
 use Rattle.std.proofs.Common.{◌≡◌, ◌≤◌, List, ℕ, [], drop}
-use Rattle.pio_parse.specs.declared.syntax.Line.{Line}
-use Rattle.pio_asm.specs.Symbols.{Names}
-use Rattle.pio_asm.specs.Step.{names_of}
+use Rattle.pio_asm.proofs.Shared.{Line, Names, names_of}
 use Rattle.pio_asm.proofs.program.read_names.Given as goal
 
 -- the names of the whole go on from here

@@ -1,11 +1,5 @@
 use Rattle.std.proofs.Common.{◌≡◌, ℕ, ◌+◌, ◌<◌, List, [], ◌∷◌, length, drop, get_or, drop-cons, add-one, ap, refl, ◌∙◌}
-use Rattle.std.specs.Prelude.{Ok}
-use Rattle.std.proofs.lemmas.List.{drop_all}
-use Rattle.pio_parse.specs.declared.syntax.Line.{Line}
-use Rattle.pio_asm.specs.declared.building.Building.{Building}
-use Rattle.pio_asm.specs.Symbols.{Names}
-use Rattle.pio_asm.specs.Step.{line_step}
-use Rattle.pio_asm.specs.Assembly.{lines_from}
+use Rattle.pio_asm.proofs.Shared.{Ok, drop_all, Line, Building, Names, line_step, lines_from}
 use Rattle.pio_asm.proofs.Keeping.{names_valued}
 use Rattle.pio_asm.proofs.program.take_lines.Goals as goal
 

@@ -1,9 +1,5 @@
 use Rattle.std.proofs.Common.{◌≡◌, List, ℕ, drop}
-use Rattle.pio_parse.specs.declared.syntax.Line.{Line}
-use Rattle.pio_asm.specs.declared.building.Building.{Building}
-use Rattle.pio_asm.specs.Symbols.{Names}
-use Rattle.pio_asm.specs.Plan.{IsOptionalConfig}
-use Rattle.pio_asm.specs.Assembly.{lines_from, lines_of}
+use Rattle.pio_asm.proofs.Shared.{Line, Building, Names, IsOptionalConfig, lines_from, lines_of}
 use Rattle.pio_asm.proofs.program.take_lines.Given as goal
 
 -- the lines of the whole go on from here

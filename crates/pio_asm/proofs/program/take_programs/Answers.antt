@@ -1,6 +1,5 @@
 use Rattle.std.proofs.Common.{◌≡◌, ◌+◌, ◌∷◌, drop, None, ap, sym, ◌∙◌}
-use Rattle.source_text.specs.Symbols.{put}
-use Rattle.pio_asm.specs.Assembly.{programs_from}
+use Rattle.pio_asm.proofs.Shared.{put, programs_from}
 use Rattle.pio_asm.proofs.ProgramLaws.{drop_next, goes_on}
 use Rattle.pio_asm.proofs.program.take_programs.Goals as goal
 

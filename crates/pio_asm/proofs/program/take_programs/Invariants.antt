@@ -1,8 +1,5 @@
 use Rattle.std.proofs.Common.{◌≡◌, List, ℕ, [], drop}
-use Rattle.pio_parse.specs.declared.syntax.SourceProgram.{SourceProgram}
-use Rattle.pio_program.specs.declared.program.Program.{Program}
-use Rattle.pio_asm.specs.Symbols.{Names}
-use Rattle.pio_asm.specs.Assembly.{ArePrograms, Plan, programs_from}
+use Rattle.pio_asm.proofs.Shared.{SourceProgram, Program, Names, ArePrograms, Plan, programs_from}
 use Rattle.pio_asm.proofs.program.take_programs.Given as goal
 
 -- the programs of the whole go on from here, after these plans

@@ -1,9 +1,5 @@
 use Rattle.std.proofs.Common.{◌≡◌, ◌≤◌, List, ℕ, drop}
-use Rattle.std.specs.Prelude.{slice_range}
-use Rattle.pio_parse.specs.declared.token.Token.{Token}
-use Rattle.pio_parse.specs.declared.parser.Groups.{Groups}
-use Rattle.pio_parse.specs.descent.Parsed.{source_of}
-use Rattle.pio_parse.specs.descent.Gathering.{source_from}
+use Rattle.pio_parse.proofs.Names.{slice_range, Token, Groups, source_of, source_from}
 use Rattle.pio_parse.proofs.parser.read_lines.Given as goal
 
 -- the source of the whole goes on from here

@@ -1,20 +1,11 @@
-use Rattle.std.proofs.Common.{◌≡◌, ◌==◌, ℕ, ◌+◌, ◌<◌, ◌≤◌, Bool, true, false, List, [], ◌∷◌, ◌++◌, length, drop, get_or, Option, Ok, Err, option_to_list, add-one, drop-cons, arith, refl, sym, ◌∙◌}
-use Rattle.std.proofs.lemmas.List.{drop_all}
-use Rattle.source_text.specs.declared.position.SourcePosition.{SourcePosition}
-use Rattle.pio_parse.specs.declared.token.Token.{Token}
-use Rattle.pio_parse.specs.declared.token.TokenKind.TheVariants.{FileEnd}
-use Rattle.pio_parse.specs.declared.scan.Mode.{Mode}
-use Rattle.pio_parse.specs.declared.scan.Step.{Step}
-use Rattle.pio_parse.specs.descent.Scan.{finishes, scanned_from, steps}
-use Rattle.source_text.specs.Position.{position_behind, IsPositionBelow}
+use Rattle.std.proofs.Common.{◌≡◌, ◌==◌, ℕ, ◌+◌, ◌<◌, ◌≤◌, Bool, true, false, List, [], ◌∷◌, ◌++◌, length, drop, get_or, Option, Ok, Err, option_to_list, arith, refl, sym, ◌∙◌}
+use Rattle.pio_parse.proofs.Names.{drop_all, SourcePosition, Token, FileEnd, Mode, Step, finishes, scanned_from, steps, position_behind, IsPositionBelow}
+use Rattle.pio_parse.proofs.SourceLines.{drop_next}
 use Rattle.pio_parse.proofs.scan.scan.Goals as goal
 
 below_next : (c index : ℕ) (here : SourcePosition) (b : Bool) → (c == 10) ≡ b → here.line < index + 2 → here.column < index + 2 → IsPositionBelow (position_behind c here) (index + 1 + 2)
 below_next c index here true h line column = rw h (omega arith, omega arith)
 below_next c index here false h line column = rw h (omega arith, omega arith)
-
-drop_next : (text : List ℕ) (index : ℕ) → index < length text → drop index text ≡ get_or text index 0 ∷ drop (index + 1) text
-drop_next text index inside = rw add-one (drop-cons text index 0 inside)
 
 -- the scan after one more character
 scan_next : (text : List ℕ) (index : ℕ) (mode : Mode) (here next after : SourcePosition) (tokens one two : List Token) (step : Step) → index < length text
@@ -22,7 +13,7 @@ scan_next : (text : List ℕ) (index : ℕ) (mode : Mode) (here next after : Sou
     → one ≡ tokens ++ option_to_list step.first → two ≡ one ++ option_to_list step.second
     → scanned_from text (drop index text) index mode here after tokens
     ≡ scanned_from text (drop (index + 1) text) (index + 1) step.mode next (record { line = here.line; column = here.column + 1 }) two
-scan_next text index mode here next after tokens one two step inside h e first second = rw (drop_next text index inside, h, second, first, e) refl
+scan_next text index mode here next after tokens one two step inside h e first second = rw (drop_next text index 0 inside, h, second, first, e) refl
 
 pub loop-index-preserved : goal.loop-index-preserved
 loop-index-preserved c =
@@ -40,7 +31,7 @@ loop-index-preserved c =
 -- the scan that stops at the next character
 scan_stops : (text : List ℕ) (index : ℕ) (mode : Mode) (here after position : SourcePosition) (tokens : List Token) → index < length text
     → steps text index mode (get_or text index 0) here ≡ Err position → scanned_from text (drop index text) index mode here after tokens ≡ Err position
-scan_stops text index mode here after position tokens inside h = rw (drop_next text index inside, h) refl
+scan_stops text index mode here after position tokens inside h = rw (drop_next text index 0 inside, h) refl
 
 -- the scan at the end of the file
 scan_ends : (text : List ℕ) (index : ℕ) (mode : Mode) (here after : SourcePosition) (tokens one two : List Token) (last : Option Token) → length text ≤ index

@@ -1,9 +1,5 @@
 use Rattle.std.proofs.Common.{◌≡◌, ◌+◌, ℕ, List, drop}
-use Rattle.source_text.specs.declared.position.SourcePosition.{SourcePosition}
-use Rattle.pio_parse.specs.declared.token.Token.{Token}
-use Rattle.pio_parse.specs.declared.scan.Mode.{Mode}
-use Rattle.pio_parse.specs.descent.Scan.{IsStarted, scanned, scanned_from}
-use Rattle.source_text.specs.Position.{IsPositionBelow}
+use Rattle.pio_parse.proofs.Names.{SourcePosition, Token, Mode, IsStarted, scanned, scanned_from, IsPositionBelow}
 use Rattle.pio_parse.proofs.scan.scan.Given as goal
 
 -- the scan of the whole goes on from here
