@@ -1,7 +1,7 @@
 -- What changes a channel: a trigger, an abort, the end of its sequence (RP2040 Datasheet, 2.5.1, 2.5.2 and 2.5.5.3).
 use Rattle.std.specs.Prelude.{ℕ, zero, suc, ◌^◌, Bool, true, false, not, ◌&&◌, ◌==◌, nat_lt, if◌then◌else◌, List, slice_set, bit_or}
 use Rattle.dma_engine.specs.declared.channel.Channel.{Channel}
-use Rattle.dma_engine.specs.Control.{is_enabled, chain_of, is_quiet}
+use Rattle.dma_engine.specs.Control.{is_enabled, chain_of, irq_quiet}
 use Rattle.dma_engine.specs.State.{State, channel_at}
 
 -- a trigger of an enabled channel that is idle loads the count and begins its sequence
@@ -34,7 +34,7 @@ with_raised n e = record e { raised = bit_or e.raised (2 ^ n) }
 
 -- with IRQ_QUIET the end of a sequence raises no interrupt
 abbrev pub with_report : ℕ → Channel → State → State
-with_report n c e = if is_quiet c then e else with_raised n e
+with_report n c e = if irq_quiet c then e else with_raised n e
 
 -- a channel that is not chained to itself triggers the one that it is chained to
 abbrev pub with_chain : ℕ → Channel → State → State

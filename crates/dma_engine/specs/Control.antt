@@ -43,8 +43,8 @@ abbrev pub treq_of : Channel → ℕ
 treq_of c = c.ctrl / 2 ^ 15 % 2 ^ 6
 
 -- IRQ_QUIET
-abbrev pub is_quiet : Channel → Bool
-is_quiet c = has_bit c.ctrl 21
+abbrev pub irq_quiet : Channel → Bool
+irq_quiet c = has_bit c.ctrl 21
 
 -- BSWAP
 abbrev pub swaps : Channel → Bool

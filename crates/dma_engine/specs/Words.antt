@@ -6,7 +6,7 @@ use Rattle.rp_base.specs.Word.{has_bit, bit_number}
 use Rattle.dma_engine.specs.declared.channel.Channel.{Channel}
 use Rattle.dma_engine.specs.declared.timer.PacingTimer.{PacingTimer}
 use Rattle.dma_engine.specs.declared.line.InterruptLine.{InterruptLine}
-use Rattle.dma_engine.specs.Control.{is_quiet}
+use Rattle.dma_engine.specs.Control.{irq_quiet}
 use Rattle.dma_engine.specs.Channel.{changed, with_trigger, with_abort, with_raised, in_turn}
 use Rattle.dma_engine.specs.State.{State, channel_at, timer_at}
 
@@ -31,7 +31,7 @@ with_control w c = record c { ctrl = w % 2 ^ 23 }
 
 -- a 0 in a trigger word starts nothing; it raises the interrupt of a channel that is else quiet
 abbrev pub null_trigger : ℕ → State → State
-null_trigger n e = if is_quiet (channel_at n e) then with_raised n e else e
+null_trigger n e = if irq_quiet (channel_at n e) then with_raised n e else e
 
 abbrev pub trigger_word : ℕ → ℕ → State → State
 trigger_word n w e = if w == 0 then null_trigger n e else with_trigger n e

@@ -1,7 +1,7 @@
 //! A channel, and the bits of its control word.
 
 ghost use Rattle.std.specs.Prelude.{◌≡◌, ◌<◌};
-ghost use Rattle.dma_engine.specs.Control.{is_enabled, is_high, size_of, increments_read, increments_write, ring_of, rings_write, chain_of, treq_of, is_quiet, swaps};
+ghost use Rattle.dma_engine.specs.Control.{is_enabled, is_high, size_of, increments_read, increments_write, ring_of, rings_write, chain_of, treq_of, irq_quiet, swaps};
 ghost use Rattle.dma_engine.specs.Channel.{triggered, aborted, idle};
 
 use rp_base::Size;
@@ -109,8 +109,8 @@ impl Channel {
     }
 
     /// IRQ_QUIET.
-    pub(crate) fn is_quiet(&self) -> bool
-        ensures { result ≡ is_quiet self.now }
+    pub(crate) fn irq_quiet(&self) -> bool
+        ensures { result ≡ irq_quiet self.now }
     {
         (self.ctrl >> 21) & 1 == 1
     }

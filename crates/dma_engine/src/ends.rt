@@ -80,7 +80,7 @@ impl Engine {
         if channel.aborted {
             return;
         }
-        if !channel.is_quiet() {
+        if !channel.irq_quiet() {
             self.raise(number);
         }
         if channel.chain() != number {

@@ -142,7 +142,7 @@ impl Engine {
     {
         if word != 0 {
             self.trigger(number);
-        } else if self.channels[number as usize].is_quiet() {
+        } else if self.channels[number as usize].irq_quiet() {
             self.raise(number);
         }
     }

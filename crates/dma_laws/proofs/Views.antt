@@ -7,7 +7,7 @@ use Rattle.std.proofs.lemmas.List.{length-set, get_or-set_same, get_or-set_other
 use Rattle.std.proofs.lemmas.Nat.Bits.{bit_at-lt, bit_at_or, bit_at-pow_same, bit_at-pow_other}
 use Rattle.rp_base.specs.Word.{has_bit}
 use Rattle.dma_engine.specs.declared.channel.Channel.{Channel}
-use Rattle.dma_engine.specs.Control.{is_enabled, chain_of, is_quiet}
+use Rattle.dma_engine.specs.Control.{is_enabled, chain_of, irq_quiet}
 use Rattle.dma_engine.specs.Channel.{triggered, idle, with_channels, changed, with_trigger, with_raised, with_report, with_chain, with_end_of, with_end, in_turn}
 use Rattle.dma_engine.specs.State.{State as Engine, idle_channel, channel_at}
 
@@ -115,7 +115,7 @@ same_beside : (k : ℕ) (e f : Engine) → channel_at k f ≡ channel_at k e →
 same_beside k e f channel rest = record { channel = channel; chosen = rest.chosen; waiting = rest.waiting; long = rest.long }
 
 report_same : (n k : ℕ) (c : Channel) (e : Engine) → Same k e (with_report n c e)
-report_same n k c e = go (is_quiet c)
+report_same n k c e = go (irq_quiet c)
   where
     go : (b : Bool) → Same k e (cond b e (with_raised n e))
     go true = same k e
@@ -163,7 +163,7 @@ moving_beside : (e f : Engine) → Beside e f → Moving e f
 moving_beside e f b = record { chosen = b.chosen; waiting = b.waiting; long = b.long }
 
 report_moving : (n : ℕ) (c : Channel) (e : Engine) → Moving e (with_report n c e)
-report_moving n c e = go (is_quiet c)
+report_moving n c e = go (irq_quiet c)
   where
     go : (b : Bool) → Moving e (cond b e (with_raised n e))
     go true = moving e
@@ -206,14 +206,14 @@ bit_other n k e apart = go (channel_at n e).aborted (channel_at n e) ∙ ap (λ 
 
     go : (b : Bool) (c : Channel) → has_bit (cond b (changed idle n e) (with_chain n c (with_report n c (changed idle n e)))).raised k ≡ has_bit (changed idle n e).raised k
     go true c = refl
-    go false c = ap (λ r. has_bit r k) (chain_raised n c (with_report n c (changed idle n e))) ∙ reported (is_quiet c) (changed idle n e)
+    go false c = ap (λ r. has_bit r k) (chain_raised n c (with_report n c (changed idle n e))) ∙ reported (irq_quiet c) (changed idle n e)
 
 -- its own sets it, but for an abort and IRQ_QUIET
-pub bit_same : (k : ℕ) (e : Engine) → has_bit (with_end k e).raised k ≡ (has_bit e.raised k || (not (channel_at k e).aborted && not (is_quiet (channel_at k e))))
+pub bit_same : (k : ℕ) (e : Engine) → has_bit (with_end k e).raised k ≡ (has_bit e.raised k || (not (channel_at k e).aborted && not (irq_quiet (channel_at k e))))
 unfolding with_end
 bit_same k e =
-    go (channel_at k e).aborted (is_quiet (channel_at k e)) refl refl
-    ∙ ap (λ r. has_bit r k || (not (channel_at k e).aborted && not (is_quiet (channel_at k e)))) (changed_beside idle k e).raised
+    go (channel_at k e).aborted (irq_quiet (channel_at k e)) refl refl
+    ∙ ap (λ r. has_bit r k || (not (channel_at k e).aborted && not (irq_quiet (channel_at k e)))) (changed_beside idle k e).raised
   where
     i : Engine
     i = changed idle k e
@@ -221,11 +221,11 @@ bit_same k e =
     c : Channel
     c = channel_at k e
 
-    go : (a q : Bool) → c.aborted ≡ a → is_quiet c ≡ q
-        → has_bit (cond c.aborted i (with_chain k c (with_report k c i))).raised k ≡ (has_bit i.raised k || (not c.aborted && not (is_quiet c)))
+    go : (a q : Bool) → c.aborted ≡ a → irq_quiet c ≡ q
+        → has_bit (cond c.aborted i (with_chain k c (with_report k c i))).raised k ≡ (has_bit i.raised k || (not c.aborted && not (irq_quiet c)))
     go true q a_is q_is =
         ap (λ b. has_bit (cond b i (with_chain k c (with_report k c i))).raised k) a_is
-        ∙ sym (or_false (has_bit i.raised k)) ∙ ap (λ b. has_bit i.raised k || (not b && not (is_quiet c))) (sym a_is)
+        ∙ sym (or_false (has_bit i.raised k)) ∙ ap (λ b. has_bit i.raised k || (not b && not (irq_quiet c))) (sym a_is)
     go false true a_is q_is =
         ap (λ b. has_bit (cond b i (with_chain k c (with_report k c i))).raised k) a_is
         ∙ ap (λ r. has_bit r k) (chain_raised k c (with_report k c i))
@@ -261,7 +261,7 @@ end_idle k e low long = ap (λ (d : Channel). d.busy) (go c.aborted ∙ changed_
 
     go : (b : Bool) → channel_at k (cond b i (with_chain k c (with_report k c i))) ≡ channel_at k i
     go true = refl
-    go false = chain_idle k c (with_report k c i) (chain_of c == k) refl ∙ reported (is_quiet c)
+    go false = chain_idle k c (with_report k c i) (chain_of c == k) refl ∙ reported (irq_quiet c)
 
 -- ---- the ends of a cycle, in turn
 

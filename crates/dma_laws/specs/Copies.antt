@@ -13,7 +13,7 @@ use Rattle.dma_engine.specs.declared.channel.Channel.{Channel}
 use Rattle.dma_engine.specs.declared.waiting.WaitingWrite.{WaitingWrite}
 use Rattle.dma_engine.specs.declared.begun.BegunTransfer.{BegunTransfer}
 use Rattle.dma_engine.specs.Asks.{asks}
-use Rattle.dma_engine.specs.Control.{is_quiet}
+use Rattle.dma_engine.specs.Control.{irq_quiet}
 use Rattle.dma_engine.specs.Cycle.{want_of, word_of, word_read, is_chosen, is_over, next}
 use Rattle.dma_engine.specs.State.{State as Engine, channel_at}
 use Rattle.dma_engine.specs.Transfer.{moved, read_of, write_after, request_of}
@@ -137,7 +137,7 @@ ACopyIsExactOnAnyChannel = (k : ℕ) (s : Engine) (ts : List Cycle) → HasBegun
 
 -- the end of its sequence is neither that of an abort nor quiet
 abbrev pub reports : Channel → Bool
-reports c = not c.aborted && not (is_quiet c)
+reports c = not c.aborted && not (irq_quiet c)
 
 -- in a cycle a channel's bit of INTR is set where its sequence is over, but for an abort and IRQ_QUIET, and else stays; and there it is
 -- idle after it, where no other sequence ends in the same cycle, which might trigger it again
