@@ -259,6 +259,6 @@ silent_lines s h =
 
 pub ruleset unmoved = (unmoved_cycle)
 
-pub ruleset stepping = (paused-stepped, silent-stepped)
+pub ruleset stepping = (next-paused, paused-stepped, silent-stepped)
 
 pub ruleset paused = (asks-paused, stays-paused)

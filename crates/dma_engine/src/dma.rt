@@ -52,8 +52,8 @@ impl Dma {
         ensures { result ≡ at_reset }
     {
         let engine = Engine::new();
-        let stays = engine.stays();
         let paused = engine.is_paused();
+        let stays = engine.stays(paused);
         let silent = engine.is_silent();
         Dma {
             engine,
@@ -78,8 +78,8 @@ impl Dma {
         ensures allowed { result ≡ is_word offset }
     {
         let allowed = self.engine.effect(offset, write);
-        self.stays = self.engine.stays();
         self.paused = self.engine.is_paused();
+        self.stays = self.engine.stays(self.paused);
         self.silent = self.engine.is_silent();
         self.unmoved_by = None;
         allowed
@@ -107,15 +107,30 @@ impl Dma {
         }
     }
 
-    /// The cycle, where this was begun and these turns were given. Whether the engine stays or is paused is found again where
-    /// something moved, and whether it is silent; where only timers stepped it does not stay, and the others are as before.
+    /// The cycle, where this was begun and these turns were given. In most cycles the engine is paused, and its timers alone step.
     #[inline(never)]
     pub(crate) fn move_on(&mut self, begun: &BegunTransfer, turns: &[Turn; 2])
         ensures { self.new ≡ next self.old begun.now turns.now }
     {
+        if self.paused {
+            if self.engine.step_paused() {
+                self.stays = false;
+                self.unmoved_by = None;
+                return;
+            }
+        }
+        self.move_transfers(begun, turns);
+    }
+
+    /// The cycle. Whether the engine stays or is paused is found again where something moved, and whether it is silent; where only
+    /// timers stepped it does not stay, and the others are as before.
+    #[inline(never)]
+    fn move_transfers(&mut self, begun: &BegunTransfer, turns: &[Turn; 2])
+        ensures { self.new ≡ next self.old begun.now turns.now }
+    {
         if self.engine.finish(begun, turns) {
-            self.stays = self.engine.stays();
             self.paused = self.engine.is_paused();
+            self.stays = self.engine.stays(self.paused);
             self.silent = self.engine.is_silent();
             self.unmoved_by = None;
         } else {

@@ -1,13 +1,14 @@
 //! How a cycle ends: sequences end, the read and the write are done or wait, the next channel is chosen, and the pacing
 //! timers give their credits.
 
-ghost use Rattle.std.specs.Prelude.{◌≡◌, ◌<◌, ℕ, false, true, length, map, slice_index_or, IfSome, Some};
+ghost use Rattle.std.specs.Prelude.{◌≡◌, ◌<◌, ℕ, List, false, true, length, map, slice_index_or, IfSome, Some};
 ghost use Rattle.std.specs.List.{list_all, list_any};
 ghost use Rattle.lane_look.specs.declared.lane.Turn.{Turn};
 ghost use Rattle.dma_engine.specs.Control.{treq_of};
 ghost use Rattle.dma_engine.specs.Choice.{is_candidate};
 ghost use Rattle.dma_engine.specs.Requests.{pace_of};
 ghost use Rattle.dma_engine.specs.declared.begun.Access.TheVariants as Access;
+ghost use Rattle.dma_engine.specs.declared.begun.BegunTransfer.{BegunTransfer};
 ghost use Rattle.dma_engine.specs.State.{channel_at};
 ghost use Rattle.dma_engine.specs.Timer.{gives, stepped, given_by, is_given, gets_credit, credited, with_credit, with_stepped_timers, after_timers};
 ghost use Rattle.dma_engine.specs.Rest.{is_idle_timer, is_paused, AreIdle, StaysBy};
@@ -344,6 +345,25 @@ impl Engine {
             return false;
         }
         self.move_on(begun, turns);
+        true
+    }
+
+    /// The cycle of an engine that is paused, where no timer gives a credit: the timers alone step. False, and nothing is changed, where
+    /// one gives.
+    #[inline(always)]
+    #[tactic(auto, using(crate::proofs::Rest::stepping))]
+    pub(crate) fn step_paused(&mut self) -> bool
+        requires { is_paused self.old ≡ true }
+        ensures after { result ≡ true
+            → (begun : BegunTransfer) (turns : List Turn) → next self.old begun turns ≡ self.new }
+        ensures stays { result ≡ false → self.new ≡ self.old }
+        ensures paused { is_paused self.new ≡ true }
+        ensures silent { is_silent self.new ≡ is_silent self.old }
+    {
+        if some_gives(&self.timers) {
+            return false;
+        }
+        self.advance_timers();
         true
     }
 

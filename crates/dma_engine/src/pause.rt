@@ -47,9 +47,10 @@ impl Engine {
 
     /// The engine is paused and no timer runs, so that no cycle changes it.
     #[tactic(auto, using(crate::proofs::Rest::paused))]
-    pub(crate) fn stays(&self) -> bool
+    pub(crate) fn stays(&self, paused: bool) -> bool
+        requires { paused ≡ is_paused self.now }
         ensures { result ≡ true → Stays self.now }
     {
-        self.is_paused() && self.are_timers_idle()
+        paused && self.are_timers_idle()
     }
 }
