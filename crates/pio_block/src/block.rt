@@ -17,6 +17,8 @@ pub struct PioBlock {
     pub(crate) busy: bool,
     /// No interrupt is enabled or forced.
     silent: bool,
+    /// The counts that pace DMA channels, in one number, where the block is not busy.
+    pub(crate) counts: u64,
 }
 
 impl Model for PioBlock {
@@ -27,7 +29,7 @@ impl Model for PioBlock {
 
     ghost view = { λ b. b.state };
 
-    ghost invariant = { λ b. AreTold b.busy b.silent b.state };
+    ghost invariant = { λ b. AreTold b.busy b.silent b.counts b.state };
 }
 
 impl PioBlock {
@@ -35,15 +37,19 @@ impl PioBlock {
     ghost use Rattle.pio_block.specs.State.{at_reset, machine_of, is_busy};
     ghost use Rattle.pio_block.specs.Cycle.{after_cycle};
     ghost use Rattle.pio_block.specs.Words.{word_of, effect_of, is_allowed, pacing_of, register_list, counter_set, outs_of, is_silent, lines_of};
+    ghost use Rattle.pio_block.specs.Told.{packed_counts};
 
     /// The reset state: no machine is enabled, and all FIFOs are empty.
     pub fn new() -> PioBlock
         ensures { result ≡ at_reset }
     {
+        let state = State::new();
+        let counts = state.idle_counts(false);
         PioBlock {
-            state: State::new(),
+            state,
             busy: false,
             silent: true,
+            counts,
         }
     }
 
@@ -68,6 +74,7 @@ impl PioBlock {
     {
         let allowed = self.state.effect(offset, write);
         self.busy = self.state.is_busy();
+        self.counts = self.state.idle_counts(self.busy);
         self.silent = self.state.is_silent();
         allowed
     }
@@ -77,6 +84,18 @@ impl PioBlock {
         ensures { result ≡ pacing_of self.now.machines }
     {
         self.state.pacing()
+    }
+
+    /// The same counts in one number, six bits each, the first one lowest.
+    #[inline(always)]
+    pub fn packed_pacing(&self) -> u64
+        ensures { result ≡ packed_counts (pacing_of self.now.machines) }
+    {
+        if self.busy {
+            self.state.packed_pacing()
+        } else {
+            self.counts
+        }
     }
 
     /// PC, X, Y, ISR and OSR of a machine, 0 to 3.
@@ -95,6 +114,7 @@ impl PioBlock {
     {
         self.state.set_counter(machine, address);
         self.busy = self.state.is_busy();
+        self.counts = self.state.idle_counts(self.busy);
         self.silent = self.state.is_silent();
     }
 
@@ -129,6 +149,7 @@ impl PioBlock {
     {
         self.state.step(inputs);
         self.busy = self.state.is_busy();
+        self.counts = self.state.idle_counts(self.busy);
     }
 
     /// A machine is enabled, or a written word waits.
@@ -153,6 +174,7 @@ impl PioBlock {
         self.state.copy_from(&other.state);
         self.busy = other.busy;
         self.silent = other.silent;
+        self.counts = other.counts;
     }
 }
 

@@ -61,6 +61,7 @@ impl PioBlock {
         if self.busy {
             self.state.pass(n);
             self.busy = self.state.is_busy();
+            self.counts = self.state.idle_counts(self.busy);
         }
     }
 }

@@ -2,6 +2,7 @@
 
 ghost use Rattle.std.specs.Prelude.{◌≡◌, [], ◌∷◌, replicate};
 ghost use Rattle.pio_machine.specs.Pins.{overlaid};
+ghost use Rattle.pio_block.specs.Told.{packed_counts};
 
 use crate::inputs::Inputs;
 use crate::machines::Machines;
@@ -69,10 +70,27 @@ fn overlaid(mask: u32, bits: u32, word: u32) -> u32
     (word & !mask) | (bits & mask)
 }
 
+/// Eight counts in one number, six bits each, the first one lowest.
+#[inline(always)]
+fn packed_eight(counts: [u8; 8]) -> u64
+    ensures { result ≡ packed_counts counts }
+{
+    let [c0, c1, c2, c3, c4, c5, c6, c7] = counts;
+    u64::from(c0)
+        + u64::from(c1) * 0x40
+        + u64::from(c2) * 0x1000
+        + u64::from(c3) * 0x4_0000
+        + u64::from(c4) * 0x100_0000
+        + u64::from(c5) * 0x4000_0000
+        + u64::from(c6) * 0x10_0000_0000
+        + u64::from(c7) * 0x400_0000_0000
+}
+
 impl State {
-    ghost use Rattle.std.specs.Prelude.{◌≡◌, ◌<◌, Decides};
+    ghost use Rattle.std.specs.Prelude.{◌≡◌, ◌<◌, Decides, false};
     ghost use Rattle.pio_block.specs.State.{at_reset, is_busy, machine_of};
     ghost use Rattle.pio_block.specs.Words.{counter_set, pacing_of, register_list, outs_of, is_silent};
+    ghost use Rattle.pio_block.specs.Told.{packed_counts};
     ghost use Rattle.pio_block.specs.Cycle.{seen_by, all_written, with_stepped, joined, after_cycle};
 
     /// The reset state.
@@ -147,6 +165,20 @@ impl State {
         ensures { result ≡ pacing_of self.now.machines }
     {
         self.machines.pacing()
+    }
+
+    /// The same in one number.
+    pub(crate) fn packed_pacing(&self) -> u64
+        ensures { result ≡ packed_counts (pacing_of self.now.machines) }
+    {
+        packed_eight(self.pacing())
+    }
+
+    /// The same where the block is not busy.
+    pub(crate) fn idle_counts(&self, busy: bool) -> u64
+        ensures { busy ≡ false → result ≡ packed_counts (pacing_of self.now.machines) }
+    {
+        if busy { 0 } else { self.packed_pacing() }
     }
 
     /// PC, X, Y, ISR and OSR of a machine.

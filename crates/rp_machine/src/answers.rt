@@ -67,23 +67,6 @@ fn packed_pair(words: [u32; 2]) -> u128
     u128::from(first) + u128::from(second) * 0x1_0000_0000
 }
 
-/// Eight counts of six bits each, the first one lowest.
-#[inline(always)]
-fn packed_eight(counts: [u8; 8]) -> u64
-    ensures value { result ≡ packed_counts counts }
-    ensures small { result < 2 ^ 51 }
-{
-    let [c0, c1, c2, c3, c4, c5, c6, c7] = counts;
-    u64::from(c0)
-        + u64::from(c1) * 0x40
-        + u64::from(c2) * 0x1000
-        + u64::from(c3) * 0x4_0000
-        + u64::from(c4) * 0x100_0000
-        + u64::from(c5) * 0x4000_0000
-        + u64::from(c6) * 0x10_0000_0000
-        + u64::from(c7) * 0x400_0000_0000
-}
-
 /// Four counts of six bits each, the first one lowest.
 #[inline(always)]
 fn packed_four(counts: [u8; 4]) -> u64
@@ -133,8 +116,8 @@ impl Machine {
     pub(crate) fn pacing(&self) -> u128
         ensures { result ≡ pacing_of self.now }
     {
-        u128::from(packed_eight(self.pio0.block.pacing()))
-            + u128::from(packed_eight(self.pio1.block.pacing())) * 0x1_0000_0000_0000
+        u128::from(self.pio0.block.packed_pacing())
+            + u128::from(self.pio1.block.packed_pacing()) * 0x1_0000_0000_0000
             + u128::from(packed_four(self.outer.pacing())) * 0x1_0000_0000_0000_0000_0000_0000
     }
 
