@@ -72,7 +72,7 @@ answer_same p o s h ask.Pacing = h.pacing
 answer_same p o s h ask.Inputs = ap packed_pair h.inputs
 answer_same p o s h (ask.Outs block) = h.outs block
 
-begun_same : (p : Blocks) (o : OuterState) (s : State) → TellsSame p o s → (begun (with_beside p o s)).core0 ≡ (begun s).core0
+pub begun_same : (p : Blocks) (o : OuterState) (s : State) → TellsSame p o s → (begun (with_beside p o s)).core0 ≡ (begun s).core0
 unfolding begun
 begun_same p o s h = answered_same (answer_of 0 (with_beside p o s)) (answer_of 0 s) (answer_same p o s h) (core_asks.asks s.core0 s.cycle)
 
@@ -305,7 +305,7 @@ tell_on w s t n k le blocks quiet =
     }
 
 -- what stays beside core 0 tells the same too
-stayed : (s t : State) (n : ℕ) → Stays s t n → TellOn t s
+pub stayed : (s t : State) (n : ℕ) → Stays s t n → TellOn t s
 stayed s t n h = rw (h.outer, h.dma, h.pio0, h.pio1) record {
   lines = λ core. refl;
   uarts = refl;
@@ -318,7 +318,7 @@ stayed s t n h = rw (h.outer, h.dma, h.pio0, h.pio1) record {
   pacing1 = refl;
 }
 
-told_both : (s t u : State) → TellOn s t → TellOn u s → TellOn u t
+pub told_both : (s t u : State) → TellOn s t → TellOn u s → TellOn u t
 told_both s t u h i = record {
   lines = λ core. h.lines core ∙ i.lines core;
   uarts = h.uarts ∙ i.uarts;
@@ -332,7 +332,7 @@ told_both s t u h i = record {
 }
 
 -- in a cycle of these the blocks come to what they are in the next
-alone_by : (w : Setting) (s t : State) (n k : ℕ) → k < n → t.core1.asleep ≡ true → AreBlocksQuiet s n → pacing_of (beside_after w s k t) ≡ pacing_of s
+pub alone_by : (w : Setting) (s t : State) (n k : ℕ) → k < n → t.core1.asleep ≡ true → AreBlocksQuiet s n → pacing_of (beside_after w s k t) ≡ pacing_of s
     → IsCore0Alone (beside_after w s k t) (blocks_after (suc k) s)
 unfolding begun
 alone_by w s t n k lt asleep blocks pacing =
@@ -455,7 +455,7 @@ has_gone_none s most lines steps marks h = record {
   cycle = omega arith;
 }
 
-lines_stay : (b : Doing) (x : Want) (t : State) → lines_of 0 (inward_next b x t) ≡ lines_of 0 t
+pub lines_stay : (b : Doing) (x : Want) (t : State) → lines_of 0 (inward_next b x t) ≡ lines_of 0 t
 unfolding inward_next ended with_sio lines_of block_lines outer_lines
 lines_stay b x t = refl
 
