@@ -6,6 +6,7 @@ pub mod Comparing
 pub mod Copying
 pub mod Going
 pub mod InSram
+pub mod Inward
 pub mod Keeping
 pub mod Lanes
 pub mod Later
