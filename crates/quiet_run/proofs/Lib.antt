@@ -1,3 +1,3 @@
 pub mod GoneOn
 mod Idle
-mod Passing
+pub mod Passing

@@ -36,7 +36,8 @@ fn begin<X: Device, L: Ledger>(
 ) -> u16
     requires some { 0 < most }
     requires most { most ≡ longest (setting X.meaning world.now) machine.old }
-    requires number { machine.old.cycle ≤ world.now.limit }
+    requires limit { machine.old.cycle ≤ world.now.limit }
+    requires number { machine.old.cycle + most < 2 ^ 64 }
     requires marks { marks.old ≡ [] }
     requires free { has_hold machine.old.fabric ≡ false }
     requires launching { is_launching machine.old.core1 ≡ false }
@@ -74,6 +75,7 @@ fn go<X: Device, L: Ledger>(
     steps: &mut Steps<L>,
 ) -> u16
     requires number { machine.old.cycle + most < 2 ^ 64 }
+    requires limit { machine.old.cycle ≤ world.now.limit }
     requires some { 0 < most }
     requires most { most ≡ longest (setting X.meaning world.now) machine.old }
     requires marks { marks.old ≡ [] }

@@ -1,5 +1,5 @@
-//! The first cycles of a window, as long as core 0 alone is at work in SRAM beside lanes that are quiet: they lie behind, and are brought
-//! up once.
+//! The first cycles of a window, as long as core 0 alone is at work in SRAM beside lanes that are quiet, which lie behind and are brought
+//! up once, or nobody has anything to do.
 
 ghost use Rattle.std.specs.Prelude.{◌≡◌, ◌+◌, ◌-◌, ◌^◌, ◌<◌, ◌≤◌, ◌++◌, ◌∷◌, [], None, false, true, length};
 ghost use Rattle.lane_look.specs.Alone.{ends_want};
@@ -8,7 +8,6 @@ ghost use Rattle.bus_fabric.specs.State.{has_hold};
 ghost use Rattle.rp_machine.specs.Answers.{lines_of};
 ghost use Rattle.rp_machine.specs.Cycle.{begun};
 ghost use Rattle.rp_machine.specs.Inward.{core0_want, goes_inward, inward_cycle, inward_after, StaysInward};
-ghost use Rattle.rp_machine.specs.Laws.{KnowsSio};
 ghost use Rattle.rp_machine.specs.Run.{states};
 ghost use Rattle.window_merge.specs.Inward.{noted_in, noted_core0, noted_inward, same_marks, GoesAsAlone, KeepsInward};
 ghost use Rattle.window_merge.specs.Merging.{marks_in};
@@ -19,7 +18,8 @@ use crate::walk::ends_want;
 use lane_look::{Device, Lane, Mark, Marks};
 use m0_core::{Core, Doing};
 use outer_lane::World;
-use rp_machine::{Machine, Steps};
+use quiet_run::{bring_up, pass_waiting};
+use rp_machine::{Machine, Steps, fact_limit_is_bounded};
 use std::sync::ledger::Ledger;
 
 /// One cycle of core 0, whose interrupt lines are these, where its run alone does not end before it and it reaches for nothing but SRAM;
@@ -90,19 +90,49 @@ fn note_onward<L: Ledger>(
     done
 }
 
-/// Adds so many times the same mark.
-fn mark_each(marks: &mut Marks, mark: Mark, n: u64)
+/// Marks so many cycles in which no frame ends and the pads have these levels.
+fn mark_each(marks: &mut Marks, pads: u32, n: u64)
     requires none { marks.old ≡ [] }
     requires few { n ≤ 256 }
-    ensures { marks.new ≡ same_marks n mark }
+    ensures { marks.new ≡ same_marks n (record { uart = None ∷ None ∷ []; pads = pads }) }
 {
-    for _ in 0..n {
+    let mark = Mark {
+        uart: [None, None],
+        pads,
+    };
+    for _k in 0..n {
         marks.push(mark);
     }
 }
 
+/// Moves the machine over the first cycles of a window of at most so many, as long as nobody has anything to do. How many they were.
+#[inline(never)]
+fn go_waiting<X: Device, L: Ledger>(
+    machine: &mut Machine,
+    world: &World<'_, X>,
+    most: u16,
+    marks: &mut Marks,
+    steps: &mut Steps<L>,
+) -> u16
+    requires number { machine.old.cycle + most ≤ world.now.limit }
+    requires few { most ≤ 256 }
+    requires marks { marks.old ≡ [] }
+    ensures most { result ≤ most }
+    ensures state { machine.new ≡ states (setting X.meaning world.now) machine.old result }
+    ensures goes { GoesAsAlone (setting X.meaning world.now) machine.old result }
+    ensures notes { noted_in (setting X.meaning world.now) machine.old result ≡ no_notes }
+    ensures marks { marks.new ≡ marks_in (setting X.meaning world.now) machine.old result }
+    ensures steps { steps.new ≡ steps.old + result }
+{
+    fact_limit_is_bounded(world);
+    let to = machine.at + u64::from(most);
+    let done = pass_waiting(machine, world, to, steps);
+    mark_each(marks, machine.pads(), done);
+    done as u16
+}
+
 /// Moves the machine over the first cycles of a window of at most so many, as long as core 0 alone is at work in SRAM beside lanes that are
-/// quiet. How many they were.
+/// quiet, or nobody has anything to do. How many they were.
 #[inline(never)]
 pub(crate) fn go_inward<X: Device, L: Ledger>(
     machine: &mut Machine,
@@ -114,7 +144,6 @@ pub(crate) fn go_inward<X: Device, L: Ledger>(
 ) -> u16
     requires number { machine.old.cycle + most ≤ world.now.limit }
     requires few { most ≤ 256 }
-    requires knows { KnowsSio machine.old }
     requires notes { notes.old ≡ no_notes }
     requires marks { marks.old ≡ [] }
     ensures most { result ≤ most }
@@ -124,6 +153,10 @@ pub(crate) fn go_inward<X: Device, L: Ledger>(
     ensures marks { marks.new ≡ marks_in (setting X.meaning world.now) machine.old result }
     ensures steps { steps.new ≡ steps.old + result }
 {
+    fact_limit_is_bounded(world);
+    if machine.core0.is_waiting() {
+        return go_waiting(machine, world, most, marks, steps);
+    }
     if !machine.core1.is_asleep() || machine.sio.offers() {
         return 0;
     }
@@ -132,18 +165,11 @@ pub(crate) fn go_inward<X: Device, L: Ledger>(
         return 0;
     }
     let seen = machine.begin_outer(world);
-    let lanes = machine.outer.quiet(world, &seen).min(blocks);
-    let done = note_onward(machine, notes, lanes.min(u64::from(most)), marks, steps);
-    machine.pass_blocks(done);
-    machine.outer.pass(world, &seen, done);
-    let pads = machine.pads();
-    mark_each(
-        marks,
-        Mark {
-            uart: [None, None],
-            pads,
-        },
-        done,
-    );
+    let outer = machine.outer.quiet(world, &seen);
+    let lanes = outer.min(blocks);
+    let room = lanes.min(u64::from(most));
+    let done = note_onward(machine, notes, room, marks, steps);
+    bring_up(machine, world, &seen, done);
+    mark_each(marks, machine.pads(), done);
     done as u16
 }

@@ -1,8 +1,11 @@
 -- The first cycles of a window, as long as core 0 alone is at work in SRAM beside lanes that are quiet: the start answers each lane as
 -- the machine does.
-use Rattle.std.proofs.Common.{◌≡◌, ℕ, zero, suc, ◌+◌, ◌<◌, ◌≤◌, ◌==◌, ◌||◌, nat_eq, not, Bool, true, false, if◌then◌else◌, List, [], ◌∷◌, ◌++◌, Option, Some, None, refl, sym, ap, subst, ◌∙◌, arith}
+use Rattle.std.proofs.Common.{◌≡◌, ℕ, zero, suc, ◌+◌, ◌<◌, ◌≤◌, ◌==◌, ◌||◌, nat_eq, not, inl, inr, add-one, Bool, true, false, if◌then◌else◌, List, [], ◌∷◌, ◌++◌, length, length-append, Option, Some, None, refl, sym, ap, subst, ◌∙◌, arith}
 use Rattle.std.specs.Prelude.{slice_index}
+use Rattle.std.specs.List.{list_any}
+use Rattle.std.proofs.lemmas.Bool.Decides.{eqb_tells}
 use Rattle.rp_base.specs.declared.Request.{Request}
+use Rattle.rp_base.specs.declared.Master.TheVariants.{DmaRead}
 use Rattle.rp_base.specs.declared.map.Spot.{Spot}
 use Rattle.rp_base.specs.declared.map.Spot.TheVariants as spot
 use Rattle.rp_base.specs.Map.{place_of}
@@ -23,9 +26,10 @@ use Rattle.dma_engine.specs.State.{State as Engine}
 use Rattle.dma_engine.specs.declared.begun.Access.{Access}
 use Rattle.dma_engine.specs.declared.begun.BegunTransfer.{BegunTransfer}
 use Rattle.dma_engine.specs.Asks as dma_asks
-use Rattle.dma_engine.specs.Asks.{may_be_device, elsewhere, asks_at, asks_for, asks_read, next_request, write_begun, waits_for_counts}
+use Rattle.dma_engine.specs.declared.begun.Access.TheVariants as access
+use Rattle.dma_engine.specs.Asks.{may_be_device, outside, asks_at, asks_for, asks_read, next_request, write_begun, waits_for_counts}
 use Rattle.dma_engine.specs.Cycle as dma
-use Rattle.pio_block.specs.State.{State as Pio}
+use Rattle.pio_block.specs.State.{State as Pio, is_busy}
 use Rattle.pio_block.specs.Cycle as pio
 use Rattle.io_bank.specs.State.{State as Bank}
 use Rattle.io_bank.specs.Levels.{is_used, inputs_of as inputs_of_pads}
@@ -40,23 +44,26 @@ use Rattle.rp_machine.specs.declared.wanted.Wanted.{Wanted}
 use Rattle.rp_machine.specs.State.{State}
 use Rattle.rp_machine.specs.Answers.{answer_of, lines_of, block_lines, packed_pair, pacing_of, inputs_of, outs_of}
 use Rattle.rp_machine.specs.Deeds.{asked_of}
-use Rattle.rp_machine.specs.Cycle.{begun, wanted, pins_of, with_sio, ended, mark}
+use Rattle.rp_machine.specs.Cycle.{begun, wanted, pins_of, with_sio, ended, mark, next_by}
 use Rattle.rp_machine.specs.Run.{states}
 use Rattle.rp_machine.specs.Alone.{Blocks, AreBlocksQuiet, IsCore0Alone, beside, blocks_after}
 use Rattle.rp_machine.specs.Inward.{TellsSame, GoesAlone, StaysInward, core0_want, inward_next, inward_after, onward_after}
 use Rattle.rp_machine.proofs.Going.{fewer_cycles}
-use Rattle.rp_machine.proofs.OneCore.{first_want, wanted_alone}
+use Rattle.rp_machine.proofs.OneCore.{first_want, second_want, wanted_alone}
 use Rattle.rp_machine.proofs.Quietly.{seen_later, seen_number}
 use Rattle.rp_machine.proofs.Inward.{begun_same, stays_after, TellOn, lines_on, pacing_on, outs_on, tell_on, stayed, told_both, alone_by, beside_after, core0_goes_on_alone, lines_stay}
+use Rattle.quiet_run.proofs.GoneOn.{HasBegun}
 use Rattle.quiet_run.proofs.Passing.{fewer}
 use Rattle.window_merge.specs.declared.notes.Notes.{Notes}
 use Rattle.window_merge.specs.declared.start.Start.{Start}
-use Rattle.window_merge.specs.Notes.{no_notes, noted_by, seen_of}
+use Rattle.window_merge.specs.Notes.{no_notes, noted_by, seen_of, HasRoom}
 use Rattle.window_merge.specs.Start.{start_of, guess, begun_from, differs_from, ends_wanted, goes_by, goes_first, goes_on}
-use Rattle.window_merge.specs.Window.{is_port_of, clash}
+use Rattle.window_merge.specs.Window.{is_port_of, clash, longest}
 use Rattle.window_merge.specs.Merging.{wants_of, marks_in}
-use Rattle.window_merge.specs.Inward.{noted_in, noted_inward, same_marks, GoesAsAlone, KeepsInward}
+use Rattle.window_merge.specs.Inward.{noted_in, noted_core0, noted_inward, same_marks, GoesAsAlone, KeepsInward}
 use Rattle.window_merge.proofs.Agree.{itself}
+use Rattle.window_merge.specs.Lanes.{is_launching}
+use Rattle.window_merge.proofs.Passing.{HasFew, few_on, First, passes_first}
 use Rattle.window_merge.proofs.Starting.{HasLines, lines0, lines1, lines2, lines3, lines4, lines5, guess_is}
 
 -- ---- what is asked is answered alike
@@ -97,7 +104,7 @@ asleep_asks f g s cycle e = first_way f g s.asleep _ _ e tt
 
 pio_asks : (f g : Ask → ℕ) (s : Pio) → f ask.Inputs ≡ g ask.Inputs → AsksAlike f g (pio.asks s)
 unfolding pio.asks
-pio_asks f g s e = either_way f g (pio.is_busy s) _ _ (e, λ x. tt) tt
+pio_asks f g s e = either_way f g (is_busy s) _ _ (e, λ x. tt) tt
 
 second_asks : (f g : Ask → ℕ) (s : OuterState) (cycle : ℕ) (first : List ℕ) → f (ask.Outs 1) ≡ g (ask.Outs 1) → AsksAlike f g (outer.asks_second s cycle first)
 unfolding outer.asks_second
@@ -116,7 +123,7 @@ wants_a_read answer counts write request (spot.Sio offset) e = absurd (cc e)
 wants_a_read answer counts write request (spot.Ppb offset) e = absurd (cc e)
 wants_a_read answer counts write request spot.Outside e = by_device (may_be_device request.address) e
   where
-    by_device : (c : Bool) → dma.want_of (if c then dma_asks.access.Outward request else dma_asks.outside dma_asks.DmaRead request) ≡ want.Nothing → ⊥
+    by_device : (c : Bool) → dma.want_of (if c then access.Outward request else outside DmaRead request) ≡ want.Nothing → ⊥
     by_device true e = absurd (cc e)
     by_device false e = absurd (cc e)
 
@@ -131,7 +138,7 @@ requests_by answer false s e = no_request answer 0 (write_begun s) (next_request
 
 requests_none : (answer : Ask → ℕ) (s : Engine) → dma.want_of (answered answer (dma_asks.asks s)).read ≡ want.Nothing → next_request s ≡ None
 unfolding dma_asks.asks
-requests_none answer s e = requests_by answer (dma_asks.list_any waits_for_counts s.channels) s e
+requests_none answer s e = requests_by answer (list_any waits_for_counts s.channels) s e
 
 read_asks : (f g : Ask → ℕ) (counts : ℕ) (s : Engine) → next_request s ≡ None → AsksAlike f g (asks_read counts s)
 unfolding asks_read
@@ -139,19 +146,19 @@ read_asks f g counts s e = subst (λ (next : Option Request). AsksAlike f g (ask
 
 dma_asks_alike : (f g : Ask → ℕ) (s : Engine) → next_request s ≡ None → f ask.Pacing ≡ g ask.Pacing → AsksAlike f g (dma_asks.asks s)
 unfolding dma_asks.asks
-dma_asks_alike f g s none e = either_way f g (dma_asks.list_any waits_for_counts s.channels) _ _ (e, λ x. read_asks f g x s none) (read_asks f g 0 s none)
+dma_asks_alike f g s none e = either_way f g (list_any waits_for_counts s.channels) _ _ (e, λ x. read_asks f g x s none) (read_asks f g 0 s none)
 
 -- ---- six lanes
 
-record AreAlike (start : Start) (notes : Notes) (s : State) : Type 0 where
-  core0 : AsksAlike (guess 0 start (seen_of 0 notes s.sram)) (answer_of 0 s) (core_asks.asks s.core0 s.cycle)
-  core1 : AsksAlike (guess 1 start (seen_of 1 notes s.sram)) (answer_of 1 s) (core_asks.asks s.core1 s.cycle)
-  dma : AsksAlike (guess 2 start (seen_of 2 notes s.sram)) (answer_of 2 s) (dma_asks.asks s.dma.block)
-  pio0 : AsksAlike (guess 3 start (seen_of 3 notes s.sram)) (answer_of 3 s) (pio.asks s.pio0.block)
-  pio1 : AsksAlike (guess 4 start (seen_of 4 notes s.sram)) (answer_of 4 s) (pio.asks s.pio1.block)
-  outer : AsksAlike (guess 5 start (seen_of 5 notes s.sram)) (answer_of 5 s) (outer.asks s.outer s.cycle)
+pub record AreAlike (start : Start) (notes : Notes) (s : State) : Type 0 where
+  pub core0 : AsksAlike (guess 0 start (seen_of 0 notes s.sram)) (answer_of 0 s) (core_asks.asks s.core0 s.cycle)
+  pub core1 : AsksAlike (guess 1 start (seen_of 1 notes s.sram)) (answer_of 1 s) (core_asks.asks s.core1 s.cycle)
+  pub dma : AsksAlike (guess 2 start (seen_of 2 notes s.sram)) (answer_of 2 s) (dma_asks.asks s.dma.block)
+  pub pio0 : AsksAlike (guess 3 start (seen_of 3 notes s.sram)) (answer_of 3 s) (pio.asks s.pio0.block)
+  pub pio1 : AsksAlike (guess 4 start (seen_of 4 notes s.sram)) (answer_of 4 s) (pio.asks s.pio1.block)
+  pub outer : AsksAlike (guess 5 start (seen_of 5 notes s.sram)) (answer_of 5 s) (outer.asks s.outer s.cycle)
 
-begun_alike : (start : Start) (notes : Notes) (s : State) → AreAlike start notes s → begun_from start notes s ≡ begun s
+pub begun_alike : (start : Start) (notes : Notes) (s : State) → AreAlike start notes s → begun_from start notes s ≡ begun s
 unfolding begun
 begun_alike start notes s h =
     rw (
@@ -178,13 +185,13 @@ not_not : (c : Bool) → not (false || not c) ≡ c
 not_not true = refl
 not_not false = refl
 
-goes_alike : (start : Start) (notes : Notes) (s : State) → AreAlike start notes s → goes_on start notes s ≡ goes_by (begun s)
+pub goes_alike : (start : Start) (notes : Notes) (s : State) → AreAlike start notes s → goes_on start notes s ≡ goes_by (begun s)
 goes_alike start notes s h =
     ap (λ (d : Bool). not (d || not (goes_by (begun_from start notes s)))) (differs_none start notes s h)
     ∙ not_not (goes_by (begun_from start notes s)) ∙ ap goes_by (begun_alike start notes s h)
 
 -- in the first cycle
-alike_first : (s : State) → AreAlike (start_of s) no_notes s
+pub alike_first : (s : State) → AreAlike (start_of s) no_notes s
 alike_first s = record {
   core0 = all_asked _ _ _ (λ q. guess_is 0 s (seen_of 0 no_notes s.sram) s.sram q (lines0 s) (λ i lt. refl));
   core1 = all_asked _ _ _ (λ q. guess_is 1 s (seen_of 1 no_notes s.sram) s.sram q (lines1 s) (λ i lt. refl));
@@ -220,19 +227,30 @@ no_port : (o : Option (ℕ × Bool)) → is_port_of o None ≡ false
 no_port None = refl
 no_port (Some access) = refl
 
-clash_none : (v : Want) → clash (v ∷ want.Nothing ∷ want.Nothing ∷ want.Nothing ∷ want.Nothing ∷ want.Nothing ∷ want.Nothing ∷ want.Nothing ∷ want.Nothing ∷ want.Nothing ∷ want.Nothing ∷ want.Nothing ∷ []) ≡ false
+pub clash_none : (v : Want) → clash (v ∷ want.Nothing ∷ want.Nothing ∷ want.Nothing ∷ want.Nothing ∷ want.Nothing ∷ want.Nothing ∷ want.Nothing ∷ want.Nothing ∷ want.Nothing ∷ want.Nothing ∷ want.Nothing ∷ []) ≡ false
 unfolding asked_of
 clash_none v = rw (no_port (asked_of v)) refl
 
-second_of : List Wanted → Want
+abbrev second_of : List Wanted → Want
 second_of (x ∷ y ∷ rest) = y.want
 second_of other = want.Nothing
+
+-- those of core 0, core 1 and the DMA engine
+abbrev pub wants_with : Want → Want → Want → Want → List Want
+wants_with v v1 read write =
+    v ∷ want.Nothing ∷ v1 ∷ want.Nothing ∷ read ∷ write ∷ want.Nothing ∷ want.Nothing ∷ want.Nothing ∷ want.Nothing ∷ want.Nothing ∷ want.Nothing ∷ []
 
 wants_alone : (s : State) (p : Blocks) → IsCore0Alone s p → clash (wants_of (begun s)) ≡ false
 unfolding wanted
 wants_alone s p h =
+    let v = core.want_of (begun s).core0 in
+    let read = dma.want_of (begun s).dma.read in
+    let write = dma.want_of (begun s).dma.write in
     let core1 : core.want_of (begun s).core1 ≡ want.Nothing = ap second_of (wanted_alone s p h) in
-    rw (core1, h.wants) (clash_none (core.want_of (begun s).core0))
+    ap (λ (x : Want). clash (wants_with v x read write)) core1
+    ∙ ap (λ (x : Want). clash (wants_with v want.Nothing x write)) (first_want _ _ h.wants)
+    ∙ ap (λ (x : Want). clash (wants_with v want.Nothing want.Nothing x)) (second_want _ _ h.wants)
+    ∙ clash_none v
 
 goes_by_alone : (s : State) (p : Blocks) → IsCore0Alone s p → ends_want (core.want_of (begun s).core0) ≡ false → goes_by (begun s) ≡ true
 goes_by_alone s p h keeps =
@@ -275,7 +293,7 @@ record StandsOnward (w : Setting) (s : State) (k : ℕ) : Type 0 where
   wants : core.want_of (begun (onward_after w s k)).core0 ≡ core0_want (inward_after k s)
   mark : mark w (onward_after w s k) ≡ record { uart = None ∷ None ∷ []; pads = s.outer.pads.current }
 
-starts_by : (a b : Start) → a.lines0 ≡ b.lines0 → a.lines1 ≡ b.lines1 → a.pacing ≡ b.pacing → a.inputs ≡ b.inputs → a.pio0 ≡ b.pio0 → a.pio1 ≡ b.pio1 → a ≡ b
+pub starts_by : (a b : Start) → a.lines0 ≡ b.lines0 → a.lines1 ≡ b.lines1 → a.pacing ≡ b.pacing → a.inputs ≡ b.inputs → a.pio0 ≡ b.pio0 → a.pio1 ≡ b.pio1 → a ≡ b
 starts_by a b e0 e1 e2 e3 e4 e5 = rw (← e0, ← e1, ← e2, ← e3, ← e4, ← e5) refl
 
 stands_onward : (w : Setting) (s : State) (n k : ℕ) → IsOnward w s n → k < n → StandsOnward w s k
@@ -365,3 +383,125 @@ marks_onward w s n (suc k) h le =
     let m : Mark = record { uart = None ∷ None ∷ []; pads = s.outer.pads.current } in
     let one : mark w (states w s k) ≡ m = ap (mark w) (at_onward w s n k h (omega arith)) ∙ (stands_onward w s n k h (omega arith)).mark in
     ap (λ (x : Mark). marks_in w s k ++ x ∷ []) one ∙ ap (λ (ms : List Mark). ms ++ m ∷ []) (marks_onward w s n k h (omega arith))
+
+-- ---- what is noted of core 0 on the way
+
+pub keeps_none : (s : State) → KeepsInward s 0
+keeps_none s k lt = absurd (omega arith)
+
+pub keeps_on : (s t : State) (n : ℕ) → KeepsInward s n → t ≡ inward_after n s → ends_want (core0_want t) ≡ false → KeepsInward s (n + 1)
+keeps_on s t n h e ends k lt = elim (eqb_tells k n) [
+  | inl same ↦ ap (λ (m : ℕ). ends_want (core0_want (inward_after m s))) same.1 ∙ ap (λ (x : State). ends_want (core0_want x)) (sym e) ∙ ends
+  | inr other ↦ h k (let ne = other.1 in omega (arith, ne))
+]
+
+pub noted_on : (s t : State) (n : ℕ) (notes notes' : Notes) → notes ≡ noted_inward n s → t ≡ inward_after n s → notes' ≡ noted_core0 (core0_want t) t.sram notes → notes' ≡ noted_inward (n + 1) s
+unfolding noted_inward
+noted_on s t n notes notes' e_notes e more =
+    more ∙ ap (λ (m : Notes). noted_core0 (core0_want t) t.sram m) e_notes
+    ∙ ap (λ (x : State). noted_core0 (core0_want x) x.sram (noted_inward n s)) e ∙ ap (λ (k : ℕ). noted_inward k s) (sym (add-one n))
+
+pub few_noted : (k : ℕ) (x : Want) (sram : List ℕ) (notes notes' : Notes) → HasFew k notes → notes' ≡ noted_core0 x sram notes → HasFew (k + 1) notes'
+few_noted k x sram notes notes' h e = subst (HasFew (k + 1)) (sym e) (few_on k x want.Nothing want.Nothing sram notes h)
+
+pub noted_none : (s : State) (notes : Notes) → notes ≡ no_notes → notes ≡ noted_inward 0 s
+unfolding noted_inward
+noted_none s notes e = e
+
+pub few_none : (notes : Notes) → notes ≡ no_notes → HasFew 0 notes
+few_none notes e =
+    subst (HasFew 0) (sym e) (record { originals = omega arith; core0 = omega arith; core1 = omega arith; dma = omega arith })
+
+-- ---- the same mark again and again
+
+abbrev pub mark_with : ℕ → Mark
+mark_with pads = record { uart = None ∷ None ∷ []; pads = pads }
+
+-- so many are there
+pub record AreSame (mark : Mark) (k : ℕ) (marks : List Mark) : Type 0 where
+  pub same : marks ≡ same_marks k mark
+  pub count : length marks ≡ k
+
+pub same_none : (mark : Mark) (marks : List Mark) → marks ≡ [] → AreSame mark 0 marks
+unfolding same_marks
+same_none mark marks e = record { same = e; count = ap length e }
+
+pub same_more : (mark : Mark) (k : ℕ) (marks marks' : List Mark) → AreSame mark k marks → marks' ≡ marks ++ mark ∷ [] → AreSame mark (k + 1) marks'
+unfolding same_marks
+same_more mark k marks marks' h e = record {
+  same = e ∙ ap (λ (ms : List Mark). ms ++ mark ∷ []) h.same ∙ ap (λ (j : ℕ). same_marks j mark) (sym (add-one k));
+  count = ap length e ∙ length-append marks (mark ∷ []) ∙ ap (λ (j : ℕ). j + 1) h.count;
+}
+
+-- ---- what the calls leave
+
+pub no_noted : (w : Setting) (s : State) (notes : Notes) → notes ≡ no_notes → notes ≡ noted_in w s 0
+unfolding noted_in
+no_noted w s notes e = e
+
+pub is_onward : (w : Setting) (s : State) (seen : SeenOutputs) (most done : ℕ) → HasBegun w s seen most → done ≤ most → StaysInward s done → KeepsInward s done → IsOnward w s done
+is_onward w s seen most done h le inward keeps =
+    let limit = h.limit in
+    record {
+      goes = h.goes;
+      known = h.known;
+      blocks = fewer_cycles s most done h.blocks le;
+      quiet = fewer w (begun s).outer s.outer most done (subst (λ (x : SeenOutputs). IsQuiet w x s.outer most) h.same h.quiet) le;
+      inward = inward;
+      keeps = keeps;
+      limit = omega arith;
+    }
+
+pub marked_onward : (w : Setting) (s t : State) (n pads : ℕ) (marks : List Mark) → IsOnward w s n → t ≡ states w s n → pads ≡ t.outer.pads.current
+    → marks ≡ same_marks n (record { uart = None ∷ None ∷ []; pads = pads }) → marks ≡ marks_in w s n
+marked_onward w s t n pads marks h e_state e_pads e =
+    let same : pads ≡ s.outer.pads.current = e_pads ∙ ap (λ (x : State). x.outer.pads.current) (e_state ∙ at_onward w s n n h (omega arith)) ∙ ap (λ (b : Bank). b.current) (h.quiet.pads n (omega arith)) in
+    e ∙ ap (λ p. same_marks n (record { uart = None ∷ None ∷ []; pads = p })) same ∙ sym (marks_onward w s n n h (omega arith))
+
+-- ---- the first cycle, where it is not one of these
+
+-- nothing has changed
+pub record IsBack (s i : State) (notes : Notes) (marks : List Mark) : Type 0 where
+  pub state : i ≡ s
+  pub notes_are : notes ≡ no_notes
+  pub marks_are : marks ≡ []
+
+pub is_back : (w : Setting) (s i : State) (done : ℕ) (notes : Notes) (marks : List Mark) → (0 < done → ⊥) → i ≡ states w s done → notes ≡ noted_in w s done → marks ≡ marks_in w s done → IsBack s i notes marks
+unfolding states noted_in marks_in
+is_back w s i zero notes marks none e_state e_notes e_marks = record { state = e_state; notes_are = e_notes; marks_are = e_marks }
+is_back w s i (suc done) notes marks none e_state e_notes e_marks = absurd (none (omega arith))
+
+pub room_none : (notes : Notes) → notes ≡ no_notes → HasRoom notes 3
+room_none notes e =
+    subst (λ (n : Notes). HasRoom n 3) (sym e) (record { originals = omega arith; core0 = omega arith; core1 = omega arith; dma = omega arith })
+
+-- it goes
+pub record HasBegunOne (w : Setting) (s now : State) (notes : Notes) (marks : List Mark) : Type 0 where
+  pub state : now ≡ states w s 1
+  pub goes : GoesAsAlone w s 1
+  pub notes_are : notes ≡ noted_in w s 1
+  pub marks_are : marks ≡ marks_in w s 1
+
+noted_one : (w : Setting) (s : State) → noted_by (wanted (begun s)) s.sram no_notes ≡ noted_in w s 1
+unfolding noted_in states
+noted_one w s = ap (λ (b : Begun). noted_by (wanted b) s.sram no_notes) (sym (begun_alike (start_of s) no_notes s (alike_first s)))
+
+goes_one : (w : Setting) (s : State) → goes_first s ≡ true → GoesAsAlone w s 1
+unfolding noted_in states
+goes_one w s goes zero lt = goes_first_on s ∙ goes
+goes_one w s goes (suc k) lt = absurd (omega arith)
+
+pub begun_one : (w : Setting) (s i : State) (notes : Notes) (marks : List Mark) (b : Begun) (now' : State) (notes' : Notes) (marks' : List Mark) → First s [] → is_launching s.core1 ≡ false → 0 < longest w s → goes_first s ≡ true
+    → IsBack s i notes marks → b ≡ begun s → now' ≡ next_by w b (wanted b) i → notes' ≡ noted_by (wanted b) i.sram notes → marks' ≡ marks ++ outer.marked w i.outer b.outer ∷ [] → HasBegunOne w s now' notes' marks'
+begun_one w s i notes marks b now' notes' marks' first calm lt goes back e_begun e_now e_notes e_marks =
+    let noted : notes' ≡ noted_by (wanted (begun s)) s.sram no_notes = e_notes ∙ rw (back.state, back.notes_are, e_begun) refl in
+    let p = passes_first w s (start_of s) [] true now' notes' marks' first calm lt (sym goes) refl refl
+    (e_now ∙ rw (back.state, e_begun) refl)
+    (e_marks ∙ rw (back.marks_are, back.state, e_begun) refl)
+    noted in
+    record {
+      state = p.stands.is_states;
+      goes = goes_one w s goes;
+      notes_are = noted ∙ noted_one w s;
+      marks_are = p.stands.is_marks;
+    }
