@@ -16,11 +16,12 @@ use Rattle.rp_machine.specs.State.{State}
 use Rattle.rp_machine.specs.Copies.{Agree, CopiesAgree}
 use Rattle.rp_machine.specs.Cycle.{begun, pins_of}
 use Rattle.rp_machine.specs.Run.{states}
-use Rattle.rp_machine.specs.Alone.{Blocks, AreBlocksQuiet, blocks_after, with_blocks}
+use Rattle.rp_machine.specs.Alone.{Blocks, AreBlocksQuiet, blocks_after}
 use Rattle.rp_machine.specs.Inward.{with_beside, inward_after, StaysInward, GoesAlone, GoesOnward}
 use Rattle.rp_machine.proofs.Going.{fewer_cycles}
 use Rattle.rp_machine.proofs.Inward.{stays_after, core0_goes_on_alone, went_onward}
 use Rattle.rp_machine.proofs.Quietly.{seen_number}
+use Rattle.quiet_run.specs.Parts.{MayBringUp}
 use Rattle.quiet_run.proofs.Passing.{passing_agrees, fewer}
 
 -- what the tests and the calls of the run have shown of the state s at its start
@@ -47,12 +48,6 @@ has_begun w i s look asleep offered r q most at to e agree sleeps alone offers n
   limit = omega (arith, here, room, limit);
 }
 
--- the blocks may pass so many cycles
-pub record MayPass (s : State) (n : ℕ) : Type 0 where
-  pub dma : GivesNone s.dma.block n
-  pub pio0 : pio.IsQuiet s.pio0.block n
-  pub pio1 : pio.IsQuiet s.pio1.block n
-
 -- the law, for what core 0 has gone
 pub goes_onward : (w : Setting) (s : State) (seen : SeenOutputs) (most done : ℕ) → HasBegun w s seen most → done ≤ most → StaysInward s done → GoesOnward w s done
 goes_onward w s seen most done h le inward =
@@ -68,35 +63,28 @@ goes_unstopped w s seen most done h le inward stops same none k lt =
     let on = goes_onward w s seen most (k + 1) h (omega arith) (λ i below. inward i (omega arith)) in
     ap stops on.state ∙ same (blocks_after (k + 1) s) (outer_after w (begun s).outer (k + 1) s.outer) (inward_after (k + 1) s) ∙ none k lt
 
--- the peripherals may be brought up
+-- the others may be brought up
 pub number_fits : (w : Setting) (s : State) (seen : SeenOutputs) (most done to bound : ℕ) → HasBegun w s seen most → done ≤ most → s.cycle + most ≤ to → to < bound → seen.cycle + done < bound
 number_fits w s seen most done to bound h le room fits =
     let number : seen.cycle ≡ s.cycle = ap (λ (x : SeenOutputs). x.cycle) h.same ∙ seen_number s in
     omega (arith, number, le, room, fits)
 
-pub blocks_pass : (w : Setting) (s t : State) (seen : SeenOutputs) (most done : ℕ) → HasBegun w s seen most → done ≤ most → t ≡ inward_after done s → MayPass t done
-blocks_pass w s t seen most done h le went =
+pub may_bring_up : (w : Setting) (s t : State) (seen : SeenOutputs) (most done : ℕ) → HasBegun w s seen most → done ≤ most → t ≡ inward_after done s → MayBringUp w seen t done
+may_bring_up w s t seen most done h le went =
     let stays = stays_after s done h.goes h.known in
     let blocks = fewer_cycles s most done h.blocks le in
     record {
       dma = subst (λ (d : Resettable Engine). GivesNone d.block done) (sym (ap (λ (x : State). x.dma) went ∙ stays.dma)) blocks.dma.credits;
       pio0 = subst (λ (p : Resettable Pio). pio.IsQuiet p.block done) (sym (ap (λ (x : State). x.pio0) went ∙ stays.pio0)) blocks.pio0;
       pio1 = subst (λ (p : Resettable Pio). pio.IsQuiet p.block done) (sym (ap (λ (x : State). x.pio1) went ∙ stays.pio1)) blocks.pio1;
+      peripherals = subst (λ (o : OuterState). outer.IsQuiet w seen o done) (sym (ap (λ (x : State). x.outer) went ∙ stays.outer)) (fewer w seen s.outer most done h.quiet le);
     }
 
-pub still_quiet : (w : Setting) (s t u j : State) (seen : SeenOutputs) (most done : ℕ) → HasBegun w s seen most → done ≤ most → t ≡ inward_after done s
-    → u ≡ with_blocks (blocks_after done t) t → j ≡ u → outer.IsQuiet w seen j.outer done
-still_quiet w s t u j seen most done h le went passed e =
-    let same : s.outer ≡ j.outer =
-    sym (ap (λ (x : State). x.outer) (e ∙ passed) ∙ ap (λ (x : State). x.outer) went ∙ (stays_after s done h.goes h.known).outer) in
-    subst (λ (o : OuterState). outer.IsQuiet w seen o done) same (fewer w seen s.outer most done h.quiet le)
-
-pub brought_up : (w : Setting) (s t u j : State) (o : OuterState) (seen : SeenOutputs) (most done : ℕ) → HasBegun w s seen most → done ≤ most → StaysInward s done
-    → t ≡ inward_after done s → u ≡ with_blocks (blocks_after done t) t → j ≡ u → o ≡ outer_after w seen done j.outer → record j { outer = o } ≡ states w s done
-brought_up w s t u j o seen most done h le inward went passed e up =
-    ap (λ (x : State). record x { outer = o }) (e ∙ passed)
-    ∙ went_onward w s t o seen done h.goes h.known h.same went (up ∙ ap (λ (x : State). outer_after w seen done x.outer) (e ∙ passed))
-    (goes_onward w s seen most done h le inward)
+-- and then it is the state of the run
+pub brought_up : (w : Setting) (s t u : State) (seen : SeenOutputs) (most done : ℕ) → HasBegun w s seen most → done ≤ most → StaysInward s done → t ≡ inward_after done s
+    → u ≡ with_beside (blocks_after done t) (outer_after w seen done t.outer) t → u ≡ states w s done
+brought_up w s t u seen most done h le inward went up =
+    up ∙ went_onward w s t (outer_after w seen done t.outer) seen done h.goes h.known h.same went refl (goes_onward w s seen most done h le inward)
 
 pub agrees : (w : Setting) (j : State) (o : OuterState) (seen : SeenOutputs) (done : ℕ) → outer.IsQuiet w seen j.outer done → o ≡ outer_after w seen done j.outer
     → CopiesAgree j → Agree (slice_index j.resets 0) j.core1 j.dma.held j.pio0.held j.pio1.held o j.sio

@@ -1,3 +1,3 @@
-mod GoneOn
+pub mod GoneOn
 mod Idle
-mod Passing
+pub mod Passing

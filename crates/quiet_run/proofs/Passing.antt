@@ -46,13 +46,13 @@ use Rattle.rp_machine.proofs.Quietly.{states_through, no_events, seen_later, see
 
 -- ---- what is asked and begun there
 
-told : (w : Setting) (s : State) (n k : ℕ) → ArePartsQuiet w s n → k ≤ n → TellOn s (passed w s k)
+pub told : (w : Setting) (s : State) (n k : ℕ) → ArePartsQuiet w s n → k ≤ n → TellOn s (passed w s k)
 told w s n k q le = tell_on w s (passed w s k) n k le q.blocks q.peripherals
 
-same_lines : (w : Setting) (s : State) (n k number : ℕ) → ArePartsQuiet w s n → k ≤ n → lines_of number (passed w s k) ≡ lines_of number s
+pub same_lines : (w : Setting) (s : State) (n k number : ℕ) → ArePartsQuiet w s n → k ≤ n → lines_of number (passed w s k) ≡ lines_of number s
 same_lines w s n k number q le = lines_on s (passed w s k) number refl (told w s n k q le)
 
-same_pacing : (w : Setting) (s : State) (n k : ℕ) → ArePartsQuiet w s n → k ≤ n → pacing_of (passed w s k) ≡ pacing_of s
+pub same_pacing : (w : Setting) (s : State) (n k : ℕ) → ArePartsQuiet w s n → k ≤ n → pacing_of (passed w s k) ≡ pacing_of s
 same_pacing w s n k q le = pacing_on s (passed w s k) (told w s n k q le)
 
 begun_core0 : (w : Setting) (s : State) (n k : ℕ) → ArePartsQuiet w s n → k < n → (begun (passed w s k)).core0 ≡ answered (λ ask. lines_of 0 s) (core_asks.asks (passed w s k).core0 (s.cycle + k))
@@ -80,21 +80,21 @@ pio1_more : (w : Setting) (s : State) (n k : ℕ) → ArePartsQuiet w s n → k 
 unfolding begun
 pio1_more w s n k q lt = (a_quiet_block_shows_the_same s.pio1.block n q.blocks.pio1).steps k lt (answer_of 4 (passed w s k))
 
-begun_outer : (w : Setting) (s : State) (n k : ℕ) → ArePartsQuiet w s n → k ≤ n → (begun (passed w s k)).outer ≡ seen_in (begun s).outer (s.cycle + k)
+pub begun_outer : (w : Setting) (s : State) (n k : ℕ) → ArePartsQuiet w s n → k ≤ n → (begun (passed w s k)).outer ≡ seen_in (begun s).outer (s.cycle + k)
 begun_outer w s n k q le = seen_later s (passed w s k) (q.peripherals.pads k le) (λ block. outs_on s (passed w s k) block (told w s n k q le))
 
 -- ---- nobody wants anything
 
-wants_core0 : (w : Setting) (s : State) (n k : ℕ) → ArePartsQuiet w s n → k < n → core.want_of (begun (passed w s k)).core0 ≡ want.Nothing
+pub wants_core0 : (w : Setting) (s : State) (n k : ℕ) → ArePartsQuiet w s n → k < n → core.want_of (begun (passed w s k)).core0 ≡ want.Nothing
 wants_core0 w s n k q lt = ap core.want_of (begun_core0 w s n k q lt) ∙ q.core0.wants k lt
 
-wants_core1 : (w : Setting) (s : State) (n k : ℕ) → ArePartsQuiet w s n → k < n → core.want_of (begun (passed w s k)).core1 ≡ want.Nothing
+pub wants_core1 : (w : Setting) (s : State) (n k : ℕ) → ArePartsQuiet w s n → k < n → core.want_of (begun (passed w s k)).core1 ≡ want.Nothing
 wants_core1 w s n k q lt = ap core.want_of (begun_core1 w s n k q lt) ∙ q.core1.wants k lt
 
-wants_read : (w : Setting) (s : State) (n k : ℕ) → ArePartsQuiet w s n → k < n → dma.want_of (begun (passed w s k)).dma.read ≡ want.Nothing
+pub wants_read : (w : Setting) (s : State) (n k : ℕ) → ArePartsQuiet w s n → k < n → dma.want_of (begun (passed w s k)).dma.read ≡ want.Nothing
 wants_read w s n k q lt = first_want _ _ (wants_dma w s n k q lt)
 
-wants_write : (w : Setting) (s : State) (n k : ℕ) → ArePartsQuiet w s n → k < n → dma.want_of (begun (passed w s k)).dma.write ≡ want.Nothing
+pub wants_write : (w : Setting) (s : State) (n k : ℕ) → ArePartsQuiet w s n → k < n → dma.want_of (begun (passed w s k)).dma.write ≡ want.Nothing
 wants_write w s n k q lt = second_want _ _ (wants_dma w s n k q lt)
 
 no_cause : (w : Setting) (s : State) (n k : ℕ) → ArePartsQuiet w s n → k < n → cause_in w (begun (passed w s k)) (wanted (begun (passed w s k))) (passed w s k) ≡ None

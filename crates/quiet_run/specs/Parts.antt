@@ -5,9 +5,12 @@ use Rattle.lane_look.specs.Times.{times}
 use Rattle.m0_core.specs.Begins.{begins}
 use Rattle.m0_core.specs.Quiet as core
 use Rattle.bus_fabric.specs.State.{has_hold}
+use Rattle.dma_engine.specs.Quiet.{GivesNone}
+use Rattle.pio_block.specs.Quiet as pio
 use Rattle.sio_block.specs.Cycle.{after_cycle}
 use Rattle.sio_block.specs.Launcher.{offers_of}
 use Rattle.outer_lane.specs.Quiet as outer
+use Rattle.outer_lane.specs.declared.world.SeenOutputs.{SeenOutputs}
 use Rattle.outer_lane.specs.Setting.{Setting}
 use Rattle.rp_machine.specs.State.{State}
 use Rattle.rp_machine.specs.Alone.{AreBlocksQuiet, blocks_after}
@@ -27,6 +30,13 @@ pub record ArePartsQuiet (w : Setting) (s : State) (n : ℕ) : Type 0 where
   pub launcher : offers_of s.sio ≡ false
   pub fabric : has_hold s.fabric ≡ false
   pub limit : s.cycle + n ≤ w.limit
+
+-- the lanes beside core 0 may be brought up by so many cycles, from the one on in which this is seen
+pub record MayBringUp (w : Setting) (seen : SeenOutputs) (s : State) (n : ℕ) : Type 0 where
+  pub dma : GivesNone s.dma.block n
+  pub pio0 : pio.IsQuiet s.pio0.block n
+  pub pio1 : pio.IsQuiet s.pio1.block n
+  pub peripherals : outer.IsQuiet w seen s.outer n
 
 -- of these, what is not counted in cycles
 pub record AreOthersQuiet (s : State) : Type 0 where

@@ -10,6 +10,6 @@ mod onward;
 mod pass;
 pub mod ways;
 
-pub use onward::Watch;
+pub use onward::{Watch, bring_up};
 pub use pass::pass_waiting;
 pub use ways::{Pace, pass_paced, pass_quiet, pass_watched};

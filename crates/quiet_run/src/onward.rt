@@ -1,11 +1,16 @@
 //! Core 0 at work by itself, beside a DMA engine, PIO and peripherals that are quiet.
 
-ghost use Rattle.std.specs.Prelude.{◌≡◌, ℕ, ◌+◌, ◌<◌, ◌≤◌, false};
+ghost use Rattle.std.specs.Prelude.{◌≡◌, ℕ, ◌+◌, ◌^◌, ◌<◌, ◌≤◌, false};
 ghost use Rattle.outer_lane.specs.Setting.{setting};
+ghost use Rattle.outer_lane.specs.Quiet.{outer_after};
+ghost use Rattle.rp_machine.specs.Alone.{blocks_after};
+ghost use Rattle.rp_machine.specs.Inward.{with_beside};
 ghost use Rattle.rp_machine.specs.Quiet.{IsQuiet};
+ghost use Rattle.quiet_run.specs.Parts.{MayBringUp};
 ghost use Rattle.rp_machine.specs.Run.{states};
 
 use lane_look::{Device, Marks};
+use outer_lane::SeenOutputs;
 use rp_machine::{Machine, Steps, World};
 use std::sync::ledger::Ledger;
 
@@ -66,6 +71,16 @@ impl Watch for Unwatched {
     ghost looks_inward = { λ watch p o s. refl };
 }
 
+/// Brings the lanes beside core 0 up by so many cycles, in which they are quiet.
+pub fn bring_up<X: Device>(machine: &mut Machine, world: &World<'_, X>, seen: &SeenOutputs, n: u64)
+    requires number { seen.now.cycle + n < 2 ^ 64 }
+    requires quiet { MayBringUp (setting X.meaning world.now) seen.now machine.old n }
+    ensures { machine.new ≡ with_beside (blocks_after n machine.old) (outer_after (setting X.meaning world.now) seen.now n machine.old.outer) machine.old }
+{
+    machine.pass_blocks(n);
+    machine.outer.pass(world, seen, n);
+}
+
 /// Goes on as far as core 0 alone is at work and reaches for nothing but SRAM, or waits for the peripherals, the other lanes are quiet and
 /// nothing stops it, at most up to a cycle; and counts the cycles. Each of them happens, has no events, and leaves the pads as they are. How
 /// many they were.
@@ -99,7 +114,6 @@ pub(crate) fn pass_onward<X: Device, W: Watch, L: Ledger>(
     let lanes = outer.min(blocks);
     let most = lanes.min(to - at);
     let done = watch.go_onward(machine, most, marks, steps);
-    machine.pass_blocks(done);
-    machine.outer.pass(world, &seen, done);
+    bring_up(machine, world, &seen, done);
     done
 }

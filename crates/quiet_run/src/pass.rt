@@ -107,6 +107,7 @@ pub fn pass_waiting<X: Device, L: Ledger>(
     ensures state { machine.new ≡ states (setting X.meaning world.now) machine.old result }
     ensures quiet { IsQuiet (setting X.meaning world.now) machine.old result }
     ensures within { 0 < result → machine.old.cycle + result ≤ to }
+    ensures parts { 0 < result → ArePartsQuiet (setting X.meaning world.now) machine.old result }
     ensures idle { (k : ℕ) → k < result → IsIdle machine.old (states (setting X.meaning world.now) machine.old k) }
     ensures steps { steps.new ≡ steps.old + result }
 {

@@ -79,7 +79,7 @@ answer_same p o s h ask.Pacing = h.pacing
 answer_same p o s h ask.Inputs = ap packed_pair h.inputs
 answer_same p o s h (ask.Outs block) = h.outs block
 
-begun_same : (p : Blocks) (o : OuterState) (s : State) → TellsSame p o s → (begun (with_beside p o s)).core0 ≡ (begun s).core0
+pub begun_same : (p : Blocks) (o : OuterState) (s : State) → TellsSame p o s → (begun (with_beside p o s)).core0 ≡ (begun s).core0
 unfolding begun
 begun_same p o s h = answered_same (answer_of 0 (with_beside p o s)) (answer_of 0 s) (answer_same p o s h) (core_asks.asks s.core0 s.cycle)
 
@@ -211,10 +211,13 @@ by_begun s d = is_inward (granted_alone (core.want_of d) s) (core.want_of d)
 pub nothing_inward : (b : Doing) (s : State) → b ≡ (begun s).core0 → core.want_of b ≡ want.Nothing → goes_inward s ≡ true
 nothing_inward b s e nothing = ap (by_begun s) (sym e) ∙ ap (λ x. is_inward (granted_alone x s) x) nothing
 
+pub wants_nothing_inward : (s : State) → core0_want s ≡ want.Nothing → goes_inward s ≡ true
+wants_nothing_inward s nothing = ap (λ x. is_inward (granted_alone x s) x) nothing
+
 -- the same of an instruction that core 0 begins by its first halfword
 pub short_by : (s : State) (pc lines half : ℕ) (op : Op) → lines < 2 ^ 32 → lines ≡ lines_of 0 s → begins s.core0 ≡ Some pc → half ≡ answer_of 0 s (ask.Half pc)
     → asks_second (half % 2 ^ 16) s.core0 ≡ Ready (Inner (Instruction op)) → is_signal op ≡ false → has_hold s.fabric ≡ false
-    → (goes_inward s ≡ true) × (record (ended (record s { core0 = core.closed lines s.cycle (core.after_inner (Instruction op) s.core0) })) { cycle = s.cycle + 1 } ≡ inward_cycle s)
+    → (core0_want s ≡ want.Nothing) × (record (ended (record s { core0 = core.closed lines s.cycle (core.after_inner (Instruction op) s.core0) })) { cycle = s.cycle + 1 } ≡ inward_cycle s)
 unfolding begun inward_wantless core.next
 short_by s pc lines half op fits told here answer short silent free =
     let b = ends_with lines s.cycle (Inner (Instruction op)) in
@@ -222,7 +225,7 @@ short_by s pc lines half op fits told here answer short silent free =
     let same : b ≡ (begun s).core0 =
     ap (λ l. ends_with l s.cycle (Inner (Instruction op))) word ∙ sym (begun_short (answer_of 0 s) s.cycle s.core0 pc (Inner (Instruction op)) here (ap (λ x. asks_second (x % 2 ^ 16) s.core0) (sym answer) ∙ short)) in
     let nothing : core.want_of b ≡ want.Nothing = ap (λ x. if x then want.Signal else want.Nothing) silent in
-    (nothing_inward b s same nothing, rests_by b s same nothing free)
+    (ap core.want_of (sym same) ∙ nothing, rests_by b s same nothing free)
 
 pub reaches_by : (b : Doing) (s t : State) → b ≡ (begun s).core0 → t ≡ inward_next b (core.want_of b) s → t ≡ inward_cycle s
 reaches_by b s t e reaches = reaches ∙ ap (λ (d : Doing). inward_next d (core.want_of d) s) e
@@ -325,7 +328,7 @@ tell_on w s t n k le blocks quiet =
     }
 
 -- what stays beside core 0 tells the same too
-stayed : (s t : State) (n : ℕ) → Stays s t n → TellOn t s
+pub stayed : (s t : State) (n : ℕ) → Stays s t n → TellOn t s
 stayed s t n h = rw (h.outer, h.dma, h.pio0, h.pio1) record {
   lines = λ core. refl;
   uarts = refl;
@@ -338,7 +341,7 @@ stayed s t n h = rw (h.outer, h.dma, h.pio0, h.pio1) record {
   pacing1 = refl;
 }
 
-told_both : (s t u : State) → TellOn s t → TellOn u s → TellOn u t
+pub told_both : (s t u : State) → TellOn s t → TellOn u s → TellOn u t
 told_both s t u h i = record {
   lines = λ core. h.lines core ∙ i.lines core;
   uarts = h.uarts ∙ i.uarts;
@@ -352,7 +355,7 @@ told_both s t u h i = record {
 }
 
 -- in a cycle of these the blocks come to what they are in the next
-alone_by : (w : Setting) (s t : State) (n k : ℕ) → k < n → t.core1.asleep ≡ true → AreBlocksQuiet s n → pacing_of (beside_after w s k t) ≡ pacing_of s
+pub alone_by : (w : Setting) (s t : State) (n k : ℕ) → k < n → t.core1.asleep ≡ true → AreBlocksQuiet s n → pacing_of (beside_after w s k t) ≡ pacing_of s
     → IsCore0Alone (beside_after w s k t) (blocks_after (suc k) s)
 unfolding begun
 alone_by w s t n k lt asleep blocks pacing =
@@ -475,7 +478,7 @@ has_gone_none s most lines steps marks h = record {
   cycle = omega arith;
 }
 
-lines_stay : (b : Doing) (x : Want) (t : State) → lines_of 0 (inward_next b x t) ≡ lines_of 0 t
+pub lines_stay : (b : Doing) (x : Want) (t : State) → lines_of 0 (inward_next b x t) ≡ lines_of 0 t
 unfolding inward_next ended with_sio lines_of block_lines outer_lines
 lines_stay b x t = refl
 

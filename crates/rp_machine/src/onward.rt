@@ -13,10 +13,12 @@ use std::sync::ledger::Ledger;
 impl Machine {
     ghost use Rattle.std.specs.Prelude.{◌≡◌, ◌+◌, ◌-◌, ◌^◌, ◌<◌, ◌≤◌, IfSome, if◌then◌else◌, true, false};
     ghost use Rattle.m0_core.specs.Cycle.{want_of};
+    ghost use Rattle.lane_look.specs.declared.lane.Want.TheVariants.{Nothing};
     ghost use Rattle.rp_machine.specs.Stores.{StoresInSram};
     ghost use Rattle.rp_machine.specs.Alone.{granted_alone};
     ghost use Rattle.rp_machine.specs.Answers.{lines_of};
-    ghost use Rattle.rp_machine.specs.Inward.{is_peripheral, is_inward, goes_inward, inward_turn, inward_deed, inward_wantless, inward_next, inward_cycle, inward_after, StaysInward};
+    ghost use Rattle.rp_machine.specs.Cycle.{begun};
+    ghost use Rattle.rp_machine.specs.Inward.{is_peripheral, is_inward, core0_want, goes_inward, inward_turn, inward_deed, inward_wantless, inward_next, inward_cycle, inward_after, StaysInward};
 
     /// A word that the peripherals have.
     fn is_peripheral(&self, spot: &Spot) -> bool
@@ -103,10 +105,10 @@ impl Machine {
     /// A cycle in which core 0 begins an instruction, where it wants nothing, as of most, and no access lasts. False where it is other;
     /// then nothing changes.
     #[inline(always)]
-    fn short_onward(&mut self, lines: u32) -> bool
+    pub fn short_onward(&mut self, lines: u32) -> bool
         requires number { self.old.cycle < 2 ^ 64 - 1 }
         requires lines { lines ≡ lines_of 0 self.old }
-        ensures inward { result ≡ true → goes_inward self.old ≡ true }
+        ensures nothing { result ≡ true → core0_want self.old ≡ Nothing }
         ensures state { self.new ≡ (if result then inward_cycle self.old else self.old) }
     {
         let Some(address) = self.core0.begins() else {
@@ -121,9 +123,25 @@ impl Machine {
         true
     }
 
-    /// One cycle of a machine in which core 0 is alone, whose interrupt lines are these, but for the other lanes, which stay as they
-    /// are. False where core 0 reaches for more than SRAM and does not wait, and where an access lasts and nothing is wanted; then
-    /// nothing changes.
+    /// One cycle of a machine in which core 0 is alone and has begun this, but for the other lanes, which stay as they are. False where
+    /// core 0 reaches for more than SRAM and does not wait, and where an access lasts and nothing is wanted; then nothing changes.
+    #[inline(always)]
+    pub fn begun_onward(&mut self, core0: &Doing, marks: &mut Marks) -> bool
+        requires number { self.old.cycle < 2 ^ 64 - 1 }
+        requires begun { core0.now ≡ (begun self.old).core0 }
+        ensures inward { result ≡ true → goes_inward self.old ≡ true }
+        ensures done { result ≡ true → self.new ≡ inward_cycle self.old }
+        ensures stays { result ≡ false → self.new ≡ self.old }
+        ensures marks { marks.new ≡ marks.old }
+    {
+        if self.is_bus_free(core0) {
+            self.wantless_onward(core0, marks);
+            return true;
+        }
+        self.reach_onward(core0, marks)
+    }
+
+    /// The same, where core 0 has not begun its cycle, and its interrupt lines are these.
     #[inline(always)]
     pub(crate) fn cycle_onward(&mut self, lines: u32, core0: &mut Doing, marks: &mut Marks) -> bool
         requires number { self.old.cycle < 2 ^ 64 - 1 }
@@ -137,11 +155,7 @@ impl Machine {
             return true;
         }
         self.begin_core0(lines, core0);
-        if self.is_bus_free(core0) {
-            self.wantless_onward(core0, marks);
-            return true;
-        }
-        self.reach_onward(core0, marks)
+        self.begun_onward(core0, marks)
     }
 
     /// Core 0 goes on alone for at most so many cycles, up to the first in which it reaches for more than SRAM and does not wait, and

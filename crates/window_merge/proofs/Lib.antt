@@ -6,6 +6,7 @@ pub mod Comparing
 pub mod Copying
 pub mod Going
 pub mod InSram
+pub mod InwardCycles
 pub mod Keeping
 pub mod Lanes
 pub mod Later
@@ -23,5 +24,6 @@ pub mod Starting
 pub mod Telling
 pub mod Told
 pub mod Verdicts
+pub mod WaitingCycles
 pub mod Walking
 pub mod Windows

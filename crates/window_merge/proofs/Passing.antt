@@ -35,6 +35,7 @@ use Rattle.window_merge.specs.Patch.{patched, sram_after}
 use Rattle.window_merge.specs.declared.notes.Notes.{Notes}
 use Rattle.window_merge.specs.declared.start.Start.{Start}
 use Rattle.window_merge.specs.Notes.{is_none, seen_of, seen_word, is_clean, write_of, original_word, own_word, with_word, no_notes, noted, noted_by, HasRoom}
+use Rattle.window_merge.specs.Inward.{noted_in, GoesAsAlone}
 use Rattle.window_merge.specs.Start.{start_of, guess, begun_from, differs_from, ends_wanted, goes_by, goes_first, goes_on}
 use Rattle.window_merge.proofs.Agree.{both_false}
 use Rattle.window_merge.proofs.Calm.{IsCalm, calm_sram}
@@ -491,7 +492,7 @@ dma_stores before s n k state cycle rest did t at h =
 three_more : (k m n : ℕ) → m ≤ 3 * k → n ≤ m + 3 → n ≤ 3 * (k + 1)
 three_more k m n le few = omega (arith, le, few)
 
-few_on : (k : ℕ) (v0 v1 v : Want) (sram : List ℕ) (notes : Notes) → HasFew k notes → HasFew (k + 1) (noted v0 v1 v sram notes)
+pub few_on : (k : ℕ) (v0 v1 v : Want) (sram : List ℕ) (notes : Notes) → HasFew k notes → HasFew (k + 1) (noted v0 v1 v sram notes)
 few_on k v0 v1 v sram notes h =
     let o0 = with_word-length (original_word sram (write_of v0)) notes.originals in
     let o1 = with_word-length (original_word sram (write_of v1)) (with_word (original_word sram (write_of v0)) notes.originals) in
@@ -647,6 +648,30 @@ passes_later w s k now start notes marks goes now' notes' marks' p calm lt e_goe
       stands = g.stands;
       follows = subst (λ (x : Notes). Follows s (k + 1) now' start x) (sym (e ∙ noted_all b now.sram notes)) f;
     }
+
+-- as far as each cycle goes as the lanes go alone
+passes_on : (w : Setting) (s : State) (k : ℕ) (now : State) (notes : Notes) (marks : List Mark) → Passes w s k now (start_of s) notes marks → is_launching s.core1 ≡ false → k < longest w s
+    → goes_on (start_of s) notes now ≡ true → now ≡ states w s k → notes ≡ noted_in w s k
+    → Passes w s (suc k) (states w s (suc k)) (start_of s) (noted_in w s (suc k)) (marks_in w s (suc k))
+unfolding noted_in
+passes_on w s k now notes marks p calm lt goes e_now e_notes =
+    let b = begun_from (start_of s) notes now in
+    let q = passes_later w s k now (start_of s) notes marks true (next_by w b (wanted b) now) (noted_by (wanted b) now.sram notes) (marks ++ outer.marked w now.outer b.outer ∷ []) p calm lt (sym goes) refl refl refl refl in
+    let one : k + 1 ≡ suc k = omega arith in
+    let noted : noted_by (wanted b) now.sram notes ≡ noted_in w s (suc k) =
+    ap (λ (x : State). noted_by (wanted (begun_from (start_of s) notes x)) x.sram notes) e_now
+    ∙ ap (λ (n : Notes). noted_by (wanted (begun_from (start_of s) n (states w s k))) (states w s k).sram n) e_notes in
+    subst (λ (j : ℕ). Passes w s j (states w s j) (start_of s) (noted_in w s (suc k)) (marks_in w s j)) one
+    (subst (λ (n : Notes). Passes w s (k + 1) (states w s (k + 1)) (start_of s) n (marks_in w s (k + 1))) noted
+    (subst (λ (ms : List Mark). Passes w s (k + 1) (states w s (k + 1)) (start_of s) (noted_by (wanted b) now.sram notes) ms) q.stands.is_marks
+    (subst (λ (x : State). Passes w s (k + 1) x (start_of s) (noted_by (wanted b) now.sram notes) (marks ++ outer.marked w now.outer b.outer ∷ [])) q.stands.is_states q)))
+
+pub passes_through : (w : Setting) (s : State) (n k : ℕ) → First s [] → is_launching s.core1 ≡ false → n ≤ longest w s → GoesAsAlone w s n → k ≤ n
+    → Passes w s k (states w s k) (start_of s) (noted_in w s k) (marks_in w s k)
+unfolding states noted_in marks_in
+passes_through w s n zero h calm fits goes le = record { rests = whole_talks w s; stands = stands_here w s [] h; follows = follows_first s (start_of s) refl h.long }
+passes_through w s n (suc k) h calm fits goes le =
+    passes_on w s k (states w s k) (noted_in w s k) (marks_in w s k) (passes_through w s n k h calm fits goes (omega arith)) calm (omega arith) (goes k (omega arith)) refl refl
 
 pub closed_later : (w : Setting) (s : State) (k : ℕ) (now : State) (start : Start) (notes : Notes) (marks : List Mark) (goes : Bool)
     → Passes w s k now start notes marks → is_launching s.core1 ≡ false → k < longest w s

@@ -1,6 +1,7 @@
 pub mod Accept
 pub mod Around
 pub mod Going
+pub mod Inward
 pub mod Jobs
 pub mod Judged
 pub mod Kinds

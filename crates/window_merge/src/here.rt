@@ -7,9 +7,11 @@ ghost use Rattle.rp_machine.specs.Cycle.{begun};
 ghost use Rattle.rp_machine.specs.Run.{states};
 ghost use Rattle.window_merge.specs.Lanes.{is_launching};
 ghost use Rattle.window_merge.specs.Start.{goes_first};
+ghost use Rattle.window_merge.specs.Inward.{noted_in, GoesAsAlone};
 ghost use Rattle.window_merge.specs.Window.{longest, window_length};
 ghost use Rattle.window_merge.specs.Merging.{marks_in};
 
+use crate::inward::go_inward;
 use crate::merge::{fact_copies_are_known, longest};
 use crate::notes::Notes;
 use crate::pass::{goes_by, is_launching, step_noted, try_later};
@@ -19,6 +21,46 @@ use outer_lane::World;
 use rp_machine::begun::Begun;
 use rp_machine::{Machine, Steps};
 use std::sync::ledger::Ledger;
+
+/// Begins a window of at most so many cycles, the first of which goes: it goes over them as long as core 0 alone is at work in SRAM beside
+/// lanes that are quiet, and else does one. Gives how many it has gone over. `lanes` has what the lanes begin in the first one.
+#[inline(never)]
+fn begin<X: Device, L: Ledger>(
+    machine: &mut Machine,
+    world: &World<'_, X>,
+    notes: &mut Notes,
+    lanes: &Begun,
+    most: u16,
+    marks: &mut Marks,
+    steps: &mut Steps<L>,
+) -> u16
+    requires some { 0 < most }
+    requires most { most ≡ longest (setting X.meaning world.now) machine.old }
+    requires limit { machine.old.cycle ≤ world.now.limit }
+    requires number { machine.old.cycle + most < 2 ^ 64 }
+    requires marks { marks.old ≡ [] }
+    requires free { has_hold machine.old.fabric ≡ false }
+    requires launching { is_launching machine.old.core1 ≡ false }
+    requires begun { lanes.now ≡ begun machine.old }
+    requires goes { goes_first machine.old ≡ true }
+    ensures some { 0 < result }
+    ensures most { result ≤ most }
+    ensures state { machine.new ≡ states (setting X.meaning world.now) machine.old result }
+    ensures goes { GoesAsAlone (setting X.meaning world.now) machine.old result }
+    ensures notes { notes.new ≡ noted_in (setting X.meaning world.now) machine.old result }
+    ensures marks { marks.new ≡ marks_in (setting X.meaning world.now) machine.old result }
+    ensures steps { steps.new ≡ steps.old + result }
+{
+    fact_copies_are_known(machine);
+    notes.clear();
+    let done = go_inward(machine, world, notes, most, marks, steps);
+    if done > 0 {
+        return done;
+    }
+    step_noted(machine, world, notes, lanes, marks);
+    steps.tick();
+    1
+}
 
 /// Moves the machine by a window of at most so many cycles, the first of which goes. Gives how many it has. `lanes` has what the
 /// lanes begin in the next cycle, before and after.
@@ -33,6 +75,7 @@ fn go<X: Device, L: Ledger>(
     steps: &mut Steps<L>,
 ) -> u16
     requires number { machine.old.cycle + most < 2 ^ 64 }
+    requires limit { machine.old.cycle ≤ world.now.limit }
     requires some { 0 < most }
     requires most { most ≡ longest (setting X.meaning world.now) machine.old }
     requires marks { marks.old ≡ [] }
@@ -49,10 +92,8 @@ fn go<X: Device, L: Ledger>(
 {
     fact_copies_are_known(machine);
     let start = Start::of(machine);
-    notes.clear();
-    step_noted(machine, world, notes, lanes, marks);
-    steps.tick();
-    for k in 1..most {
+    let done = begin(machine, world, notes, lanes, most, marks, steps);
+    for k in done..most {
         if !try_later(machine, world, &start, notes, lanes, marks) {
             return k;
         }

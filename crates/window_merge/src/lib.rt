@@ -7,6 +7,7 @@ mod compare;
 pub mod copies;
 pub mod crew;
 pub mod here;
+mod inward;
 pub mod jobs;
 pub mod lane_job;
 pub mod lane_run;

@@ -151,7 +151,7 @@ impl Notes {
     ghost use Rattle.std.specs.Prelude.{◌≡◌, IfOk};
     ghost use Rattle.rp_machine.specs.Stores.{StoresInSram};
     ghost use Rattle.lane_look.specs.declared.lane.Want.TheVariants as want;
-    ghost use Rattle.window_merge.specs.Notes.{last_of, own_of, is_clean, seen_of, own_word, no_notes, noted, noted_by, HasRoom};
+    ghost use Rattle.window_merge.specs.Notes.{last_of, own_of, is_clean, seen_of, write_of, original_word, own_word, with_word, no_notes, noted, noted_by, HasRoom};
 
     /// None, and room for those of 256 cycles.
     pub(crate) fn new(alloc: Global) -> Result<Notes, AllocError>
@@ -228,6 +228,33 @@ impl Notes {
             }
             _ => None,
         }
+    }
+
+    /// The word of SRAM that a want of core 0 writes, if it writes one, as it is and as core 0 leaves it.
+    #[inline(always)]
+    pub(crate) fn words_of_core0(
+        &self,
+        ram: &Ram,
+        want: &Want,
+    ) -> (Option<(u32, u32)>, Option<(u32, u32)>)
+        ensures original { result.0 ≡ original_word ram.now (write_of want.now) }
+        ensures own { result.1 ≡ own_word (seen_of 0 self.now ram.now) (write_of want.now) }
+    {
+        let write = write_of(want);
+        (original_word(ram, &write), self.own_word(ram, 0, &write))
+    }
+
+    /// Notes such words.
+    #[inline(always)]
+    pub(crate) fn add_core0(&mut self, original: Option<(u32, u32)>, own: Option<(u32, u32)>)
+        requires { HasRoom self.old 3 }
+        ensures { self.new ≡ record self.old {
+          originals = with_word original self.old.originals;
+          core0 = with_word own self.old.core0;
+        } }
+    {
+        self.originals.add(original);
+        self.core0.add(own);
     }
 
     /// Notes what the masters write in a cycle, before they do. A read of the DMA engine writes nothing.

@@ -2,7 +2,7 @@ use Rattle.std.proofs.Common.{refl, sym, arith}
 use Rattle.outer_lane.specs.Setting.{setting}
 use Rattle.rp_machine.specs.contracts.machine.Machine.{the_view}
 use Rattle.quiet_run.proofs.Passing.{no_states, quiet_none}
-use Rattle.quiet_run.proofs.GoneOn.{has_begun, goes_onward, goes_unstopped, number_fits, blocks_pass, still_quiet, brought_up, agrees}
+use Rattle.quiet_run.proofs.GoneOn.{has_begun, goes_onward, goes_unstopped, number_fits, may_bring_up, brought_up}
 use Rattle.quiet_run.proofs.onward.pass_onward.Goals as goal
 
 pub returns-then-to-at-clause-state : goal.returns-then-to-at-clause-state
@@ -17,44 +17,8 @@ returns-then-blocks-eq0-clause-state g c = sym (no_states (setting g.X.Device.me
 pub returns-then-blocks-eq0-clause-quiet : goal.returns-then-blocks-eq0-clause-quiet
 returns-then-blocks-eq0-clause-quiet g c = quiet_none (setting g.X.Device.meaning c.args.world.now) c.args.machine.now
 
-pub pass_blocks-requires-clause-dma : goal.pass_blocks-requires-clause-dma
-pass_blocks-requires-clause-dma g c =
-    let w = setting g.X.Device.meaning c.args.world.now in
-    let min = c.min-most.ensures in
-    let lanes = c.min-lanes.ensures in
-    let at = c.number-at.ensures in
-    let ahead = c.if-to-at.false in
-    let begun = has_begun w (the_view c.machine.inside) c.args.machine.now c.begin_outer-seen.result c.is_asleep.result c.offers.result c.quiet_blocks-blocks.result c.quiet-outer.result c.min-most.result c.number-at.result c.args.to
-    c.machine.view_is c.machine.invariant c.is_asleep.ensures c.if-not-is_asleep.false c.offers.ensures c.if-offers.false c.quiet_blocks-blocks.ensures c.begin_outer-seen.ensures c.quiet-outer.ensures
-    (omega arith) (omega arith) c.number-at.ensures (omega arith) c.requires in
-    (blocks_pass w c.args.machine.now c.go_onward-done.new.machine c.begin_outer-seen.result c.min-most.result c.go_onward-done.result begun c.go_onward-done.ensures.most c.go_onward-done.ensures.state).dma
-
-pub pass_blocks-requires-clause-pio0 : goal.pass_blocks-requires-clause-pio0
-pass_blocks-requires-clause-pio0 g c =
-    let w = setting g.X.Device.meaning c.args.world.now in
-    let min = c.min-most.ensures in
-    let lanes = c.min-lanes.ensures in
-    let at = c.number-at.ensures in
-    let ahead = c.if-to-at.false in
-    let begun = has_begun w (the_view c.machine.inside) c.args.machine.now c.begin_outer-seen.result c.is_asleep.result c.offers.result c.quiet_blocks-blocks.result c.quiet-outer.result c.min-most.result c.number-at.result c.args.to
-    c.machine.view_is c.machine.invariant c.is_asleep.ensures c.if-not-is_asleep.false c.offers.ensures c.if-offers.false c.quiet_blocks-blocks.ensures c.begin_outer-seen.ensures c.quiet-outer.ensures
-    (omega arith) (omega arith) c.number-at.ensures (omega arith) c.requires in
-    (blocks_pass w c.args.machine.now c.go_onward-done.new.machine c.begin_outer-seen.result c.min-most.result c.go_onward-done.result begun c.go_onward-done.ensures.most c.go_onward-done.ensures.state).pio0
-
-pub pass_blocks-requires-clause-pio1 : goal.pass_blocks-requires-clause-pio1
-pass_blocks-requires-clause-pio1 g c =
-    let w = setting g.X.Device.meaning c.args.world.now in
-    let min = c.min-most.ensures in
-    let lanes = c.min-lanes.ensures in
-    let at = c.number-at.ensures in
-    let ahead = c.if-to-at.false in
-    let begun = has_begun w (the_view c.machine.inside) c.args.machine.now c.begin_outer-seen.result c.is_asleep.result c.offers.result c.quiet_blocks-blocks.result c.quiet-outer.result c.min-most.result c.number-at.result c.args.to
-    c.machine.view_is c.machine.invariant c.is_asleep.ensures c.if-not-is_asleep.false c.offers.ensures c.if-offers.false c.quiet_blocks-blocks.ensures c.begin_outer-seen.ensures c.quiet-outer.ensures
-    (omega arith) (omega arith) c.number-at.ensures (omega arith) c.requires in
-    (blocks_pass w c.args.machine.now c.go_onward-done.new.machine c.begin_outer-seen.result c.min-most.result c.go_onward-done.result begun c.go_onward-done.ensures.most c.go_onward-done.ensures.state).pio1
-
-pub pass-requires-clause-number : goal.pass-requires-clause-number
-pass-requires-clause-number g c κs within =
+pub bring_up-requires-clause-number : goal.bring_up-requires-clause-number
+bring_up-requires-clause-number g c κs within =
     let w = setting g.X.Device.meaning c.args.world.now in
     let min = c.min-most.ensures in
     let lanes = c.min-lanes.ensures in
@@ -65,8 +29,8 @@ pass-requires-clause-number g c κs within =
     (omega arith) (omega arith) c.number-at.ensures (omega arith) c.requires in
     number_fits w c.args.machine.now c.begin_outer-seen.result c.min-most.result c.go_onward-done.result c.args.to _ begun c.go_onward-done.ensures.most (omega arith) c.ranges.to.fits
 
-pub pass-requires-clause-quiet : goal.pass-requires-clause-quiet
-pass-requires-clause-quiet g c κs within =
+pub bring_up-requires-clause-quiet : goal.bring_up-requires-clause-quiet
+bring_up-requires-clause-quiet g c κs within =
     let w = setting g.X.Device.meaning c.args.world.now in
     let min = c.min-most.ensures in
     let lanes = c.min-lanes.ensures in
@@ -75,20 +39,7 @@ pass-requires-clause-quiet g c κs within =
     let begun = has_begun w (the_view c.machine.inside) c.args.machine.now c.begin_outer-seen.result c.is_asleep.result c.offers.result c.quiet_blocks-blocks.result c.quiet-outer.result c.min-most.result c.number-at.result c.args.to
     c.machine.view_is c.machine.invariant c.is_asleep.ensures c.if-not-is_asleep.false c.offers.ensures c.if-offers.false c.quiet_blocks-blocks.ensures c.begin_outer-seen.ensures c.quiet-outer.ensures
     (omega arith) (omega arith) c.number-at.ensures (omega arith) c.requires in
-    still_quiet w c.args.machine.now c.go_onward-done.new.machine c.pass_blocks.new.self (the_view c.machine-2.inside) c.begin_outer-seen.result c.min-most.result c.go_onward-done.result begun c.go_onward-done.ensures.most c.go_onward-done.ensures.state c.pass_blocks.ensures c.machine-2.view_is
-
-pub invariant_of-machine : goal.invariant_of-machine
-invariant_of-machine g c =
-    let w = setting g.X.Device.meaning c.args.world.now in
-    let min = c.min-most.ensures in
-    let lanes = c.min-lanes.ensures in
-    let at = c.number-at.ensures in
-    let ahead = c.if-to-at.false in
-    let begun = has_begun w (the_view c.machine.inside) c.args.machine.now c.begin_outer-seen.result c.is_asleep.result c.offers.result c.quiet_blocks-blocks.result c.quiet-outer.result c.min-most.result c.number-at.result c.args.to
-    c.machine.view_is c.machine.invariant c.is_asleep.ensures c.if-not-is_asleep.false c.offers.ensures c.if-offers.false c.quiet_blocks-blocks.ensures c.begin_outer-seen.ensures c.quiet-outer.ensures
-    (omega arith) (omega arith) c.number-at.ensures (omega arith) c.requires in
-    let quiet = still_quiet w c.args.machine.now c.go_onward-done.new.machine c.pass_blocks.new.self (the_view c.machine-2.inside) c.begin_outer-seen.result c.min-most.result c.go_onward-done.result begun c.go_onward-done.ensures.most c.go_onward-done.ensures.state c.pass_blocks.ensures c.machine-2.view_is in
-    agrees w (the_view c.machine-2.inside) c.pass.new.self c.begin_outer-seen.result c.go_onward-done.result quiet c.pass.ensures c.machine-2.invariant
+    may_bring_up w c.args.machine.now c.go_onward-done.new.machine c.begin_outer-seen.result c.min-most.result c.go_onward-done.result begun c.go_onward-done.ensures.most c.go_onward-done.ensures.state
 
 pub returns-clause-state : goal.returns-clause-state
 returns-clause-state g c =
@@ -100,7 +51,7 @@ returns-clause-state g c =
     let begun = has_begun w (the_view c.machine.inside) c.args.machine.now c.begin_outer-seen.result c.is_asleep.result c.offers.result c.quiet_blocks-blocks.result c.quiet-outer.result c.min-most.result c.number-at.result c.args.to
     c.machine.view_is c.machine.invariant c.is_asleep.ensures c.if-not-is_asleep.false c.offers.ensures c.if-offers.false c.quiet_blocks-blocks.ensures c.begin_outer-seen.ensures c.quiet-outer.ensures
     (omega arith) (omega arith) c.number-at.ensures (omega arith) c.requires in
-    brought_up w c.args.machine.now c.go_onward-done.new.machine c.pass_blocks.new.self (the_view c.machine-2.inside) c.pass.new.self c.begin_outer-seen.result c.min-most.result c.go_onward-done.result begun c.go_onward-done.ensures.most c.go_onward-done.ensures.inward c.go_onward-done.ensures.state c.pass_blocks.ensures c.machine-2.view_is c.pass.ensures
+    brought_up w c.args.machine.now c.go_onward-done.new.machine c.bring_up.new.machine c.begin_outer-seen.result c.min-most.result c.go_onward-done.result begun c.go_onward-done.ensures.most c.go_onward-done.ensures.inward c.go_onward-done.ensures.state c.bring_up.ensures
 
 pub returns-clause-quiet : goal.returns-clause-quiet
 returns-clause-quiet g c =

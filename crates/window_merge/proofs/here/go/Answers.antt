@@ -6,23 +6,20 @@ use Rattle.rp_machine.specs.Cycle.{wanted, next_by}
 use Rattle.window_merge.specs.declared.notes.Notes.{Notes}
 use Rattle.window_merge.specs.Notes.{noted_by}
 use Rattle.window_merge.proofs.Windows.{at_most}
-use Rattle.window_merge.proofs.Passing.{First, closed_later, closed_full, passes_first, passes_later, has_room}
+use Rattle.window_merge.proofs.Passing.{First, closed_later, closed_full, passes_through, passes_later, has_room}
 use Rattle.window_merge.proofs.here.go.Goals as goal
 
 pub loop-k-init : goal.loop-k-init
 loop-k-init g c =
     let w = setting_of c.args.world.now.script.now (g.X.Device.meaning c.args.world.now.device.now) c.args.world.now.limit in
     let s = c.args.machine.now in
-    let first : First s c.args.marks.now = record { free = c.requires.free; knows = record { pins = c.fact_copies_are_known.ensures.pins; offer = c.fact_copies_are_known.ensures.offer }; none = c.requires.marks; long = c.fact_copies_are_known.ensures.sram } in
-    let some = c.requires.some in
+    let first : First s [] = record { free = c.requires.free; knows = record { pins = c.fact_copies_are_known.ensures.pins; offer = c.fact_copies_are_known.ensures.offer }; none = refl; long = c.fact_copies_are_known.ensures.sram } in
+    let few = c.begin-done.ensures.most in
     let most = c.requires.most in
+    let p = passes_through w s c.begin-done.result c.begin-done.result first c.requires.launching (omega (arith, few, most)) c.begin-done.ensures.goes (omega arith) in
     record {
-      passes = passes_first w s c.of-start.result c.args.marks.now true c.step_noted.new.machine c.step_noted.new.notes c.step_noted.new.marks first c.requires.launching (omega (arith, some, most))
-          (sym c.requires.goes) refl c.of-start.ensures
-          (c.step_noted.ensures.state ∙ ap (λ (b : Begun). next_by w b (wanted b) s) c.requires.begun)
-          (c.step_noted.ensures.marks ∙ ap (λ (b : Begun). c.args.marks.now ++ marked w s.outer b.outer ∷ []) c.requires.begun)
-          (c.step_noted.ensures.notes ∙ ap (λ (n : Notes). noted_by (wanted c.args.lanes.now) s.sram n) c.clear.ensures ∙ ap (λ (b : Begun). noted_by (wanted b) s.sram _) c.requires.begun);
-      counted = c.tick.ensures;
+      passes = rw (c.begin-done.ensures.state, c.of-start.ensures, c.begin-done.ensures.notes, c.begin-done.ensures.marks) p;
+      counted = c.begin-done.ensures.steps;
     }
 
 pub try_later-requires-clause-room : goal.try_later-requires-clause-room
@@ -65,7 +62,7 @@ loop-k-preserved g c =
     record {
       passes = passes_later w c.args.machine.now c.loop-k.k c.loop-k.machine c.of-start.result c.loop-k.notes c.loop-k.marks c.try_later.result c.try_later.new.machine c.try_later.new.notes c.try_later.new.marks c.loop-k.invariant.passes
           c.requires.launching (omega (arith, below, most)) c.try_later.ensures.goes c.if-not-try_later.false c.try_later.ensures.state c.try_later.ensures.marks c.try_later.ensures.notes;
-      counted = let before = c.loop-k.invariant.counted in let tick = c.tick-in-loop-k.ensures in omega (arith, before, tick);
+      counted = let before = c.loop-k.invariant.counted in let tick = c.tick.ensures in omega (arith, before, tick);
     }
 
 pub returns-clause-length : goal.returns-clause-length

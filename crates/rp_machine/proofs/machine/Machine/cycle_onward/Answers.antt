@@ -1,23 +1,15 @@
-use Rattle.std.proofs.Common.{◌≡◌, true, ap, subst, ◌∙◌}
+use Rattle.std.proofs.Common.{◌≡◌, true, refl, ap, subst, ◌∙◌}
 use Rattle.rp_machine.specs.Inward.{goes_inward, inward_cycle}
 use Rattle.rp_machine.specs.State.{State}
-use Rattle.rp_machine.proofs.Inward.{rests_by, reaches_by, nothing_inward, inward_by}
+use Rattle.rp_machine.proofs.Inward.{wants_nothing_inward}
 use Rattle.rp_machine.proofs.machine.Machine.cycle_onward.Goals as goal
 
-pub returns-then-is_bus_free-clause-inward : goal.returns-then-is_bus_free-clause-inward
-returns-then-is_bus_free-clause-inward c =
-    let free = c.is_bus_free.ensures.0 c.if-is_bus_free.true in
-    λ done. subst (λ (s : State). goes_inward s ≡ true) c.if-short_onward.ensures.state (nothing_inward _ _ c.begin_core0.ensures free.0)
-
-pub returns-then-is_bus_free-clause-done : goal.returns-then-is_bus_free-clause-done
-returns-then-is_bus_free-clause-done c =
-    let free = c.is_bus_free.ensures.0 c.if-is_bus_free.true in
-    λ done. c.wantless_onward.ensures.state ∙ rests_by _ _ c.begin_core0.ensures free.0 free.1 ∙ ap inward_cycle c.if-short_onward.ensures.state
+pub returns-then-short_onward-clause-inward : goal.returns-then-short_onward-clause-inward
+returns-then-short_onward-clause-inward c = λ done. wants_nothing_inward c.args.self.now (c.if-short_onward.ensures.nothing refl)
 
 pub returns-clause-inward : goal.returns-clause-inward
 returns-clause-inward c =
-    λ done. subst (λ (s : State). goes_inward s ≡ true) c.if-short_onward.ensures.state (inward_by _ _ c.begin_core0.ensures (c.reach_onward.ensures.inward done))
+    λ done. subst (λ (s : State). goes_inward s ≡ true) c.if-short_onward.ensures.state (c.begun_onward.ensures.inward done)
 
 pub returns-clause-done : goal.returns-clause-done
-returns-clause-done c =
-    λ done. reaches_by _ _ _ c.begin_core0.ensures (c.reach_onward.ensures.done done) ∙ ap inward_cycle c.if-short_onward.ensures.state
+returns-clause-done c = λ done. c.begun_onward.ensures.done done ∙ ap inward_cycle c.if-short_onward.ensures.state

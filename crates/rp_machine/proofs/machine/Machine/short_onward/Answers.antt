@@ -1,20 +1,21 @@
 use Rattle.std.proofs.Common.{◌≡◌, ◌+◌, true, refl, sym, ap, subst, ◌∙◌}
 use Rattle.lane_look.specs.declared.lane.Ask.TheVariants.{Half}
+use Rattle.lane_look.specs.declared.lane.Want.TheVariants.{Nothing}
 use Rattle.m0_core.specs.State.{State as Core}
 use Rattle.rp_machine.specs.Answers.{answer_of, lines_of}
 use Rattle.rp_machine.specs.Cycle.{ended}
-use Rattle.rp_machine.specs.Inward.{goes_inward, inward_cycle}
+use Rattle.rp_machine.specs.Inward.{core0_want, inward_cycle}
 use Rattle.rp_machine.specs.State.{State}
 use Rattle.rp_machine.specs.contracts.machine.Machine.{the_view}
 use Rattle.rp_machine.proofs.Inward.{short_by}
 use Rattle.rp_machine.proofs.machine.Machine.short_onward.Goals as goal
 
-pub returns-clause-inward : goal.returns-clause-inward
-returns-clause-inward c =
+pub returns-clause-nothing : goal.returns-clause-nothing
+returns-clause-nothing c =
     let s = the_view c.self.inside in
     let short = short_by s _ _ _ _ c.ranges.lines.fits (c.requires.lines ∙ ap (lines_of 0) (sym c.self.view_is)) (sym c.begins.ensures ∙ c.in-Some.is) (c.answer-answer.ensures ∙ ap (λ (t : State). answer_of 0 t (Half c.in-Some.address)) (sym c.self.view_is))
     (c.if-not-pass_short.ensures.begun refl) (c.if-not-pass_short.ensures.silent refl) (sym c.holds.ensures.hold ∙ c.if-holds.false) in
-    λ done. subst (λ s. goes_inward s ≡ true) c.self.view_is short.0
+    λ done. subst (λ s. core0_want s ≡ Nothing) c.self.view_is short.0
 
 pub returns-clause-state : goal.returns-clause-state
 returns-clause-state c =

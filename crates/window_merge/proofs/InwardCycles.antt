@@ -1,0 +1,511 @@
+-- The first cycles of a window, as long as core 0 alone is at work in SRAM beside lanes that are quiet: the start answers each lane as
+-- the machine does.
+use Rattle.std.proofs.Common.{◌≡◌, ℕ, zero, suc, ◌+◌, ◌<◌, ◌≤◌, ◌==◌, ◌||◌, nat_eq, not, inl, inr, add-one, Bool, true, false, if◌then◌else◌, List, [], ◌∷◌, ◌++◌, length, length-append, Option, Some, None, refl, sym, ap, subst, ◌∙◌, arith}
+use Rattle.std.specs.Prelude.{slice_index}
+use Rattle.std.specs.List.{list_any}
+use Rattle.std.proofs.lemmas.Bool.Decides.{eqb_tells}
+use Rattle.rp_base.specs.declared.Request.{Request}
+use Rattle.rp_base.specs.declared.Master.TheVariants.{DmaRead}
+use Rattle.rp_base.specs.declared.map.Spot.{Spot}
+use Rattle.rp_base.specs.declared.map.Spot.TheVariants as spot
+use Rattle.rp_base.specs.Map.{place_of}
+use Rattle.lane_look.specs.Asking.{Asking, answered}
+use Rattle.lane_look.specs.Asking.Asking.{Ready, Question}
+use Rattle.lane_look.specs.declared.lane.Ask.{Ask}
+use Rattle.lane_look.specs.declared.lane.Ask.TheVariants as ask
+use Rattle.lane_look.specs.declared.lane.Want.{Want}
+use Rattle.lane_look.specs.declared.lane.Want.TheVariants as want
+use Rattle.lane_look.specs.declared.marks.Mark.{Mark}
+use Rattle.lane_look.specs.Replay.{asked}
+use Rattle.lane_look.specs.Alone.{differs, ends_want}
+use Rattle.m0_core.specs.State.{State as Core}
+use Rattle.m0_core.specs.declared.doing.Doing.{Doing}
+use Rattle.m0_core.specs.Fetch as core_asks
+use Rattle.m0_core.specs.Cycle as core
+use Rattle.dma_engine.specs.State.{State as Engine}
+use Rattle.dma_engine.specs.declared.begun.Access.{Access}
+use Rattle.dma_engine.specs.declared.begun.BegunTransfer.{BegunTransfer}
+use Rattle.dma_engine.specs.Asks as dma_asks
+use Rattle.dma_engine.specs.declared.begun.Access.TheVariants as access
+use Rattle.dma_engine.specs.Asks.{may_be_device, outside, asks_at, asks_for, asks_read, next_request, write_begun, waits_for_counts}
+use Rattle.dma_engine.specs.Cycle as dma
+use Rattle.pio_block.specs.State.{State as Pio, is_busy}
+use Rattle.pio_block.specs.Cycle as pio
+use Rattle.io_bank.specs.State.{State as Bank}
+use Rattle.io_bank.specs.Levels.{is_used, inputs_of as inputs_of_pads}
+use Rattle.outer_lane.specs.Setting.{Setting}
+use Rattle.outer_lane.specs.State.{State as OuterState}
+use Rattle.outer_lane.specs.Lines.{outer_lines}
+use Rattle.outer_lane.specs.declared.world.SeenOutputs.{SeenOutputs}
+use Rattle.outer_lane.specs.Step as outer
+use Rattle.outer_lane.specs.Quiet.{IsQuiet, seen_in, outer_after}
+use Rattle.rp_machine.specs.declared.begun.Begun.{Begun}
+use Rattle.rp_machine.specs.declared.wanted.Wanted.{Wanted}
+use Rattle.rp_machine.specs.State.{State}
+use Rattle.rp_machine.specs.Answers.{answer_of, lines_of, block_lines, packed_pair, pacing_of, inputs_of, outs_of}
+use Rattle.rp_machine.specs.Deeds.{asked_of}
+use Rattle.rp_machine.specs.Cycle.{begun, wanted, pins_of, with_sio, ended, mark, next_by}
+use Rattle.rp_machine.specs.Run.{states}
+use Rattle.rp_machine.specs.Alone.{Blocks, AreBlocksQuiet, IsCore0Alone, beside, blocks_after}
+use Rattle.rp_machine.specs.Inward.{TellsSame, GoesAlone, StaysInward, core0_want, inward_next, inward_after, onward_after}
+use Rattle.rp_machine.proofs.Going.{fewer_cycles}
+use Rattle.rp_machine.proofs.OneCore.{first_want, second_want, wanted_alone}
+use Rattle.rp_machine.proofs.Quietly.{seen_later, seen_number}
+use Rattle.rp_machine.proofs.Inward.{begun_same, stays_after, TellOn, lines_on, pacing_on, outs_on, tell_on, stayed, told_both, alone_by, beside_after, core0_goes_on_alone, lines_stay}
+use Rattle.quiet_run.proofs.GoneOn.{HasBegun}
+use Rattle.quiet_run.proofs.Passing.{fewer}
+use Rattle.window_merge.specs.declared.notes.Notes.{Notes}
+use Rattle.window_merge.specs.declared.start.Start.{Start}
+use Rattle.window_merge.specs.Notes.{no_notes, noted_by, seen_of, HasRoom}
+use Rattle.window_merge.specs.Start.{start_of, guess, begun_from, differs_from, ends_wanted, goes_by, goes_first, goes_on}
+use Rattle.window_merge.specs.Window.{is_port_of, clash, longest}
+use Rattle.window_merge.specs.Merging.{wants_of, marks_in}
+use Rattle.window_merge.specs.Inward.{noted_in, noted_core0, noted_inward, same_marks, GoesAsAlone, KeepsInward}
+use Rattle.window_merge.proofs.Agree.{itself}
+use Rattle.window_merge.specs.Lanes.{is_launching}
+use Rattle.window_merge.proofs.Passing.{HasFew, few_on, First, passes_first}
+use Rattle.window_merge.proofs.Starting.{HasLines, lines0, lines1, lines2, lines3, lines4, lines5, guess_is}
+
+-- ---- what is asked is answered alike
+
+abbrev pub AsksAlike : {B : Type 0} → (Ask → ℕ) → (Ask → ℕ) → Asking B → Type 0
+AsksAlike f g (Ready begun) = Unit {0}
+AsksAlike f g (Question question next) = (f question ≡ g question) × ((x : ℕ) → AsksAlike f g (next x))
+
+begins_alike : {B : Type 0} (f g : Ask → ℕ) (tree : Asking B) → AsksAlike f g tree → answered f tree ≡ answered g tree
+begins_alike f g (Ready begun) h = refl
+begins_alike {B} f g (Question question next) h =
+    ap (λ (x : ℕ). answered f (next x)) h.0 ∙ begins_alike f g (next (g question)) (h.1 (g question))
+
+never_differs : {B : Type 0} (f g : Ask → ℕ) (tree : Asking B) → AsksAlike f g tree → differs g (asked f tree) ≡ false
+never_differs f g (Ready begun) h = refl
+never_differs {B} f g (Question question next) h =
+    ap (λ (x : ℕ). not (nat_eq (g question) x) || differs g (asked f (next x))) h.0
+    ∙ ap (λ (b : Bool). not b || differs g (asked f (next (g question)))) (itself (g question))
+    ∙ never_differs f g (next (g question)) (h.1 (g question))
+
+all_asked : {B : Type 0} (f g : Ask → ℕ) (tree : Asking B) → ((question : Ask) → f question ≡ g question) → AsksAlike f g tree
+all_asked f g (Ready begun) h = tt
+all_asked {B} f g (Question question next) h = (h question, λ x. all_asked f g (next x) h)
+
+either_way : {B : Type 0} (f g : Ask → ℕ) (c : Bool) (one other : Asking B) → AsksAlike f g one → AsksAlike f g other → AsksAlike f g (if c then one else other)
+either_way {B} f g true one other h k = h
+either_way {B} f g false one other h k = k
+
+first_way : {B : Type 0} (f g : Ask → ℕ) (c : Bool) (one other : Asking B) → c ≡ true → AsksAlike f g one → AsksAlike f g (if c then one else other)
+first_way {B} f g true one other e h = h
+first_way {B} f g false one other e h = absurd (cc e)
+
+-- ---- lanes that do not ask for SRAM
+
+asleep_asks : (f g : Ask → ℕ) (s : Core) (cycle : ℕ) → s.asleep ≡ true → AsksAlike f g (core_asks.asks s cycle)
+unfolding core_asks.asks
+asleep_asks f g s cycle e = first_way f g s.asleep _ _ e tt
+
+pio_asks : (f g : Ask → ℕ) (s : Pio) → f ask.Inputs ≡ g ask.Inputs → AsksAlike f g (pio.asks s)
+unfolding pio.asks
+pio_asks f g s e = either_way f g (is_busy s) _ _ (e, λ x. tt) tt
+
+second_asks : (f g : Ask → ℕ) (s : OuterState) (cycle : ℕ) (first : List ℕ) → f (ask.Outs 1) ≡ g (ask.Outs 1) → AsksAlike f g (outer.asks_second s cycle first)
+unfolding outer.asks_second
+second_asks f g s cycle first e = either_way f g (is_used 7 s.pads) _ _ (e, λ x. tt) tt
+
+outer_asks : (f g : Ask → ℕ) (s : OuterState) (cycle : ℕ) → f (ask.Outs 0) ≡ g (ask.Outs 0) → f (ask.Outs 1) ≡ g (ask.Outs 1) → AsksAlike f g (outer.asks s cycle)
+unfolding outer.asks
+outer_asks f g s cycle e0 e1 =
+    either_way f g (is_used 6 s.pads) _ _ (e0, λ x. second_asks f g s cycle (outer.pins_in x) e1) (second_asks f g s cycle outer.no_pins e1)
+
+-- an engine that wants no read asks for no word
+wants_a_read : (answer : Ask → ℕ) (counts : ℕ) (write : Access) (request : Request) (at : Spot) → dma.want_of (answered answer (asks_at counts write request at)).read ≡ want.Nothing → ⊥
+wants_a_read answer counts write request (spot.Ram index bank) e = absurd (cc e)
+wants_a_read answer counts write request (spot.Reg block offset alias) e = absurd (cc e)
+wants_a_read answer counts write request (spot.Sio offset) e = absurd (cc e)
+wants_a_read answer counts write request (spot.Ppb offset) e = absurd (cc e)
+wants_a_read answer counts write request spot.Outside e = by_device (may_be_device request.address) e
+  where
+    by_device : (c : Bool) → dma.want_of (if c then access.Outward request else outside DmaRead request) ≡ want.Nothing → ⊥
+    by_device true e = absurd (cc e)
+    by_device false e = absurd (cc e)
+
+no_request : (answer : Ask → ℕ) (counts : ℕ) (write : Access) (next : Option Request) → dma.want_of (answered answer (asks_for counts write next)).read ≡ want.Nothing → next ≡ None
+no_request answer counts write None e = refl
+no_request answer counts write (Some request) e = absurd (wants_a_read answer counts write request (place_of request.address) e)
+
+requests_by : (answer : Ask → ℕ) (c : Bool) (s : Engine) → dma.want_of (answered answer (if c then Question ask.Pacing (λ counts. asks_read counts s) else asks_read 0 s)).read ≡ want.Nothing → next_request s ≡ None
+unfolding asks_read
+requests_by answer true s e = no_request answer (answer ask.Pacing) (write_begun s) (next_request s) e
+requests_by answer false s e = no_request answer 0 (write_begun s) (next_request s) e
+
+requests_none : (answer : Ask → ℕ) (s : Engine) → dma.want_of (answered answer (dma_asks.asks s)).read ≡ want.Nothing → next_request s ≡ None
+unfolding dma_asks.asks
+requests_none answer s e = requests_by answer (list_any waits_for_counts s.channels) s e
+
+read_asks : (f g : Ask → ℕ) (counts : ℕ) (s : Engine) → next_request s ≡ None → AsksAlike f g (asks_read counts s)
+unfolding asks_read
+read_asks f g counts s e = subst (λ (next : Option Request). AsksAlike f g (asks_for counts (write_begun s) next)) (sym e) tt
+
+dma_asks_alike : (f g : Ask → ℕ) (s : Engine) → next_request s ≡ None → f ask.Pacing ≡ g ask.Pacing → AsksAlike f g (dma_asks.asks s)
+unfolding dma_asks.asks
+dma_asks_alike f g s none e = either_way f g (list_any waits_for_counts s.channels) _ _ (e, λ x. read_asks f g x s none) (read_asks f g 0 s none)
+
+-- ---- six lanes
+
+pub record AreAlike (start : Start) (notes : Notes) (s : State) : Type 0 where
+  pub core0 : AsksAlike (guess 0 start (seen_of 0 notes s.sram)) (answer_of 0 s) (core_asks.asks s.core0 s.cycle)
+  pub core1 : AsksAlike (guess 1 start (seen_of 1 notes s.sram)) (answer_of 1 s) (core_asks.asks s.core1 s.cycle)
+  pub dma : AsksAlike (guess 2 start (seen_of 2 notes s.sram)) (answer_of 2 s) (dma_asks.asks s.dma.block)
+  pub pio0 : AsksAlike (guess 3 start (seen_of 3 notes s.sram)) (answer_of 3 s) (pio.asks s.pio0.block)
+  pub pio1 : AsksAlike (guess 4 start (seen_of 4 notes s.sram)) (answer_of 4 s) (pio.asks s.pio1.block)
+  pub outer : AsksAlike (guess 5 start (seen_of 5 notes s.sram)) (answer_of 5 s) (outer.asks s.outer s.cycle)
+
+pub begun_alike : (start : Start) (notes : Notes) (s : State) → AreAlike start notes s → begun_from start notes s ≡ begun s
+unfolding begun
+begun_alike start notes s h =
+    rw (
+      begins_alike _ _ _ h.core0,
+      begins_alike _ _ _ h.core1,
+      begins_alike _ _ _ h.dma,
+      begins_alike _ _ _ h.pio0,
+      begins_alike _ _ _ h.pio1,
+      begins_alike _ _ _ h.outer,
+    ) refl
+
+differs_none : (start : Start) (notes : Notes) (s : State) → AreAlike start notes s → differs_from start notes s ≡ false
+differs_none start notes s h =
+    rw (
+      never_differs _ _ _ h.core0,
+      never_differs _ _ _ h.core1,
+      never_differs _ _ _ h.dma,
+      never_differs _ _ _ h.pio0,
+      never_differs _ _ _ h.pio1,
+      never_differs _ _ _ h.outer,
+    ) refl
+
+not_not : (c : Bool) → not (false || not c) ≡ c
+not_not true = refl
+not_not false = refl
+
+pub goes_alike : (start : Start) (notes : Notes) (s : State) → AreAlike start notes s → goes_on start notes s ≡ goes_by (begun s)
+goes_alike start notes s h =
+    ap (λ (d : Bool). not (d || not (goes_by (begun_from start notes s)))) (differs_none start notes s h)
+    ∙ not_not (goes_by (begun_from start notes s)) ∙ ap goes_by (begun_alike start notes s h)
+
+-- in the first cycle
+pub alike_first : (s : State) → AreAlike (start_of s) no_notes s
+alike_first s = record {
+  core0 = all_asked _ _ _ (λ q. guess_is 0 s (seen_of 0 no_notes s.sram) s.sram q (lines0 s) (λ i lt. refl));
+  core1 = all_asked _ _ _ (λ q. guess_is 1 s (seen_of 1 no_notes s.sram) s.sram q (lines1 s) (λ i lt. refl));
+  dma = all_asked _ _ _ (λ q. guess_is 2 s (seen_of 2 no_notes s.sram) s.sram q (lines2 s) (λ i lt. refl));
+  pio0 = all_asked _ _ _ (λ q. guess_is 3 s (seen_of 3 no_notes s.sram) s.sram q (lines3 s) (λ i lt. refl));
+  pio1 = all_asked _ _ _ (λ q. guess_is 4 s (seen_of 4 no_notes s.sram) s.sram q (lines4 s) (λ i lt. refl));
+  outer = all_asked _ _ _ (λ q. guess_is 5 s (seen_of 5 no_notes s.sram) s.sram q (lines5 s) (λ i lt. refl));
+}
+
+pub goes_first_on : (s : State) → goes_on (start_of s) no_notes s ≡ goes_first s
+goes_first_on s = goes_alike (start_of s) no_notes s (alike_first s)
+
+-- where core 0 alone writes, core 1 sleeps and the DMA engine reads nothing
+sees_own : (notes : Notes) (sram : List ℕ) (i : ℕ) → notes.core1 ≡ [] → notes.dma ≡ [] → seen_of 0 notes sram i ≡ slice_index sram i
+sees_own notes sram i e1 e2 = rw (e1, e2) refl
+
+alike_by : (notes : Notes) (s : State) → notes.core1 ≡ [] → notes.dma ≡ [] → s.core1.asleep ≡ true → next_request s.dma.block ≡ None → AreAlike (start_of s) notes s
+alike_by notes s e1 e2 asleep none =
+    let same : (lane : ℕ) (question : Ask) → HasLines lane s → guess lane (start_of s) (slice_index s.sram) question ≡ answer_of lane s question =
+    λ lane question lines. guess_is lane s (slice_index s.sram) s.sram question lines (λ i lt. refl) in
+    record {
+      core0 = all_asked _ _ _ (λ q. guess_is 0 s (seen_of 0 notes s.sram) s.sram q (lines0 s) (λ i lt. sees_own notes s.sram i e1 e2));
+      core1 = asleep_asks _ _ s.core1 s.cycle asleep;
+      dma = dma_asks_alike _ _ s.dma.block none (same 2 ask.Pacing (lines2 s));
+      pio0 = pio_asks _ _ s.pio0.block (same 3 ask.Inputs (lines3 s));
+      pio1 = pio_asks _ _ s.pio1.block (same 4 ask.Inputs (lines4 s));
+      outer = outer_asks _ _ s.outer s.cycle (same 5 (ask.Outs 0) (lines5 s)) (same 5 (ask.Outs 1) (lines5 s));
+    }
+
+-- ---- core 0 alone wants anything
+
+no_port : (o : Option (ℕ × Bool)) → is_port_of o None ≡ false
+no_port None = refl
+no_port (Some access) = refl
+
+pub clash_none : (v : Want) → clash (v ∷ want.Nothing ∷ want.Nothing ∷ want.Nothing ∷ want.Nothing ∷ want.Nothing ∷ want.Nothing ∷ want.Nothing ∷ want.Nothing ∷ want.Nothing ∷ want.Nothing ∷ want.Nothing ∷ []) ≡ false
+unfolding asked_of
+clash_none v = rw (no_port (asked_of v)) refl
+
+abbrev second_of : List Wanted → Want
+second_of (x ∷ y ∷ rest) = y.want
+second_of other = want.Nothing
+
+-- those of core 0, core 1 and the DMA engine
+abbrev pub wants_with : Want → Want → Want → Want → List Want
+wants_with v v1 read write =
+    v ∷ want.Nothing ∷ v1 ∷ want.Nothing ∷ read ∷ write ∷ want.Nothing ∷ want.Nothing ∷ want.Nothing ∷ want.Nothing ∷ want.Nothing ∷ want.Nothing ∷ []
+
+wants_alone : (s : State) (p : Blocks) → IsCore0Alone s p → clash (wants_of (begun s)) ≡ false
+unfolding wanted
+wants_alone s p h =
+    let v = core.want_of (begun s).core0 in
+    let read = dma.want_of (begun s).dma.read in
+    let write = dma.want_of (begun s).dma.write in
+    let core1 : core.want_of (begun s).core1 ≡ want.Nothing = ap second_of (wanted_alone s p h) in
+    ap (λ (x : Want). clash (wants_with v x read write)) core1
+    ∙ ap (λ (x : Want). clash (wants_with v want.Nothing x write)) (first_want _ _ h.wants)
+    ∙ ap (λ (x : Want). clash (wants_with v want.Nothing want.Nothing x)) (second_want _ _ h.wants)
+    ∙ clash_none v
+
+goes_by_alone : (s : State) (p : Blocks) → IsCore0Alone s p → ends_want (core.want_of (begun s).core0) ≡ false → goes_by (begun s) ≡ true
+goes_by_alone s p h keeps =
+    ap (λ (xs : List Wanted). not (ends_wanted xs || clash (wants_of (begun s)))) (wanted_alone s p h)
+    ∙ ap (λ (c : Bool). not (ends_wanted (beside (core.want_of (begun s).core0)) || c)) (wants_alone s p h)
+    ∙ ap (λ (c : Bool). not ((c || false) || false)) keeps
+
+-- ---- cycle after cycle
+
+-- core 0 has gone on alone for so many cycles from the start of a window on
+pub record IsOnward (w : Setting) (s : State) (n : ℕ) : Type 0 where
+  pub goes : GoesAlone s
+  pub known : s.outer.sio ≡ pins_of s.sio
+  pub blocks : AreBlocksQuiet s n
+  pub quiet : IsQuiet w (begun s).outer s.outer n
+  pub inward : StaysInward s n
+  pub keeps : KeepsInward s n
+  pub limit : s.cycle + n ≤ w.limit
+
+at_onward : (w : Setting) (s : State) (n k : ℕ) → IsOnward w s n → k ≤ n → states w s k ≡ onward_after w s k
+at_onward w s n k h le =
+    let limit = h.limit in
+    (core0_goes_on_alone w s k h.goes h.known (fewer_cycles s n k h.blocks le) (fewer w (begun s).outer s.outer n k h.quiet le) (λ j lt. h.inward j (omega arith)) (omega arith)).state
+
+lines_stay1 : (b : Doing) (x : Want) (t : State) → lines_of 1 (inward_next b x t) ≡ lines_of 1 t
+unfolding inward_next ended with_sio lines_of block_lines outer_lines
+lines_stay1 b x t = refl
+
+lines_inward : (s : State) (k : ℕ) → (lines_of 0 (inward_after k s) ≡ lines_of 0 s) × (lines_of 1 (inward_after k s) ≡ lines_of 1 s)
+unfolding inward_after
+lines_inward s zero = (refl, refl)
+lines_inward s (suc k) = (lines_stay _ _ _ ∙ (lines_inward s k).0, lines_stay1 _ _ _ ∙ (lines_inward s k).1)
+
+-- what is known in one of the cycles
+record StandsOnward (w : Setting) (s : State) (k : ℕ) : Type 0 where
+  start : start_of (onward_after w s k) ≡ start_of s
+  asleep : (onward_after w s k).core1.asleep ≡ true
+  reads : next_request (onward_after w s k).dma.block ≡ None
+  alone : IsCore0Alone (onward_after w s k) (blocks_after (suc k) s)
+  wants : core.want_of (begun (onward_after w s k)).core0 ≡ core0_want (inward_after k s)
+  mark : mark w (onward_after w s k) ≡ record { uart = None ∷ None ∷ []; pads = s.outer.pads.current }
+
+pub starts_by : (a b : Start) → a.lines0 ≡ b.lines0 → a.lines1 ≡ b.lines1 → a.pacing ≡ b.pacing → a.inputs ≡ b.inputs → a.pio0 ≡ b.pio0 → a.pio1 ≡ b.pio1 → a ≡ b
+starts_by a b e0 e1 e2 e3 e4 e5 = rw (← e0, ← e1, ← e2, ← e3, ← e4, ← e5) refl
+
+stands_onward : (w : Setting) (s : State) (n k : ℕ) → IsOnward w s n → k < n → StandsOnward w s k
+unfolding mark inputs_of
+stands_onward w s n k h lt =
+    let le : k ≤ n = omega arith in
+    let t = inward_after k s in
+    let p = blocks_after k s in
+    let o = outer_after w (begun s).outer k s.outer in
+    let u = beside_after w s k t in
+    let stays = stays_after s k h.goes h.known in
+    let number = seen_number s in
+    let cycle = stays.cycle in
+    let on = tell_on w s t n k le h.blocks h.quiet in
+    let here = told_both s u t on (stayed s t k stays) in
+    let pads = h.quiet.pads k le in
+    let inputs = ap (λ (b : Bank). inputs_of_pads b b.current ∷ inputs_of_pads b b.second ∷ []) pads in
+    let seen : (begun u).outer ≡ seen_in (begun s).outer ((begun s).outer.cycle + k) =
+    seen_later s u pads (λ block. outs_on s u block on) ∙ ap (λ (c : ℕ). seen_in (begun s).outer c) (omega arith) in
+    let tells : TellsSame p o t = record {
+      lines = lines_on t u 0 refl here;
+      pacing = pacing_on t u here;
+      inputs = inputs ∙ ap outer_inputs_of (sym stays.outer);
+      outs = λ block. outs_on t u block here;
+      sio = h.quiet.sio k le ∙ h.known ∙ sym stays.pins;
+    } in
+    let alone = alone_by w s t n k lt stays.alone.asleep h.blocks (pacing_on s u on) in
+    record {
+      start = starts_by (start_of u) (start_of s) (lines_on t u 0 refl here ∙ (lines_inward s k).0) (lines_on t u 1 refl here ∙ (lines_inward s k).1) (pacing_on s u on)
+          (ap packed_pair inputs) (outs_on s u 0 on) (outs_on s u 1 on);
+      asleep = stays.alone.asleep;
+      reads = requests_none (answer_of 2 u) u.dma.block (first_want _ _ (h.blocks.dma.wants k lt (answer_of 2 u) (pacing_on s u on)));
+      alone = alone;
+      wants = ap core.want_of (begun_same p o t tells);
+      mark = ap (λ (x : SeenOutputs). outer.marked w o x) seen ∙ h.quiet.mark k lt;
+    }
+  where
+    outer_inputs_of : OuterState → List ℕ
+    outer_inputs_of x = inputs_of_pads x.pads x.pads.current ∷ inputs_of_pads x.pads x.pads.second ∷ []
+
+-- core 0 alone writes
+own_notes : (s : State) (k : ℕ) → ((noted_inward k s).core1 ≡ []) × ((noted_inward k s).dma ≡ [])
+unfolding noted_inward
+own_notes s zero = (refl, refl)
+own_notes s (suc k) = own_notes s k
+
+alike_onward : (w : Setting) (s : State) (n k : ℕ) → IsOnward w s n → k < n → AreAlike (start_of s) (noted_inward k s) (onward_after w s k)
+alike_onward w s n k h lt =
+    let x = stands_onward w s n k h lt in
+    let own = own_notes s k in
+    subst (λ (start : Start). AreAlike start (noted_inward k s) (onward_after w s k)) x.start (alike_by (noted_inward k s) (onward_after w s k) own.0 own.1 x.asleep x.reads)
+
+begun_onward : (w : Setting) (s : State) (n k : ℕ) (notes : Notes) (now : State) → IsOnward w s n → k < n → notes ≡ noted_inward k s → now ≡ onward_after w s k
+    → wanted (begun_from (start_of s) notes now) ≡ beside (core0_want (inward_after k s))
+begun_onward w s n k notes now h lt en es =
+    let x = stands_onward w s n k h lt in
+    ap (λ (m : Notes). wanted (begun_from (start_of s) m now)) en
+    ∙ ap (λ (u : State). wanted (begun_from (start_of s) (noted_inward k s) u)) es
+    ∙ ap wanted (begun_alike (start_of s) (noted_inward k s) (onward_after w s k) (alike_onward w s n k h lt))
+    ∙ wanted_alone (onward_after w s k) (blocks_after (suc k) s) x.alone
+    ∙ ap beside x.wants
+
+pub notes_onward : (w : Setting) (s : State) (n k : ℕ) → IsOnward w s n → k ≤ n → noted_in w s k ≡ noted_inward k s
+unfolding noted_in noted_inward
+notes_onward w s n zero h le = refl
+notes_onward w s n (suc k) h le =
+    let lt : k < n = omega arith in
+    let same = notes_onward w s n k h (omega arith) in
+    let here = at_onward w s n k h (omega arith) in
+    ap (λ (xs : List Wanted). noted_by xs (states w s k).sram (noted_in w s k)) (begun_onward w s n k (noted_in w s k) (states w s k) h lt same here)
+    ∙ ap (λ (u : State). noted_by (beside (core0_want (inward_after k s))) u.sram (noted_in w s k)) here
+    ∙ ap (noted_by (beside (core0_want (inward_after k s))) (inward_after k s).sram) same
+
+pub goes_as_alone : (w : Setting) (s : State) (n : ℕ) → IsOnward w s n → GoesAsAlone w s n
+goes_as_alone w s n h k lt =
+    let x = stands_onward w s n k h lt in
+    let u = onward_after w s k in
+    ap (λ (m : Notes). goes_on (start_of s) m (states w s k)) (notes_onward w s n k h (omega arith))
+    ∙ ap (goes_on (start_of s) (noted_inward k s)) (at_onward w s n k h (omega arith))
+    ∙ goes_alike (start_of s) (noted_inward k s) u (alike_onward w s n k h lt)
+    ∙ goes_by_alone u (blocks_after (suc k) s) x.alone (ap ends_want x.wants ∙ h.keeps k lt)
+
+pub marks_onward : (w : Setting) (s : State) (n k : ℕ) → IsOnward w s n → k ≤ n → marks_in w s k ≡ same_marks k (record { uart = None ∷ None ∷ []; pads = s.outer.pads.current })
+unfolding marks_in same_marks
+marks_onward w s n zero h le = refl
+marks_onward w s n (suc k) h le =
+    let m : Mark = record { uart = None ∷ None ∷ []; pads = s.outer.pads.current } in
+    let one : mark w (states w s k) ≡ m = ap (mark w) (at_onward w s n k h (omega arith)) ∙ (stands_onward w s n k h (omega arith)).mark in
+    ap (λ (x : Mark). marks_in w s k ++ x ∷ []) one ∙ ap (λ (ms : List Mark). ms ++ m ∷ []) (marks_onward w s n k h (omega arith))
+
+-- ---- what is noted of core 0 on the way
+
+-- a cycle in which it wants nothing
+pub nothing_noted : (x : Want) (sram : List ℕ) (notes : Notes) → x ≡ want.Nothing → notes ≡ noted_core0 x sram notes
+nothing_noted x sram notes e = sym (ap (λ (v : Want). noted_core0 v sram notes) e)
+
+pub keeps_none : (s : State) → KeepsInward s 0
+keeps_none s k lt = absurd (omega arith)
+
+pub keeps_on : (s t : State) (n : ℕ) → KeepsInward s n → t ≡ inward_after n s → ends_want (core0_want t) ≡ false → KeepsInward s (n + 1)
+keeps_on s t n h e ends k lt = elim (eqb_tells k n) [
+  | inl same ↦ ap (λ (m : ℕ). ends_want (core0_want (inward_after m s))) same.1 ∙ ap (λ (x : State). ends_want (core0_want x)) (sym e) ∙ ends
+  | inr other ↦ h k (let ne = other.1 in omega (arith, ne))
+]
+
+pub noted_on : (s t : State) (n : ℕ) (notes notes' : Notes) → notes ≡ noted_inward n s → t ≡ inward_after n s → notes' ≡ noted_core0 (core0_want t) t.sram notes → notes' ≡ noted_inward (n + 1) s
+unfolding noted_inward
+noted_on s t n notes notes' e_notes e more =
+    more ∙ ap (λ (m : Notes). noted_core0 (core0_want t) t.sram m) e_notes
+    ∙ ap (λ (x : State). noted_core0 (core0_want x) x.sram (noted_inward n s)) e ∙ ap (λ (k : ℕ). noted_inward k s) (sym (add-one n))
+
+pub few_noted : (k : ℕ) (x : Want) (sram : List ℕ) (notes notes' : Notes) → HasFew k notes → notes' ≡ noted_core0 x sram notes → HasFew (k + 1) notes'
+few_noted k x sram notes notes' h e = subst (HasFew (k + 1)) (sym e) (few_on k x want.Nothing want.Nothing sram notes h)
+
+pub noted_none : (s : State) (notes : Notes) → notes ≡ no_notes → notes ≡ noted_inward 0 s
+unfolding noted_inward
+noted_none s notes e = e
+
+pub few_none : (notes : Notes) → notes ≡ no_notes → HasFew 0 notes
+few_none notes e =
+    subst (HasFew 0) (sym e) (record { originals = omega arith; core0 = omega arith; core1 = omega arith; dma = omega arith })
+
+-- ---- the same mark again and again
+
+abbrev pub mark_with : ℕ → Mark
+mark_with pads = record { uart = None ∷ None ∷ []; pads = pads }
+
+-- so many are there
+pub record AreSame (mark : Mark) (k : ℕ) (marks : List Mark) : Type 0 where
+  pub same : marks ≡ same_marks k mark
+  pub count : length marks ≡ k
+
+pub same_none : (mark : Mark) (marks : List Mark) → marks ≡ [] → AreSame mark 0 marks
+unfolding same_marks
+same_none mark marks e = record { same = e; count = ap length e }
+
+pub same_more : (mark : Mark) (k : ℕ) (marks marks' : List Mark) → AreSame mark k marks → marks' ≡ marks ++ mark ∷ [] → AreSame mark (k + 1) marks'
+unfolding same_marks
+same_more mark k marks marks' h e = record {
+  same = e ∙ ap (λ (ms : List Mark). ms ++ mark ∷ []) h.same ∙ ap (λ (j : ℕ). same_marks j mark) (sym (add-one k));
+  count = ap length e ∙ length-append marks (mark ∷ []) ∙ ap (λ (j : ℕ). j + 1) h.count;
+}
+
+-- ---- what the calls leave
+
+pub no_noted : (w : Setting) (s : State) (notes : Notes) → notes ≡ no_notes → notes ≡ noted_in w s 0
+unfolding noted_in
+no_noted w s notes e = e
+
+pub is_onward : (w : Setting) (s : State) (seen : SeenOutputs) (most done : ℕ) → HasBegun w s seen most → done ≤ most → StaysInward s done → KeepsInward s done → IsOnward w s done
+is_onward w s seen most done h le inward keeps =
+    let limit = h.limit in
+    record {
+      goes = h.goes;
+      known = h.known;
+      blocks = fewer_cycles s most done h.blocks le;
+      quiet = fewer w (begun s).outer s.outer most done (subst (λ (x : SeenOutputs). IsQuiet w x s.outer most) h.same h.quiet) le;
+      inward = inward;
+      keeps = keeps;
+      limit = omega arith;
+    }
+
+pub marked_onward : (w : Setting) (s t : State) (n pads : ℕ) (marks : List Mark) → IsOnward w s n → t ≡ states w s n → pads ≡ t.outer.pads.current
+    → marks ≡ same_marks n (record { uart = None ∷ None ∷ []; pads = pads }) → marks ≡ marks_in w s n
+marked_onward w s t n pads marks h e_state e_pads e =
+    let same : pads ≡ s.outer.pads.current = e_pads ∙ ap (λ (x : State). x.outer.pads.current) (e_state ∙ at_onward w s n n h (omega arith)) ∙ ap (λ (b : Bank). b.current) (h.quiet.pads n (omega arith)) in
+    e ∙ ap (λ p. same_marks n (record { uart = None ∷ None ∷ []; pads = p })) same ∙ sym (marks_onward w s n n h (omega arith))
+
+-- ---- the first cycle, where it is not one of these
+
+-- nothing has changed
+pub record IsBack (s i : State) (notes : Notes) (marks : List Mark) : Type 0 where
+  pub state : i ≡ s
+  pub notes_are : notes ≡ no_notes
+  pub marks_are : marks ≡ []
+
+pub is_back : (w : Setting) (s i : State) (done : ℕ) (notes : Notes) (marks : List Mark) → (0 < done → ⊥) → i ≡ states w s done → notes ≡ noted_in w s done → marks ≡ marks_in w s done → IsBack s i notes marks
+unfolding states noted_in marks_in
+is_back w s i zero notes marks none e_state e_notes e_marks = record { state = e_state; notes_are = e_notes; marks_are = e_marks }
+is_back w s i (suc done) notes marks none e_state e_notes e_marks = absurd (none (omega arith))
+
+pub room_none : (notes : Notes) → notes ≡ no_notes → HasRoom notes 3
+room_none notes e =
+    subst (λ (n : Notes). HasRoom n 3) (sym e) (record { originals = omega arith; core0 = omega arith; core1 = omega arith; dma = omega arith })
+
+-- it goes
+pub record HasBegunOne (w : Setting) (s now : State) (notes : Notes) (marks : List Mark) : Type 0 where
+  pub state : now ≡ states w s 1
+  pub goes : GoesAsAlone w s 1
+  pub notes_are : notes ≡ noted_in w s 1
+  pub marks_are : marks ≡ marks_in w s 1
+
+noted_one : (w : Setting) (s : State) → noted_by (wanted (begun s)) s.sram no_notes ≡ noted_in w s 1
+unfolding noted_in states
+noted_one w s = ap (λ (b : Begun). noted_by (wanted b) s.sram no_notes) (sym (begun_alike (start_of s) no_notes s (alike_first s)))
+
+goes_one : (w : Setting) (s : State) → goes_first s ≡ true → GoesAsAlone w s 1
+unfolding noted_in states
+goes_one w s goes zero lt = goes_first_on s ∙ goes
+goes_one w s goes (suc k) lt = absurd (omega arith)
+
+pub begun_one : (w : Setting) (s i : State) (notes : Notes) (marks : List Mark) (b : Begun) (now' : State) (notes' : Notes) (marks' : List Mark) → First s [] → is_launching s.core1 ≡ false → 0 < longest w s → goes_first s ≡ true
+    → IsBack s i notes marks → b ≡ begun s → now' ≡ next_by w b (wanted b) i → notes' ≡ noted_by (wanted b) i.sram notes → marks' ≡ marks ++ outer.marked w i.outer b.outer ∷ [] → HasBegunOne w s now' notes' marks'
+begun_one w s i notes marks b now' notes' marks' first calm lt goes back e_begun e_now e_notes e_marks =
+    let noted : notes' ≡ noted_by (wanted (begun s)) s.sram no_notes = e_notes ∙ rw (back.state, back.notes_are, e_begun) refl in
+    let p = passes_first w s (start_of s) [] true now' notes' marks' first calm lt (sym goes) refl refl
+    (e_now ∙ rw (back.state, e_begun) refl)
+    (e_marks ∙ rw (back.marks_are, back.state, e_begun) refl)
+    noted in
+    record {
+      state = p.stands.is_states;
+      goes = goes_one w s goes;
+      notes_are = noted ∙ noted_one w s;
+      marks_are = p.stands.is_marks;
+    }

@@ -1,0 +1,17 @@
+use Rattle.std.proofs.Common.{◌≡◌, true, false, refl, ap, subst, ◌∙◌}
+use Rattle.lane_look.specs.Alone.{ends_want}
+use Rattle.rp_machine.specs.Inward.{core0_want, goes_inward, inward_cycle}
+use Rattle.rp_machine.specs.State.{State}
+use Rattle.rp_machine.proofs.Inward.{wants_nothing_inward}
+use Rattle.window_merge.specs.Inward.{noted_core0}
+use Rattle.window_merge.proofs.InwardCycles.{nothing_noted}
+use Rattle.window_merge.proofs.inward.keep_onward.Goals as goal
+
+pub returns-then-short_onward-clause-inward : goal.returns-then-short_onward-clause-inward
+returns-then-short_onward-clause-inward c = λ done. wants_nothing_inward c.args.machine.now (c.if-short_onward.ensures.nothing refl)
+
+pub returns-then-short_onward-clause-keeps : goal.returns-then-short_onward-clause-keeps
+returns-then-short_onward-clause-keeps c = λ done. ap ends_want (c.if-short_onward.ensures.nothing refl)
+
+pub returns-then-short_onward-clause-notes : goal.returns-then-short_onward-clause-notes
+returns-then-short_onward-clause-notes c = λ done. nothing_noted (core0_want c.args.machine.now) c.args.machine.now.sram c.args.notes.now (c.if-short_onward.ensures.nothing refl)

@@ -1,0 +1,178 @@
+//! The first cycles of a window, as long as core 0 alone is at work in SRAM beside lanes that are quiet, which lie behind and are brought
+//! up once, or nobody has anything to do.
+
+ghost use Rattle.std.specs.Prelude.{◌≡◌, ◌+◌, ◌-◌, ◌^◌, ◌<◌, ◌≤◌, ◌++◌, ◌∷◌, [], None, false, true, length};
+ghost use Rattle.lane_look.specs.Alone.{ends_want};
+ghost use Rattle.outer_lane.specs.Setting.{setting};
+ghost use Rattle.bus_fabric.specs.State.{has_hold};
+ghost use Rattle.rp_machine.specs.Answers.{lines_of};
+ghost use Rattle.rp_machine.specs.Cycle.{begun};
+ghost use Rattle.rp_machine.specs.Inward.{core0_want, goes_inward, inward_cycle, inward_after, StaysInward};
+ghost use Rattle.rp_machine.specs.Run.{states};
+ghost use Rattle.window_merge.specs.Inward.{noted_in, noted_core0, noted_inward, same_marks, GoesAsAlone, KeepsInward};
+ghost use Rattle.window_merge.specs.Merging.{marks_in};
+ghost use Rattle.window_merge.specs.Notes.{no_notes, HasRoom};
+
+use crate::notes::Notes;
+use crate::walk::ends_want;
+use lane_look::{Device, Lane, Mark, Marks};
+use m0_core::{Core, Doing};
+use outer_lane::World;
+use quiet_run::{bring_up, pass_waiting};
+use rp_machine::{Machine, Steps, fact_limit_is_bounded};
+use std::sync::ledger::Ledger;
+
+/// One cycle of core 0, whose interrupt lines are these, where its run alone does not end before it and it reaches for nothing but SRAM;
+/// what it writes is noted. Otherwise nothing changes.
+#[inline(always)]
+fn keep_onward(
+    machine: &mut Machine,
+    lines: u32,
+    core0: &mut Doing,
+    notes: &mut Notes,
+    marks: &mut Marks,
+) -> bool
+    requires number { machine.old.cycle < 2 ^ 64 - 1 }
+    requires lines { lines ≡ lines_of 0 machine.old }
+    requires room { HasRoom notes.old 3 }
+    ensures inward { result ≡ true → goes_inward machine.old ≡ true }
+    ensures keeps { result ≡ true → ends_want (core0_want machine.old) ≡ false }
+    ensures done { result ≡ true → machine.new ≡ inward_cycle machine.old }
+    ensures notes { result ≡ true → notes.new ≡ noted_core0 (core0_want machine.old)
+        machine.old.sram notes.old }
+    ensures machine_stays { result ≡ false → machine.new ≡ machine.old }
+    ensures notes_stay { result ≡ false → notes.new ≡ notes.old }
+    ensures marks { marks.new ≡ marks.old }
+{
+    if machine.short_onward(lines) {
+        return true;
+    }
+    machine.begin_core0(lines, core0);
+    let [want, _] = <Core as Lane<()>>::wants(core0);
+    if ends_want(&want) {
+        return false;
+    }
+    let (original, own) = notes.words_of_core0(&machine.ram, &want);
+    if !machine.begun_onward(core0, marks) {
+        return false;
+    }
+    notes.add_core0(original, own);
+    true
+}
+
+/// Core 0 goes on alone for at most so many cycles, as far as its run alone does not end and it reaches for nothing but SRAM, and the other
+/// lanes stay as they are. What it writes is noted. How many cycles that were.
+fn note_onward<L: Ledger>(
+    machine: &mut Machine,
+    notes: &mut Notes,
+    most: u64,
+    marks: &mut Marks,
+    steps: &mut Steps<L>,
+) -> u64
+    requires number { machine.old.cycle + most < 2 ^ 64 }
+    requires few { most ≤ 256 }
+    requires notes { notes.old ≡ no_notes }
+    ensures most { result ≤ most }
+    ensures state { machine.new ≡ inward_after result machine.old }
+    ensures inward { StaysInward machine.old result }
+    ensures keeps { KeepsInward machine.old result }
+    ensures notes { notes.new ≡ noted_inward result machine.old }
+    ensures marks { marks.new ≡ marks.old }
+    ensures steps { steps.new ≡ steps.old + result }
+{
+    let lines = machine.lines(0);
+    let mut core0 = Doing::nothing();
+    let mut done = 0;
+    while done < most
+        && !machine.core0.is_waiting()
+        && keep_onward(machine, lines, &mut core0, notes, marks)
+    {
+        steps.tick();
+        done += 1;
+    }
+    done
+}
+
+/// Marks so many cycles in which no frame ends and the pads have these levels.
+fn mark_each(marks: &mut Marks, pads: u32, n: u64)
+    requires none { marks.old ≡ [] }
+    requires few { n ≤ 256 }
+    ensures { marks.new ≡ same_marks n (record { uart = None ∷ None ∷ []; pads = pads }) }
+{
+    let mark = Mark {
+        uart: [None, None],
+        pads,
+    };
+    for _k in 0..n {
+        marks.push(mark);
+    }
+}
+
+/// Moves the machine over the first cycles of a window of at most so many, as long as nobody has anything to do. How many they were.
+#[inline(never)]
+fn go_waiting<X: Device, L: Ledger>(
+    machine: &mut Machine,
+    world: &World<'_, X>,
+    most: u16,
+    marks: &mut Marks,
+    steps: &mut Steps<L>,
+) -> u16
+    requires number { machine.old.cycle + most ≤ world.now.limit }
+    requires few { most ≤ 256 }
+    requires marks { marks.old ≡ [] }
+    ensures most { result ≤ most }
+    ensures state { machine.new ≡ states (setting X.meaning world.now) machine.old result }
+    ensures goes { GoesAsAlone (setting X.meaning world.now) machine.old result }
+    ensures notes { noted_in (setting X.meaning world.now) machine.old result ≡ no_notes }
+    ensures marks { marks.new ≡ marks_in (setting X.meaning world.now) machine.old result }
+    ensures steps { steps.new ≡ steps.old + result }
+{
+    fact_limit_is_bounded(world);
+    let to = machine.at + u64::from(most);
+    let done = pass_waiting(machine, world, to, steps);
+    mark_each(marks, machine.pads(), done);
+    done as u16
+}
+
+/// Moves the machine over the first cycles of a window of at most so many, as long as core 0 alone is at work in SRAM beside lanes that are
+/// quiet, or nobody has anything to do. How many they were.
+#[inline(never)]
+pub(crate) fn go_inward<X: Device, L: Ledger>(
+    machine: &mut Machine,
+    world: &World<'_, X>,
+    notes: &mut Notes,
+    most: u16,
+    marks: &mut Marks,
+    steps: &mut Steps<L>,
+) -> u16
+    requires number { machine.old.cycle + most ≤ world.now.limit }
+    requires few { most ≤ 256 }
+    requires notes { notes.old ≡ no_notes }
+    requires marks { marks.old ≡ [] }
+    ensures most { result ≤ most }
+    ensures state { machine.new ≡ states (setting X.meaning world.now) machine.old result }
+    ensures goes { GoesAsAlone (setting X.meaning world.now) machine.old result }
+    ensures notes { notes.new ≡ noted_in (setting X.meaning world.now) machine.old result }
+    ensures marks { marks.new ≡ marks_in (setting X.meaning world.now) machine.old result }
+    ensures steps { steps.new ≡ steps.old + result }
+{
+    fact_limit_is_bounded(world);
+    if machine.core0.is_waiting() {
+        return go_waiting(machine, world, most, marks, steps);
+    }
+    if !machine.core1.is_asleep() || machine.sio.offers() {
+        return 0;
+    }
+    let blocks = machine.quiet_blocks();
+    if blocks == 0 {
+        return 0;
+    }
+    let seen = machine.begin_outer(world);
+    let outer = machine.outer.quiet(world, &seen);
+    let lanes = outer.min(blocks);
+    let room = lanes.min(u64::from(most));
+    let done = note_onward(machine, notes, room, marks, steps);
+    bring_up(machine, world, &seen, done);
+    mark_each(marks, machine.pads(), done);
+    done as u16
+}
