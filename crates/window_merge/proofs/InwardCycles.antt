@@ -24,7 +24,6 @@ use Rattle.m0_core.specs.Fetch as core_asks
 use Rattle.m0_core.specs.Cycle as core
 use Rattle.dma_engine.specs.State.{State as Engine}
 use Rattle.dma_engine.specs.declared.begun.Access.{Access}
-use Rattle.dma_engine.specs.declared.begun.BegunTransfer.{BegunTransfer}
 use Rattle.dma_engine.specs.Asks as dma_asks
 use Rattle.dma_engine.specs.declared.begun.Access.TheVariants as access
 use Rattle.dma_engine.specs.Asks.{may_be_device, outside, asks_at, asks_for, asks_read, next_request, write_begun, waits_for_counts}
@@ -42,7 +41,7 @@ use Rattle.outer_lane.specs.Quiet.{IsQuiet, seen_in, outer_after}
 use Rattle.rp_machine.specs.declared.begun.Begun.{Begun}
 use Rattle.rp_machine.specs.declared.wanted.Wanted.{Wanted}
 use Rattle.rp_machine.specs.State.{State}
-use Rattle.rp_machine.specs.Answers.{answer_of, lines_of, block_lines, packed_pair, pacing_of, inputs_of, outs_of}
+use Rattle.rp_machine.specs.Answers.{answer_of, lines_of, block_lines, packed_pair, inputs_of}
 use Rattle.rp_machine.specs.Deeds.{asked_of}
 use Rattle.rp_machine.specs.Cycle.{begun, wanted, pins_of, with_sio, ended, mark, next_by}
 use Rattle.rp_machine.specs.Run.{states}
@@ -51,7 +50,7 @@ use Rattle.rp_machine.specs.Inward.{TellsSame, GoesAlone, StaysInward, core0_wan
 use Rattle.rp_machine.proofs.Going.{fewer_cycles}
 use Rattle.rp_machine.proofs.OneCore.{first_want, second_want, wanted_alone}
 use Rattle.rp_machine.proofs.Quietly.{seen_later, seen_number}
-use Rattle.rp_machine.proofs.Inward.{begun_same, stays_after, TellOn, lines_on, pacing_on, outs_on, tell_on, stayed, told_both, alone_by, beside_after, core0_goes_on_alone, lines_stay}
+use Rattle.rp_machine.proofs.Inward.{begun_same, stays_after, lines_on, pacing_on, outs_on, tell_on, stayed, told_both, alone_by, beside_after, core0_goes_on_alone, lines_stay}
 use Rattle.quiet_run.proofs.GoneOn.{HasBegun}
 use Rattle.quiet_run.proofs.Passing.{fewer}
 use Rattle.window_merge.specs.declared.notes.Notes.{Notes}

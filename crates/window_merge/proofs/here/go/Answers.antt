@@ -1,10 +1,5 @@
-use Rattle.std.proofs.Common.{◌≡◌, ◌+◌, ◌++◌, [], ◌∷◌, true, refl, ap, sym, ◌∙◌, arith}
+use Rattle.std.proofs.Common.{◌≡◌, ◌+◌, ◌++◌, [], ◌∷◌, refl, sym, ◌∙◌, arith}
 use Rattle.outer_lane.specs.Setting.{setting_of}
-use Rattle.outer_lane.specs.Step.{marked}
-use Rattle.rp_machine.specs.declared.begun.Begun.{Begun}
-use Rattle.rp_machine.specs.Cycle.{wanted, next_by}
-use Rattle.window_merge.specs.declared.notes.Notes.{Notes}
-use Rattle.window_merge.specs.Notes.{noted_by}
 use Rattle.window_merge.proofs.Windows.{at_most}
 use Rattle.window_merge.proofs.Passing.{First, closed_later, closed_full, passes_through, passes_later, has_room}
 use Rattle.window_merge.proofs.here.go.Goals as goal

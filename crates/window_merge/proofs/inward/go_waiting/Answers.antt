@@ -1,7 +1,7 @@
-use Rattle.std.proofs.Common.{◌≡◌, ◌+◌, ◌≤◌, subst, arith}
+use Rattle.std.proofs.Common.{◌≡◌, ◌+◌, ◌≤◌, subst}
 use Rattle.outer_lane.specs.Setting.{setting}
 use Rattle.rp_machine.specs.Copies.{CopiesAgree}
-use Rattle.window_merge.proofs.WaitingCycles.{has_waited, within_most}
+use Rattle.window_merge.proofs.WaitingCycles.{has_waited}
 use Rattle.window_merge.proofs.inward.go_waiting.Goals as goal
 
 pub returns-clause-goes : goal.returns-clause-goes

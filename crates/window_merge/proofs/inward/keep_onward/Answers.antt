@@ -1,9 +1,7 @@
-use Rattle.std.proofs.Common.{◌≡◌, true, false, refl, ap, subst, ◌∙◌}
+use Rattle.std.proofs.Common.{◌≡◌, refl, ap, ◌∙◌}
 use Rattle.lane_look.specs.Alone.{ends_want}
-use Rattle.rp_machine.specs.Inward.{core0_want, goes_inward, inward_cycle}
-use Rattle.rp_machine.specs.State.{State}
+use Rattle.rp_machine.specs.Inward.{core0_want}
 use Rattle.rp_machine.proofs.Inward.{wants_nothing_inward}
-use Rattle.window_merge.specs.Inward.{noted_core0}
 use Rattle.window_merge.proofs.InwardCycles.{nothing_noted}
 use Rattle.window_merge.proofs.inward.keep_onward.Goals as goal
 

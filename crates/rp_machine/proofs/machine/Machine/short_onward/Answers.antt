@@ -1,4 +1,4 @@
-use Rattle.std.proofs.Common.{◌≡◌, ◌+◌, true, refl, sym, ap, subst, ◌∙◌}
+use Rattle.std.proofs.Common.{◌≡◌, ◌+◌, refl, sym, ap, subst, ◌∙◌}
 use Rattle.lane_look.specs.declared.lane.Ask.TheVariants.{Half}
 use Rattle.lane_look.specs.declared.lane.Want.TheVariants.{Nothing}
 use Rattle.m0_core.specs.State.{State as Core}
