@@ -134,7 +134,3 @@ has_waited w s t (suc n) pads marks agree parts e_state e_pads e =
       notes = notes_waiting w s (suc n) (suc n) h (omega arith);
       marks_are = marked_waiting w s t (suc n) pads marks h e_state e_pads e;
     }
-
-pub within_most : (done at most to : ℕ) → to ≡ at + most → (0 < done → at + done ≤ to) → done ≤ most
-within_most zero at most to e h = omega arith
-within_most (suc n) at most to e h = let here = h (omega arith) in omega arith
