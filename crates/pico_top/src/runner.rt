@@ -158,7 +158,7 @@ pub fn run_by_one<X: Device, T: Tape, L: Ledger>(
     ensures memory { OnMemory result ((machine.new ≡ machine.old) × (tape.new ≡ tape.old)) }
 {
     if stats {
-        let Ok(mut crew) = Crew::new(alloc) else {
+        let Ok(mut crew) = Crew::without_jobs(alloc) else {
             return Err(RunFault::Memory);
         };
         match run_alone(machine, world, &mut crew, tape, steps) {

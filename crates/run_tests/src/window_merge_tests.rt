@@ -1,7 +1,6 @@
 //! Windows of a program: a DMA copy whose second read and first write meet on one bank; and reports that are accepted or not.
 
 ghost use Rattle.std.specs.Prelude.{◌≡◌, ◌<◌};
-ghost use Rattle.window_merge.specs.Jobs.{IsWhole};
 
 use arrayvec::ArrayVec;
 use lane_look::{Device, Marks, NoDevice};
@@ -57,9 +56,7 @@ fn lengths_of<X: Device, L: Ledger>(
     world: &World<'_, X>,
     crew: &mut Crew,
     steps: &mut Steps<L>,
-) -> Result<(ArrayVec<u16, 16>, u64), Fail>
-    requires crew { IsWhole crew.old }
-{
+) -> Result<(ArrayVec<u16, 16>, u64), Fail> {
     let mut marks = Marks::new();
     let mut lengths = ArrayVec::new();
     let mut after_empty = false;
@@ -118,7 +115,7 @@ fn windows_of<L: Ledger>(
         limit,
     };
     let mut machine = Machine::boot(alloc, &image, &[], &world)?;
-    let mut crew = Crew::new(alloc)?;
+    let mut crew = Crew::without_jobs(alloc)?;
     lengths_of(&mut machine, &world, &mut crew, &mut steps)
 }
 

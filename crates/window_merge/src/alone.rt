@@ -3,7 +3,6 @@
 ghost use Rattle.std.specs.Prelude.{◌≡◌, ◌+◌, ◌-◌, ◌≤◌};
 ghost use Rattle.outer_lane.specs.Setting.{setting};
 ghost use Rattle.rp_machine.specs.Run.{states};
-ghost use Rattle.window_merge.specs.Jobs.{IsWhole};
 ghost use Rattle.window_merge.specs.Going.{IsReached};
 
 use crate::lane_job::Crew;
@@ -25,7 +24,6 @@ pub fn advance_alone<X: Device, L: Ledger>(
 ) -> Option<Why>
     requires number { machine.old.cycle ≤ world.now.limit }
     requires to { machine.old.cycle ≤ to }
-    requires crew { IsWhole crew.old }
     ensures state { machine.new ≡ states (setting X.meaning world.now) machine.old (to -
         machine.old.cycle) }
     ensures why { IsReached (setting X.meaning world.now) to result machine.new }

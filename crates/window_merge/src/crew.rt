@@ -104,10 +104,20 @@ impl Crew {
     pub fn new(alloc: Global) -> Result<Crew, AllocError>
         ensures { IfOk result IsWhole }
     {
-        let jobs = six_jobs(alloc)?;
+        let mut crew = Crew::without_jobs(alloc)?;
+        crew.jobs = six_jobs(alloc)?;
+        Ok(crew)
+    }
+
+    /// Room for a run by windows on one thread, which uses no job. Nothing that uses it takes memory.
+    ///
+    /// # Errors
+    ///
+    /// Want of memory.
+    pub fn without_jobs(alloc: Global) -> Result<Crew, AllocError> {
         let notes = Notes::new(alloc)?;
         Ok(Crew {
-            jobs,
+            jobs: [None, None, None, None, None, None],
             notes,
             begun: Begun::nothing(),
         })

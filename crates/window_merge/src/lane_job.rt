@@ -35,7 +35,8 @@ pub struct LaneReport {
     pub ghost fits: { is_run_of lane run ≡ true },
 }
 
-/// A job for each lane, in the order of the lanes, and room for what a window notes. None stands for a job that is somewhere else.
+/// A job for each lane, in the order of the lanes, and room for what a window notes. None stands for a job that is somewhere else, or that
+/// nobody uses.
 #[derive(Drop)]
 pub struct Crew {
     /// The jobs.

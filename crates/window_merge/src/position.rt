@@ -4,7 +4,6 @@ ghost use Rattle.std.specs.Prelude.{◌≡◌, ◌≤◌};
 ghost use Rattle.outer_lane.specs.Setting.{setting};
 ghost use Rattle.rp_machine.specs.Cycle.{begun};
 ghost use Rattle.window_merge.specs.Merging.{IsStep};
-ghost use Rattle.window_merge.specs.Jobs.{IsWhole};
 
 use crate::here::window;
 use crate::lane_job::Crew;
@@ -37,11 +36,10 @@ pub fn advance<X: Device, L: Ledger>(
     steps: &mut Steps<L>,
 ) -> Moved
     requires number { machine.old.cycle ≤ world.now.limit }
-    requires crew { IsWhole crew.old }
     requires begun { crew.old.begun ≡ begun machine.old }
     ensures moved { IsStep (setting X.meaning world.now) after_empty result machine.old machine.new
         marks.old marks.new steps.old steps.new }
-    ensures crew { IsWhole crew.new }
+    ensures jobs { crew.new.jobs ≡ crew.old.jobs }
     ensures begun { crew.new.begun ≡ begun machine.new }
 {
     if after_empty || machine.fabric.holds() {

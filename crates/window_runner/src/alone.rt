@@ -6,7 +6,6 @@ ghost use Rattle.trace_text.specs.Tape.{Tells};
 ghost use Rattle.rp_machine.specs.Cycle.{begun, stop};
 ghost use Rattle.rp_machine.specs.Run.{last_state, unless_stopped};
 ghost use Rattle.window_merge.specs.Window.{next_position};
-ghost use Rattle.window_merge.specs.Jobs.{IsWhole};
 ghost use Rattle.window_runner.specs.Told.{all_shown, events_by, step_events, run_shown};
 ghost use Rattle.window_runner.specs.Alone.{IsRan, IsOnRun, FailsWithin, position_at, stop_in};
 
@@ -85,7 +84,6 @@ fn step<X: Device, T: Tape, L: Ledger>(
     steps: &mut Steps<L>,
 ) -> Result<Option<Why>, SinkFault>
     requires number { machine.old.cycle ≤ world.now.limit }
-    requires crew { IsWhole crew.old }
     requires begun { crew.old.begun ≡ begun machine.old }
     requires windows { counts.old.windows
         ≤ machine.old.cycle + (if counts.old.after_empty then 1 else 0) }
@@ -100,7 +98,7 @@ fn step<X: Device, T: Tape, L: Ledger>(
     ensures counted { counts.new.cycles + machine.old.cycle
         ≤ counts.old.cycles + machine.new.cycle }
     ensures steps { steps.new + machine.old.cycle ≡ steps.old + machine.new.cycle }
-    ensures crew { IsWhole crew.new }
+    ensures jobs { crew.new.jobs ≡ crew.old.jobs }
     ensures begun { crew.new.begun ≡ begun machine.new }
 {
     fact_limit_is_bounded(world);
@@ -120,7 +118,7 @@ fn step<X: Device, T: Tape, L: Ledger>(
 }
 
 /// Runs a machine by windows and single cycles up to its first stop, and tells the events of all its cycles to a tape, on one
-/// thread. Each cycle counts as a step. The crew has the job of each lane, before and after. It takes no memory.
+/// thread. Each cycle counts as a step. It uses no job of the crew, and takes no memory.
 ///
 /// # Errors
 ///
@@ -134,7 +132,6 @@ pub fn run_alone<X: Device, T: Tape, L: Ledger>(
     steps: &mut Steps<L>,
 ) -> Result<Ran, SinkFault>
     requires number { machine.old.cycle ≤ world.now.limit }
-    requires crew { IsWhole crew.old }
     ensures told { Tells T.took T.missed tape.old tape.new (T.faults tape.old) (T.faults tape.new)
         (run_shown (setting X.meaning world.now) machine.old) result }
     ensures ran { IfOk result (IsRan (setting X.meaning world.now) machine.old) }
@@ -144,7 +141,7 @@ pub fn run_alone<X: Device, T: Tape, L: Ledger>(
         world.now) 256 machine.old machine.new) }
     ensures on_run { IsOnRun (setting X.meaning world.now) machine.old machine.new }
     ensures steps { steps.new + machine.old.cycle ≡ steps.old + machine.new.cycle }
-    ensures crew { IsWhole crew.new }
+    ensures jobs { crew.new.jobs ≡ crew.old.jobs }
 {
     let mut counts = Counts {
         windows: 0,

@@ -1,10 +1,6 @@
 use Rattle.std.proofs.Common.{◌≡◌}
 use Rattle.rp_machine.specs.Cycle.{begun}
-use Rattle.window_merge.specs.Jobs.{IsWhole}
 use Rattle.run_tests.proofs.window_merge_tests.lengths_of.Given as goal
 
 abbrev pub invariant-loop : goal.invariant-loop
-invariant-loop g l = record {
-  crew : IsWhole l.crew;
-  begun : l.crew.begun ≡ begun l.machine;
-}
+invariant-loop g l = l.crew.begun ≡ begun l.machine

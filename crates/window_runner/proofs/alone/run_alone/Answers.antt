@@ -9,7 +9,7 @@ use Rattle.window_runner.proofs.alone.run_alone.Goals as goal
 pub steps-init : goal.steps-init
 steps-init g c =
     let w = setting_of c.args.world.now.script.now (g.X.Device.meaning c.args.world.now.device.now) c.args.world.now.limit in
-    (running_first w c.args.machine.now _ c.requires.number, taken_nothing _ _ _ _ g.met.T.Tape.takes_none, c.requires.crew, c.begin_into.ensures)
+    (running_first w c.args.machine.now _ c.requires.number, taken_nothing _ _ _ _ g.met.T.Tape.takes_none, refl, c.begin_into.ensures)
 
 pub steps-smaller : goal.steps-smaller
 steps-smaller g c =
@@ -29,7 +29,7 @@ steps-preserved g c =
           c.steps.invariant.0 (h.cause ∙ c.in-Ok-None.field-0-is) position h.counted h.steps,
       taken_step _ _ _ _ _ _ _ _ w c.args.machine.now (position_at c.steps.machine c.steps.counts) (position_at c.step.new.machine c.step.new.counts) _
           g.met.T.Tape.takes_in_turn c.steps.invariant.0.reached c.steps.invariant.1 (h.cause ∙ c.in-Ok-None.field-0-is) position told,
-      h.crew,
+      h.jobs ∙ c.steps.invariant.2,
       h.begun,
     )
 

@@ -1,7 +1,6 @@
 use Rattle.std.proofs.Common.{◌≡◌}
 use Rattle.outer_lane.specs.Setting.{setting_of}
 use Rattle.rp_machine.specs.Cycle.{begun}
-use Rattle.window_merge.specs.Jobs.{IsWhole}
 use Rattle.window_merge.proofs.Positions.{left_of}
 use Rattle.window_runner.specs.Told.{run_shown}
 use Rattle.window_runner.specs.Alone.{position_at}
@@ -15,7 +14,7 @@ invariant-steps g l =
     Running w l.initial.machine (position_at l.machine l.counts) l.initial.steps l.steps
     × TakenBefore g.T.Tape.took l.initial.tape l.tape (g.T.Tape.faults l.initial.tape) (g.T.Tape.faults l.tape)
     (run_shown w l.initial.machine) (run_shown w l.machine)
-    × IsWhole l.crew
+    × (l.crew.jobs ≡ l.initial.crew.jobs)
     × (l.crew.begun ≡ begun l.machine)
 
 abbrev pub decreases-steps : goal.decreases-steps
