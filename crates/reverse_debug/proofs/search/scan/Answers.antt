@@ -15,7 +15,7 @@ pub cycles-preserved : goal.cycles-preserved
 cycles-preserved g c =
     let lt : c.cycles.machine.cycle < c.args.to = omega arith in
     counting_on _ _ _ _ _ _ _ _ _ _ _ _ _ _ _ _ c.cycles.invariant c.number-cycle.ensures c.in-None.ensures.way c.in-None.ensures.there lt c.seen.ensures
-    c.seen-before.ensures c.happens_by-happened.ensures c.noted-tally.ensures c.in-None.ensures.steps
+    c.seen-before.ensures c.happens_by-happened.ensures c.noted-tally.ensures
 
 pub noted-tally-requires : goal.noted-tally-requires
 noted-tally-requires g c =
@@ -23,15 +23,10 @@ noted-tally-requires g c =
     let few : c.cycles.tally.count < c.args.to = few_counted _ _ _ _ _ _ _ _ _ c.cycles.invariant lt in
     record { few = omega (arith, c.ranges.to.fits) }
 
-pub returns-in-Some-clause-tally : goal.returns-in-Some-clause-tally
-returns-in-Some-clause-tally g c =
+pub returns-in-Some : goal.returns-in-Some
+returns-in-Some g c =
     let lt : c.cycles.machine.cycle < c.args.to = omega arith in
-    absurd (never_stopped _ _ _ _ _ _ _ _ _ _ _ _ c.cycles.invariant c.number-cycle.ensures c.in-Some.ensures.way lt c.requires.to)
-
-pub returns-in-Some-clause-steps : goal.returns-in-Some-clause-steps
-returns-in-Some-clause-steps g c =
-    let lt : c.cycles.machine.cycle < c.args.to = omega arith in
-    absurd (never_stopped _ _ _ _ _ _ _ _ _ _ _ _ c.cycles.invariant c.number-cycle.ensures c.in-Some.ensures.way lt c.requires.to)
+    absurd (never_stopped _ _ _ _ _ _ _ _ _ _ _ _ _ c.cycles.invariant c.number-cycle.ensures c.in-Some.ensures.way lt c.requires.to)
 
 pub returns-clause-tally : goal.returns-clause-tally
 returns-clause-tally g c = counted_all _ _ _ _ _ _ _ _ _ c.cycles.invariant (omega arith)
