@@ -1,6 +1,6 @@
 use Rattle.std.proofs.Common.{◌+◌, ◌<◌, ◌≡◌, ◌≤◌, ◌∙◌, ap, sym, arith}
 use Rattle.outer_lane.specs.Setting.{setting_of}
-use Rattle.reverse_debug.proofs.Paths.{next_at, way_here, way_on, way_stopped, way_there, way_counts, way_passed}
+use Rattle.reverse_debug.proofs.Paths.{next_at, way_here, way_on, way_stopped, way_passed}
 use Rattle.reverse_debug.proofs.advance.advance.Goals as goal
 
 pub cycles-init : goal.cycles-init
@@ -39,23 +39,14 @@ cycles-preserved-then-is_due g c =
 
 pub returns-in-Some-clause-way : goal.returns-in-Some-clause-way
 returns-in-Some-clause-way g c =
-    let w = setting_of c.args.world.now.script.now (g.X.Device.meaning c.args.world.now.device.now) c.args.world.now.limit in
     let lt : c.cycles.machine.cycle < c.args.to = omega arith in
-    way_stopped w _ c.cycles.machine _ c.args.to _ _ _ c.cycles.invariant (sym c.in-Some.ensures.cause) lt c.in-Some.ensures.state
-
-pub returns-in-Some-clause-steps : goal.returns-in-Some-clause-steps
-returns-in-Some-clause-steps g c =
-    let w = setting_of c.args.world.now.script.now (g.X.Device.meaning c.args.world.now.device.now) c.args.world.now.limit in
-    way_counts w _ c.cycles.machine _ c.args.to _ _ _ c.cycles.invariant c.in-Some.ensures.state c.in-Some.ensures.steps
+    way_stopped _ _ c.cycles.machine _ c.args.to _ _ _ _ c.cycles.invariant (sym c.in-Some.ensures.cause) lt c.in-Some.ensures.state c.in-Some.ensures.steps
 
 pub returns-clause-way : goal.returns-clause-way
-returns-clause-way g c = way_there _ _ _ _ _ _ c.cycles.invariant
+returns-clause-way g c = c.cycles.invariant
 
 pub returns-clause-there : goal.returns-clause-there
 returns-clause-there g c = let within : c.cycles.machine.cycle ≤ c.args.to = c.cycles.invariant.within in omega arith
-
-pub returns-clause-steps : goal.returns-clause-steps
-returns-clause-steps g c = c.cycles.invariant.count
 
 pub cycle-requires : goal.cycle-requires
 cycle-requires g c = (c.type_bounds.sync-X, c.cycles.invariant.low)

@@ -17,6 +17,6 @@ pub returns-clause-way : goal.returns-clause-way
 returns-clause-way g c =
     let old = c.args.self.now in
     let reach : next_place old.ring old.now.cycle ≤ old.now.cycle + old.ring.spacing = next_reach old.ring old.now.cycle in
-    part_stretched _ _ _ _ _ _ _ _ _ _ c.self.view_is c.requires.stands c.seek-why.ensures.way (omega (arith, reach, c.next_stop-until.ensures.far))
+    part_stretched _ _ _ _ _ _ _ _ _ _ _ _ c.self.view_is c.requires.stands c.seek-why.ensures.way (omega (arith, reach, c.next_stop-until.ensures.far))
     c.next_stop-until.ensures.far c.next_stop-until.ensures.near c.keep.ensures.kept c.keep-2.ensures.kept
     (c.greater-self-inside.ensures ∙ ap (λ n. max c.self.inside.reached n) c.number.ensures)
