@@ -146,9 +146,6 @@ way_stopped w s t u to before now after why k stops lt e same =
     let so_far : now + s.cycle ≡ before + t.cycle = k.count in
     rw e (record { path = k.path; low = k.low; within = k.within; stopped = (stops, lt); count = omega arith })
 
-pub nearer_by_one : (t u : State) (n to : ℕ) → n ≡ t.cycle → u.cycle ≡ n + 1 → t.cycle < to → to - u.cycle < to - t.cycle
-nearer_by_one t u n to e one lt = omega arith
-
 -- ---- quiet times
 
 pub quiet_there : (w : Setting) (t u : State) (n : ℕ) → u ≡ states w t n → IsQuiet w t n → u.cycle ≡ t.cycle + n

@@ -37,9 +37,6 @@ next_least ring at c some begun none lt =
     let rest : (at - ring.origin) % ring.spacing ≤ at - ring.origin = mod-le (at - ring.origin) ring.spacing in
     omega arith
 
-pub next_reach : (ring : Snapshots) (at : ℕ) → next_place ring at ≤ at + ring.spacing
-next_reach ring at = omega arith
-
 -- the greatest multiple not above a cycle
 pub multiple_below : (c d : ℕ) → (c - c % d) % d ≡ 0
 multiple_below c d =

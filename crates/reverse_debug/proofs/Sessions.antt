@@ -40,9 +40,6 @@ some_closer d = omega arith
 limit_in_spacings : (limit : ℕ) → limit ≤ 64 * spacing_of limit
 limit_in_spacings limit = omega arith
 
-pub spacing_some : (w : Setting) (first : State) (s : Standing) → IsAlong w first s → 0 < s.ring.spacing
-spacing_some w first s k = k.ring.some
-
 now_in_spacings : (w : Setting) (first : State) (s : Standing) → IsAlong w first s → s.now.cycle ≤ 64 * s.ring.spacing
 now_in_spacings w first s k =
     let low : s.now.cycle ≤ w.limit = now_low w first s k in
@@ -62,7 +59,7 @@ multiple_kept w first s c k multiple le low =
 -- the first state is kept
 pub first_kept : (w : Setting) (first : State) (s : Standing) → IsAlong w first s → is_kept 0 s.ring.kept ≡ true
 first_kept w first s k =
-    let some : 0 < s.ring.spacing = spacing_some w first s k in
+    let some : 0 < s.ring.spacing = k.ring.some in
     multiple_kept w first s 0 k (zero-mod s.ring.spacing) (omega arith) (omega arith)
 
 -- each stretch below the present cycle begins with one that is kept
@@ -259,7 +256,7 @@ stays_far w old c s k kept e =
 -- the nearest kept state below a cycle that was passed is nearer than the spacing
 near_enough : (w : Setting) (old : Standing) (target found : ℕ) → StandsFor w old → IsGreatest target old.ring.kept found → target < old.now.cycle → target < found + old.ring.spacing
 near_enough w old target found k g lt =
-    let some : 0 < old.ring.spacing = spacing_some w (first_of old) old k in
+    let some : 0 < old.ring.spacing = k.ring.some in
     let rest : target % old.ring.spacing < old.ring.spacing = mod-lt target some in
     let most : target - target % old.ring.spacing ≤ found = g.greatest (target - target % old.ring.spacing) (every_now w (first_of old) old k target lt) (omega arith) in
     omega arith

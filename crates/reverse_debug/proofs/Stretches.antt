@@ -16,7 +16,7 @@ use Rattle.reverse_debug.specs.Search.{noted, tally}
 use Rattle.reverse_debug.specs.Session.{IsIn, AreOf, Spends, all_kept}
 use Rattle.reverse_debug.proofs.Paths.{joined, last_within, path_to_last}
 use Rattle.reverse_debug.proofs.Rings.{restored_cycle, within_of, begun_within, low_within}
-use Rattle.reverse_debug.proofs.Tallies.{few_of}
+use Rattle.reverse_debug.proofs.Tallies.{tally_none, tally_one, few_of}
 
 -- ---- a run up to a state on the way, and from there on
 
@@ -28,14 +28,6 @@ unfolding happens
 happens_on w f m watched n is =
     let there : states w f (m.cycle + n) ≡ states w m n = joined w f m.cycle n (m.cycle + n) refl ∙ ap (λ (x : State). states w x n) (sym is) in
     rw there refl
-
-tally_none : (w : Setting) (m : State) (watched : Watched) (most : ℕ) → tally w m watched most 0 ≡ record { count = 0; last = None }
-unfolding tally
-tally_none w m watched most = refl
-
-tally_one : (w : Setting) (m : State) (watched : Watched) (most n : ℕ) (was : Bool) → happens w m watched n ≡ was → tally w m watched most (suc n) ≡ noted most was (m.cycle + n) (tally w m watched most n)
-unfolding tally
-tally_one w m watched most n was is = rw is refl
 
 before_one : (w : Setting) (f : State) (watched : Watched) (k cycle : ℕ) (was : Bool) → happens w f watched cycle ≡ was → before_nth w f watched (suc k) (suc cycle) ≡ before_nth w f watched (cond was k (suc k)) cycle
 unfolding before_nth

@@ -1,5 +1,5 @@
 -- The times of what is watched, on a stretch of a run.
-use Rattle.std.proofs.Common.{◌≡◌, ℕ, zero, suc, ◌+◌, ◌-◌, ◌<◌, ◌≤◌, Bool, true, false, Option, Some, None, refl, sym, ap, subst, arith, ◌∙◌, add-one}
+use Rattle.std.proofs.Common.{◌≡◌, ℕ, zero, suc, ◌+◌, ◌-◌, ◌<◌, ◌≤◌, Bool, true, false, Option, Some, None, refl, sym, ap, subst, arith, ◌∙◌}
 use Rattle.rp_base.specs.declared.Why.{Why}
 use Rattle.outer_lane.specs.Setting.{Setting}
 use Rattle.rp_machine.specs.State.{State}
@@ -18,14 +18,18 @@ pub record Counting (w : Setting) (f t : State) (watched : Watched) (most to : �
   pub way : Advances w f to t None before now
   pub is : so_far ≡ tally w f watched most (t.cycle - f.cycle)
 
-none_yet : (w : Setting) (f : State) (watched : Watched) (most : ℕ) → (record { count = 0; last = None }) ≡ tally w f watched most 0
+pub tally_none : (w : Setting) (m : State) (watched : Watched) (most : ℕ) → tally w m watched most 0 ≡ record { count = 0; last = None }
 unfolding tally
-none_yet w f watched most = refl
+tally_none w m watched most = refl
+
+pub tally_one : (w : Setting) (m : State) (watched : Watched) (most n : ℕ) (was : Bool) → happens w m watched n ≡ was → tally w m watched most (suc n) ≡ noted most was (m.cycle + n) (tally w m watched most n)
+unfolding tally
+tally_one w m watched most n was is = rw is refl
 
 pub counting_here : (w : Setting) (f : State) (watched : Watched) (most to steps : ℕ) → f.cycle ≤ w.limit → f.cycle ≤ to → Counting w f f watched most to (record { count = 0; last = None }) steps steps
 counting_here w f watched most to steps low within =
     let e : f.cycle - f.cycle ≡ 0 = omega arith in
-    record { way = way_here w f to steps low within; is = none_yet w f watched most ∙ ap (tally w f watched most) (sym e) }
+    record { way = way_here w f to steps low within; is = sym (ap (tally w f watched most) e ∙ tally_none w f watched most) }
 
 pub by_cause : (w : Setting) (t u : State) (cause : Option Why) → stop w t ≡ cause → u ≡ states w t 1 → u.cycle ≡ t.cycle + 1 → u ≡ next w t
 by_cause w t u (Some why) h is one =
@@ -37,10 +41,6 @@ one_next : (w : Setting) (t u : State) (now after : ℕ) → Advances w t (t.cyc
 one_next w t u now after a one =
     let far : u.cycle - t.cycle ≡ 1 = omega arith in
     by_cause w t u (stop w t) refl (a.path.is ∙ ap (states w t) far) one
-
-more_by : (w : Setting) (f : State) (watched : Watched) (most n : ℕ) (was : Bool) → happens w f watched n ≡ was → tally w f watched most (n + 1) ≡ noted most was (f.cycle + n) (tally w f watched most n)
-unfolding tally
-more_by w f watched most n was is = rw (add-one n) (rw is refl)
 
 happens_next : (w : Setting) (f a b : State) (watched : Watched) (n : ℕ) → a ≡ states w f n → b ≡ next w a → happens w f watched n ≡ happens_by watched (seen watched a) (seen watched b)
 unfolding happens
@@ -56,13 +56,13 @@ counting_to w f t u watched most to so_far more before now after k a one lt one_
     let nexts : u ≡ next w t = one_next w t u now after a one in
     let same = happens_next w f t u watched (t.cycle - f.cycle) here nexts in
     let at : t.cycle ≡ f.cycle + (t.cycle - f.cycle) = omega arith in
-    let far : u.cycle - f.cycle ≡ (t.cycle - f.cycle) + 1 = omega arith in
+    let far : u.cycle - f.cycle ≡ suc (t.cycle - f.cycle) = omega arith in
     record {
       way = way_join w f t u to (t.cycle + 1) None before now after k.way a (omega arith);
       is =
           one_more ∙ ap (noted most (happens_by watched (seen watched t) (seen watched u)) t.cycle) k.is
           ∙ ap (λ m. noted most (happens_by watched (seen watched t) (seen watched u)) m (tally w f watched most (t.cycle - f.cycle))) at
-          ∙ sym (more_by w f watched most (t.cycle - f.cycle) (happens_by watched (seen watched t) (seen watched u)) same)
+          ∙ sym (tally_one w f watched most (t.cycle - f.cycle) (happens_by watched (seen watched t) (seen watched u)) same)
           ∙ ap (tally w f watched most) (sym far);
     }
 

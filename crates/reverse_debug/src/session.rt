@@ -43,13 +43,6 @@ fn place_after(ring: &Ring, at: u64, to: u64) -> u64
     if next < to { next } else { to }
 }
 
-/// The greater of two cycles.
-fn greater(one: u64, other: u64) -> u64
-    ensures { result ≡ max one other }
-{
-    if one < other { other } else { one }
-}
-
 /// The times that are left, where one of them was in this cycle or not.
 fn fewer(was: bool, left: u64) -> u64
     requires { 0 < left }
@@ -217,7 +210,7 @@ impl Session {
     {
         let until = self.next_stop(to);
         let why = advance(&mut self.machine, world, until, marks, steps);
-        self.reached = greater(self.reached, self.machine.number());
+        self.reached = self.reached.max(self.machine.number());
         self.ring.keep(&self.machine);
         self.near.keep(&self.machine);
         why
@@ -240,7 +233,7 @@ impl Session {
     {
         let until = self.next_stop(u64::MAX);
         let why = seek(&mut self.machine, world, watched, until, marks, steps);
-        self.reached = greater(self.reached, self.machine.number());
+        self.reached = self.reached.max(self.machine.number());
         self.ring.keep(&self.machine);
         self.near.keep(&self.machine);
         why

@@ -1,4 +1,4 @@
-use Rattle.std.proofs.Common.{◌<◌, ◌+◌, ◌≡◌, ap, sym, arith, ◌∙◌}
+use Rattle.std.proofs.Common.{◌+◌, ◌≡◌, ap, sym, arith, ◌∙◌}
 use Rattle.outer_lane.specs.Setting.{setting_of}
 use Rattle.reverse_debug.specs.Advance.{SeesAs}
 use Rattle.reverse_debug.specs.Reading.{sought}
@@ -14,16 +14,14 @@ cycles-init g c = unended_none _ _ _ _ _ (way_here _ _ _ _ c.requires.low (omega
 
 pub returns-then-ends_by : goal.returns-then-ends_by
 returns-then-ends_by g c =
-    let lt : c.cycles.machine.cycle < c.args.to = omega arith in
-    unended_ended _ (sought c.args.watched) _ c.cycles.machine c.cycle.new.self c.args.to _ _ _ c.cycles.invariant (sym c.in-None.ensures.cause) c.in-None.ensures.state lt c.in-None.ensures.steps
+    unended_ended _ (sought c.args.watched) _ c.cycles.machine c.cycle.new.self c.args.to _ _ _ c.cycles.invariant (sym c.in-None.ensures.cause) c.in-None.ensures.state (omega arith) c.in-None.ensures.steps
 
 -- one cycle more, behind which it has not ended
 on : (g : Over) (c : After-is_due g) → Unended (setting_of c.args.world.now.script.now (g.X.Device.meaning c.args.world.now.device.now) c.args.world.now.limit) (sought c.args.watched) c.args.machine.now c.cycle.new.self c.args.to c.args.steps.now c.cycle.new.steps
 on g c =
     let what = sought c.args.watched in
-    let lt : c.cycles.machine.cycle < c.args.to = omega arith in
     let same = sees_there _ _ c.cycles.machine what _ c.seen-before.ensures c.cycles.invariant.way.path c.cycles.invariant.none in
-    unended_cycle _ what _ c.cycles.machine c.cycle.new.self c.args.to _ _ _ _ c.cycles.invariant same (sym c.in-None.ensures.cause) c.in-None.ensures.state lt c.in-None.ensures.steps (sym (c.ends_by.ensures ∙ ap (ends_by what c.seen-before.result) c.seen.ensures) ∙ c.if-ends_by.false)
+    unended_cycle _ what _ c.cycles.machine c.cycle.new.self c.args.to _ _ _ _ c.cycles.invariant same (sym c.in-None.ensures.cause) c.in-None.ensures.state (omega arith) c.in-None.ensures.steps (sym (c.ends_by.ensures ∙ ap (ends_by what c.seen-before.result) c.seen.ensures) ∙ c.if-ends_by.false)
 
 sees : (g : Over) (c : After-is_due g) → SeesAs (sought c.args.watched) c.seen-before.result c.cycle.new.self
 sees g c = sees_there _ _ c.cycle.new.self (sought c.args.watched) _ c.seen-before.ensures (on g c).way.path (on g c).none
@@ -48,24 +46,19 @@ cycles-preserved-else-has_ended g c =
 
 pub cycles-smaller-else-has_ended : goal.cycles-smaller-else-has_ended
 cycles-smaller-else-has_ended g c =
-    let w = setting_of c.args.world.now.script.now (g.X.Device.meaning c.args.world.now.device.now) c.args.world.now.limit in
-    let lt : c.cycles.machine.cycle < c.args.to = omega arith in
-    let one = next_at w c.cycles.machine c.cycle.new.self c.in-None.ensures.state in
+    let one = next_at _ c.cycles.machine c.cycle.new.self c.in-None.ensures.state in
     let q = c.pass_seeking-passed.ensures in
     let number : c.pass_seeking-passed.new.machine.cycle ≡ c.cycle.new.self.cycle + c.pass_seeking-passed.result = ap (λ s. s.cycle) q.state ∙ q.quiet.cycle _ (omega arith) in
-    omega (arith, one, lt, number)
+    omega (arith, one, number)
 
 pub cycles-smaller : goal.cycles-smaller
 cycles-smaller g c =
-    let w = setting_of c.args.world.now.script.now (g.X.Device.meaning c.args.world.now.device.now) c.args.world.now.limit in
-    let lt : c.cycles.machine.cycle < c.args.to = omega arith in
-    let one = next_at w c.cycles.machine c.cycle.new.self c.in-None.ensures.state in
-    omega (arith, one, lt)
+    let one = next_at _ c.cycles.machine c.cycle.new.self c.in-None.ensures.state in
+    omega (arith, one)
 
 pub returns-in-Some : goal.returns-in-Some
 returns-in-Some g c =
-    let lt : c.cycles.machine.cycle < c.args.to = omega arith in
-    unended_at_stop _ (sought c.args.watched) _ c.cycles.machine _ c.args.to _ _ _ _ c.cycles.invariant (sym c.in-Some.ensures.cause) lt c.in-Some.ensures.state c.in-Some.ensures.steps
+    unended_at_stop _ (sought c.args.watched) _ c.cycles.machine _ c.args.to _ _ _ _ c.cycles.invariant (sym c.in-Some.ensures.cause) (omega arith) c.in-Some.ensures.state c.in-Some.ensures.steps
 
 pub returns : goal.returns
 returns g c = unended_there _ _ _ _ _ _ _ c.cycles.invariant c.requires.ahead (omega arith)
