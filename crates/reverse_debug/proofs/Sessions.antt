@@ -343,14 +343,8 @@ pub part_stretched : (w : Setting) (v old : Standing) (s : State) (ring near : S
     Advances w v.now until s why before after → until ≤ to → until ≤ next_place old.ring old.now.cycle → until ≤ next_place old.near old.now.cycle → ring ≡ kept_with s v.ring → near ≡ kept_with s v.near →
     reached ≡ max v.reached s.cycle → GoesOn w old to (record { now = s; ring = ring; near = near; limit = v.limit; reached = reached }) why before after
 part_stretched w v old s ring near reached to until why before after e k a le far close er en f =
-    let there : GoesOn w old to (behind s old) why before after = stretched w old s to until why before after k (subst (λ (x : Standing). Advances w x.now until s why before after) e a) le far close in
-    let same : record { now = s; ring = ring; near = near; limit = v.limit; reached = reached } ≡ behind s old =
-    ap (λ (r : Snapshots). record { now = s; ring = r; near = near; limit = v.limit; reached = reached }) er
-    ∙ ap (λ (r : Snapshots). record { now = s; ring = kept_with s v.ring; near = r; limit = v.limit; reached = reached }) en
-    ∙ ap (λ n. record { now = s; ring = kept_with s v.ring; near = kept_with s v.near; limit = v.limit; reached = n }) f
-    ∙ ap (behind s) e
-    in
-    subst (λ (x : Standing). GoesOn w old to x why before after) (sym same) there
+    rw (er, en, f) (subst (λ (x : Standing). GoesOn w old to (behind s x) why before after) (sym e)
+    (stretched w old s to until why before after k (subst (λ (x : Standing). Advances w x.now until s why before after) e a) le far close))
 
 -- v is what the parts stand for
 pub part_landed : (w : Setting) (v old : Standing) (target found now : ℕ) (s : State) (near mid : Snapshots) → v ≡ old → StandsFor w old → (nat_lt target old.now.cycle && is_within old.near.spacing old.near.origin target) ≡ false
@@ -363,12 +357,9 @@ part_landed w v old target found now s near mid e k out en g r far em ek =
       | inr is ↦ inr (ltb-true _ _ is)
     ] in
     let outside : target < old.now.cycle → IsIn old.near target → ⊥ = λ lt within. true≢false (sym (and_from _ _ (lt-ltb _ _ lt) within) ∙ out) in
-    let same : record { now = s; ring = v.ring; near = near; limit = v.limit; reached = v.reached } ≡ set_far s found old =
-    ap (λ (x : Snapshots). record { now = s; ring = v.ring; near = x; limit = v.limit; reached = v.reached }) (ek ∙ ap (kept_with s) em) ∙ ap (set_far s found) e
-    in
-    subst (λ (x : Standing). Lands w old target x) (sym same)
+    rw (ek, em) (subst (λ (x : Standing). Lands w old target (set_far s found x)) (sym e)
     (landed_far w old target found s k outside (subst (λ (x : Standing). IsGreatest target x.ring.kept found) e g)
-    (subst (λ (x : Standing). s ≡ restored (state_at found x.ring.kept) x.now) e r) ways)
+    (subst (λ (x : Standing). s ≡ restored (state_at found x.ring.kept) x.now) e r) ways))
 
 pub part_close : (w : Setting) (v old : Standing) (target found : ℕ) (s : State) → v ≡ old → StandsFor w old → (nat_lt target old.now.cycle && is_within old.near.spacing old.near.origin target) ≡ true →
     IsGreatest target v.near.kept found → s ≡ restored (state_at found v.near.kept) v.now → Lands w old target (record { now = s; ring = v.ring; near = v.near; limit = v.limit; reached = v.reached })
@@ -461,9 +452,4 @@ opened machine s limit spacing r n ring near begins small er esp en ek ekn es =
     let d : spacing ≡ spacing_of limit = esp ∙ ap (λ (x : Snapshots). x.spacing) er in
     let one : ring ≡ kept_with machine (empty (spacing_of limit) 0) = ek ∙ ap (kept_with machine) er in
     let two : near ≡ kept_with machine (empty (near_spacing (spacing_of limit)) 0) = ekn ∙ ap (kept_with machine) (en ∙ ap (λ m. empty (near_spacing m) 0) d) in
-    let same : record { now = s; ring = ring; near = near; limit = limit; reached = 0 } ≡ at_first machine limit =
-    ap (λ (x : State). record { now = x; ring = ring; near = near; limit = limit; reached = 0 }) es
-    ∙ ap (λ (x : Snapshots). record { now = machine; ring = x; near = near; limit = limit; reached = 0 }) one
-    ∙ ap (λ (x : Snapshots). record { now = machine; ring = kept_with machine (empty (spacing_of limit) 0); near = x; limit = limit; reached = 0 }) two
-    in
-    subst (λ (x : Standing). OpensAt machine limit x) (sym same) (opens machine limit begins small)
+    rw (es, one, two) (opens machine limit begins small)
