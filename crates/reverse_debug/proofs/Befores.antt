@@ -5,11 +5,12 @@ use Rattle.rp_machine.specs.State.{State}
 use Rattle.rp_base.specs.Alias.{or_zero}
 use Rattle.reverse_debug.specs.Command.{Watched}
 use Rattle.reverse_debug.specs.Reply.{last_cycle, before_nth, search_cost, move_cost, Said, at_or_start, moved_to}
-use Rattle.reverse_debug.specs.Session.{Standing, first_in, first_of, IsIn, AreOf, StandsFor, Lands, Does, Moves, FindsNear}
+use Rattle.reverse_debug.specs.Session.{Standing, first_in, first_of, IsIn, AreOf, StandsFor, Lands, Does, Moves, FindsNear, Spends}
 use Rattle.std.specs.Prelude.{codes}
 use Rattle.reverse_debug.proofs.Moves.{moved_within, started, text_written}
 use Rattle.reverse_debug.proofs.Stretches.{before_within}
-use Rattle.reverse_debug.proofs.Rings.{restored_any, kept_first, kept_second, both_of_run}
+use Rattle.reverse_debug.proofs.Rings.{restored_any, both_of_run}
+use Rattle.snap_ring.proofs.Nearest.{kept_first, kept_second}
 use Rattle.reverse_debug.proofs.Sessions.{first_kept, every_now, close_now, now_in_last}
 
 -- v is what the parts of the session stand for, and s any machine's state
@@ -41,18 +42,9 @@ same_before w v old s watched count now found e k en h =
     h ∙ ap (λ (x : State). before_nth w x watched count now) (same_first w v old s e k) ∙ ap (before_nth w (first_of old) watched count) en
 
 -- v is what the parts of the session stand for
-pub search_near : (v old : Standing) (count now before after : ℕ) (found : Option ℕ) → v ≡ old → now ≡ old.now.cycle → after ≤ before + search_cost v.ring.spacing count now found → after ≤ before + search_cost old.ring.spacing count old.now.cycle found
-search_near v old count now before after found e en h =
-    subst (λ n. after ≤ before + search_cost old.ring.spacing count n found) en
-    (subst (λ (x : Standing). after ≤ before + search_cost x.ring.spacing count now found) e h)
-
--- within the near stretch
-pub search_close : (v old : Standing) (count now before after : ℕ) (found : Option ℕ) → v ≡ old → now ≡ old.now.cycle
-    → (FindsNear v.near count now (or_zero found) → after ≤ before + search_cost v.near.spacing count now found)
-    → FindsNear old.near count old.now.cycle (or_zero found) → after ≤ before + search_cost old.near.spacing count old.now.cycle found
-search_close v old count now before after found e en h =
-    subst (λ n. FindsNear old.near count n (or_zero found) → after ≤ before + search_cost old.near.spacing count n found) en
-    (subst (λ (x : Standing). FindsNear x.near count now (or_zero found) → after ≤ before + search_cost x.near.spacing count now found) e h)
+pub spent_same : (v old : Standing) (count now before after : ℕ) (found : Option ℕ) → v ≡ old → now ≡ old.now.cycle → Spends v.ring v.near count now before after found → Spends old.ring old.near count old.now.cycle before after found
+spent_same v old count now before after found e en h =
+    subst (λ n. Spends old.ring old.near count n before after found) en (subst (λ (x : Standing). Spends x.ring x.near count now before after found) e h)
 
 -- ---- moves back
 

@@ -1,7 +1,8 @@
 -- Numbers read digit by digit from the front.
-use Rattle.std.proofs.Common.{◌≡◌, ◌<◌, ℕ, ◌+◌, ◌*◌, ◌^◌, Bool, cond, if◌then◌else◌, List, [], ◌∷◌, length, drop, ◌≤◌, suc, zero, Option, Some, None, inl, inr, refl, sym, ap, arith, ◌∙◌}
+use Rattle.std.proofs.Common.{◌≡◌, ◌<◌, ℕ, ◌+◌, ◌*◌, ◌^◌, Bool, cond, if◌then◌else◌, List, [], ◌∷◌, length, drop, ◌≤◌, Option, Some, None, inl, inr, refl, sym, ap, arith, ◌∙◌}
 use Rattle.std.proofs.Math.Nat.{pow-zero, pow-succ', pow-le-pow_right}
 use Rattle.std.proofs.lemmas.Bool.{cases_Bool}
+use Rattle.std.proofs.lemmas.List.{drop_all}
 use Rattle.std.specs.List.{list_all}
 use Rattle.reverse_debug.specs.Command.{value_in}
 
@@ -41,15 +42,9 @@ zero_first base value ds = grind arith
 pub by_weights : (base : ℕ) (ok : ℕ → Bool) (value : ℕ → ℕ) (ds : List ℕ) → digits_from base ok value 0 ds ≡ (if list_all ok ds then Some (value_in base value ds) else None)
 by_weights base ok value ds = from_front base ok value 0 ds ∙ ap (λ k. cond (list_all ok ds) (Some k) None) (zero_first base value ds)
 
-drop-all : (i : ℕ) (ds : List ℕ) → length ds ≤ i → drop i ds ≡ []
-drop-all zero [] le = refl
-drop-all zero (d ∷ ds) le = absurd (omega arith)
-drop-all (suc i) [] le = refl
-drop-all (suc i) (d ∷ ds) le = drop-all i ds (omega arith)
-
 -- all digits are read
 pub all_read : (base : ℕ) (ok : ℕ → Bool) (value : ℕ → ℕ) (n i : ℕ) (ds : List ℕ) → digits_from base ok value 0 ds ≡ digits_from base ok value n (drop i ds) → length ds ≤ i → Some n ≡ (if list_all ok ds then Some (value_in base value ds) else None)
-all_read base ok value n i ds so_far end = sym (so_far ∙ ap (digits_from base ok value n) (drop-all i ds end)) ∙ by_weights base ok value ds
+all_read base ok value n i ds so_far end = sym (so_far ∙ ap (digits_from base ok value n) (drop_all i ds end)) ∙ by_weights base ok value ds
 
 -- the value of at most 8 hexadecimal digits
 pub low_value : (n i : ℕ) → n < 16 ^ i → i ≤ 8 → n < 4294967296

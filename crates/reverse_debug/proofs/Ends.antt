@@ -23,8 +23,8 @@ use Rattle.reverse_debug.specs.Command.{Watched}
 use Rattle.reverse_debug.specs.Command.Watched.{Word, Pin, Begun}
 use Rattle.reverse_debug.specs.Reading.{sought}
 use Rattle.reverse_debug.specs.Reply.{seen, is_begun, ends, ends_by}
-use Rattle.reverse_debug.specs.Advance.{Advances, CountsMove, NoneEnds, EndsAtLast, SeesAs}
-use Rattle.reverse_debug.proofs.Paths.{Path, Way, joined, one_on, none_first, states_within, next_at, way_on, way_passed, way_stopped, way_there, quiet_there}
+use Rattle.reverse_debug.specs.Advance.{Path, Advances, Approaches, NoneEnds, SeesAs}
+use Rattle.reverse_debug.proofs.Paths.{joined, one_on, none_first, states_within, next_at, way_on, way_passed, way_stopped, quiet_there}
 
 -- ---- what was seen before
 
@@ -137,10 +137,10 @@ none_by w t watched b m same goes none (suc j) lt =
 -- ---- on the way to a cycle, or to the first end
 
 pub record Unended (w : Setting) (watched : Watched) (s t : State) (to before now : ℕ) : Type 0 where
-  pub way : Way w s t to before now
+  pub way : Advances w s to t None before now
   pub none : NoneEnds w watched s (t.cycle - s.cycle)
 
-pub unended_none : (w : Setting) (watched : Watched) (s : State) (to steps : ℕ) → Way w s s to steps steps → Unended w watched s s to steps steps
+pub unended_none : (w : Setting) (watched : Watched) (s : State) (to steps : ℕ) → Advances w s to s None steps steps → Unended w watched s s to steps steps
 unended_none w watched s to steps way = record { way = way; none = λ k lt. absurd (omega arith) }
 
 some_passed : (n : ℕ) (b : Bool) → (nat_lt 0 n && b) ≡ true → 0 < n
@@ -150,13 +150,6 @@ some_passed n b h = elim (cases_lt 0 n) [
       let none : nat_lt 0 n ≡ false = grind (arith, nat_tests) in
       absurd (let bad : false ≡ true = sym (ap (λ t. t && b) none) ∙ h in cc bad)
 ]
-
--- it has come behind an end, or to the cycle
-pub record Found (w : Setting) (watched : Watched) (s u : State) (to before now : ℕ) : Type 0 where
-  pub way : Advances w s to u None
-  pub none : EndsAtLast w watched s u None
-  pub ahead : s.cycle < u.cycle
-  pub count : CountsMove s u before now
 
 -- cycles that were passed at once, where the last of them is no end
 pub unended_passed : (w : Setting) (watched : Watched) (s t u : State) (to before now after b n most : ℕ) → Unended w watched s t to before now → SeesAs watched b t
@@ -184,18 +177,17 @@ unended_passed w watched s t u to before now after b n most h same e quiet withi
 pub unended_found : (w : Setting) (watched : Watched) (s t u : State) (to before now after b n most : ℕ) → Unended w watched s t to before now → SeesAs watched b t
     → u ≡ states w t n → IsQuiet w t n → (0 < n → t.cycle + n ≤ most) → most ≤ to → most ≤ w.limit → after ≡ now + n
     → ((k : ℕ) → k + 1 < n → ends_by watched b (seen watched (states w t (k + 1))) ≡ false) → (nat_lt 0 n && ends_by watched b (seen watched u)) ≡ true
-    → Found w watched s u to before after
+    → Approaches w watched s to u None before after
 unended_found w watched s t u to before now after b n most h same e quiet within near low count none is =
     let some = some_passed n (ends_by watched b (seen watched u)) is in
     let way = way_passed w s t u to before now after n most h.way e quiet within near low count in
     let cycle : u.cycle ≡ t.cycle + n = quiet_there w t u n e quiet in
     let from : s.cycle ≤ t.cycle = h.way.path.forward in
     record {
-      way = way_there w s u to before after way;
+      way = way;
       none = λ k lt. none_join w s t watched (t.cycle - s.cycle) (n - 1) h.way.path.is h.none
           (none_by w t watched b (n - 1) same (λ i below. quiet.goes i (omega arith)) (λ i below. none i (omega arith))) k (omega arith);
       ahead = omega (arith, some);
-      count = way.count;
     }
 
 -- one cycle more
@@ -220,20 +212,16 @@ unended_cycle w watched s t u to before now after b h same none e lt count last 
     }
 
 pub unended_ended : (w : Setting) (watched : Watched) (s t u : State) (to before now after : ℕ) → Unended w watched s t to before now
-    → stop w t ≡ None → u ≡ next w t → t.cycle < to → after ≡ now + 1 → Found w watched s u to before after
+    → stop w t ≡ None → u ≡ next w t → t.cycle < to → after ≡ now + 1 → Approaches w watched s to u None before after
 unended_ended w watched s t u to before now after h none e lt count =
     let one : u.cycle ≡ t.cycle + 1 = next_at w t u e in
     let from : s.cycle ≤ t.cycle = h.way.path.forward in
-    let way = way_on w s t u to before now after h.way none e lt count in
-    record { way = way_there w s u to before after way; none = λ k below. h.none k (omega arith); ahead = omega arith; count = way.count }
+    record { way = way_on w s t u to before now after h.way none e lt count; ahead = omega arith; none = λ k below. h.none k (omega arith) }
 
-pub unended_at_stop : (w : Setting) (watched : Watched) (s t u : State) (to before now : ℕ) (why : Why) → Unended w watched s t to before now → stop w t ≡ Some why → t.cycle < to → u ≡ t
-    → (Advances w s to u (Some why)) × (EndsAtLast w watched s u (Some why))
-unended_at_stop w watched s t u to before now why h stops lt e = (
-  way_stopped w s t u to before now why h.way stops lt e,
-  subst (λ (x : State). NoneEnds w watched s (x.cycle - s.cycle)) (sym e) h.none,
-)
+pub unended_at_stop : (w : Setting) (watched : Watched) (s t u : State) (to before now after : ℕ) (why : Why) → Unended w watched s t to before now → stop w t ≡ Some why → t.cycle < to → u ≡ t → after ≡ now
+    → Approaches w watched s to u (Some why) before after
+unended_at_stop w watched s t u to before now after why h stops lt e same =
+    record { way = way_stopped w s t u to before now after why h.way stops lt e same; ahead = tt; none = subst (λ (x : State). NoneEnds w watched s (x.cycle - s.cycle)) (sym e) h.none }
 
-pub unended_there : (w : Setting) (watched : Watched) (s t : State) (to before now : ℕ) → Unended w watched s t to before now → s.cycle < to → to ≤ t.cycle → Found w watched s t to before now
-unended_there w watched s t to before now h lt le =
-    record { way = way_there w s t to before now h.way; none = λ k below. h.none k (omega arith); ahead = omega arith; count = h.way.count }
+pub unended_there : (w : Setting) (watched : Watched) (s t : State) (to before now : ℕ) → Unended w watched s t to before now → s.cycle < to → to ≤ t.cycle → Approaches w watched s to t None before now
+unended_there w watched s t to before now h lt le = record { way = h.way; ahead = omega arith; none = λ k below. h.none k (omega arith) }

@@ -14,7 +14,7 @@ complete_append held (b ∷ bs) ys =
       | false ↦ complete_append (held ++ b ∷ []) bs ys
     ]
 
-pub open_append : (held xs ys : List ℕ) → open_from held (xs ++ ys) ≡ open_from (open_from held xs) ys
+open_append : (held xs ys : List ℕ) → open_from held (xs ++ ys) ≡ open_from (open_from held xs) ys
 open_append held [] ys = refl
 open_append held (b ∷ bs) ys =
     elim (b == 10) as (λ t. (if t then open_from [] (bs ++ ys) else open_from (held ++ b ∷ []) (bs ++ ys)) ≡ open_from (if t then open_from [] bs else open_from (held ++ b ∷ []) bs) ys) [
@@ -25,7 +25,7 @@ open_append held (b ∷ bs) ys =
 -- ---- the bytes of one line more
 
 -- up to its LF
-pub complete_line : (held line rest : List ℕ) → HasNoEnd line → complete_from held (line ++ 10 ∷ rest) ≡ without_cr (held ++ line) ∷ complete_from [] rest
+complete_line : (held line rest : List ℕ) → HasNoEnd line → complete_from held (line ++ 10 ∷ rest) ≡ without_cr (held ++ line) ∷ complete_from [] rest
 complete_line held [] rest none = ap (λ l. without_cr l ∷ complete_from [] rest) (sym (append-nil held))
 complete_line held (b ∷ bs) rest none = elim (b == 10) as (λ t. t ≡ false → (if t then without_cr held ∷ complete_from [] (bs ++ 10 ∷ rest) else complete_from (held ++ b ∷ []) (bs ++ 10 ∷ rest)) ≡ without_cr (held ++ b ∷ bs) ∷ complete_from [] rest) [
   | true ↦ λ e. absurd (cc e)
@@ -74,7 +74,7 @@ all_open seen line whole none =
 
 -- ---- last lines
 
-pub has_last_more : (last : List ℕ → Bool) (xs ys : List (List ℕ)) → has_last last xs ≡ true → has_last last (xs ++ ys) ≡ true
+has_last_more : (last : List ℕ → Bool) (xs ys : List (List ℕ)) → has_last last xs ≡ true → has_last last (xs ++ ys) ≡ true
 has_last_more last [] ys h = absurd (cc h)
 has_last_more last (x ∷ xs) ys h = elim (last x) as (λ b. (b || has_last last xs) ≡ true → (b || has_last last (xs ++ ys)) ≡ true) [
   | true ↦ λ e. refl
@@ -110,12 +110,10 @@ until_both last (x ∷ xs) ys h = elim (last x) as (λ b. (b || has_last last xs
 pub until_all : (last : List ℕ → Bool) (xs : List (List ℕ)) → has_last last xs ≡ false → until last xs ≡ xs
 until_all last xs h = sym (ap (until last) (append-nil xs)) ∙ until_both last xs [] h ∙ append-nil xs
 
--- up to a last line behind lines that are none
-pub until_last : (last : List ℕ → Bool) (xs more : List (List ℕ)) (line : List ℕ) → has_last last xs ≡ false → last line ≡ true → until last (xs ++ line ∷ more) ≡ xs
-until_last last xs more line none is = until_both last xs (line ∷ more) none ∙ ap (λ l. xs ++ l) (rw is refl) ∙ append-nil xs
-
-pub last_closes : (last : List ℕ → Bool) (xs more : List (List ℕ)) (line : List ℕ) → has_last last xs ≡ false → last line ≡ true → has_last last (xs ++ line ∷ more) ≡ true
-last_closes last xs more line none is = has_last_both last xs (line ∷ more) none ∙ rw is refl
-
-pub until_other : (last : List ℕ → Bool) (xs more : List (List ℕ)) (line : List ℕ) → has_last last xs ≡ false → last line ≡ false → until last (xs ++ line ∷ more) ≡ xs ++ line ∷ until last more
-until_other last xs more line none is = until_both last xs (line ∷ more) none ∙ ap (λ l. xs ++ l) (rw is refl)
+-- lines behind others come behind those that are left of them
+pub until_front : (last : List ℕ → Bool) (xs ys : List (List ℕ)) → (zs : List (List ℕ)) × (until last (xs ++ ys) ≡ until last xs ++ zs)
+until_front last [] ys = (until last ys, refl)
+until_front last (x ∷ xs) ys = elim (last x) as (λ b. (zs : List (List ℕ)) × ((if b then [] else x ∷ until last (xs ++ ys)) ≡ (if b then [] else x ∷ until last xs) ++ zs)) [
+  | true ↦ ([], refl)
+  | false ↦ let more = until_front last xs ys in (more.0, ap (λ l. x ∷ l) more.1)
+]

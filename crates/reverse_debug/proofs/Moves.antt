@@ -11,16 +11,15 @@ use Rattle.rp_machine.specs.Cycle.{stop}
 use Rattle.rp_machine.specs.Run.{last_state}
 use Rattle.reverse_debug.specs.Reply.{Said, said, last_cycle, at_last, at_or_last, at_or_start, before_nth, behind_next, at_reply, moved_to, moved_back, move_cost, answer, heard, command_cost, cost}
 use Rattle.reverse_debug.specs.Command.{Command, is_quit, command_of}
-use Rattle.reverse_debug.specs.Command.Command.{Step, Back, Goto, End, Regs, Mem, Pins, Pio, Peek, Until, Before, Last, Quit, Bad}
+use Rattle.reverse_debug.specs.Command.Command.{Step, Back, Goto, End, Until, Before}
 use Rattle.reverse_debug.specs.declared.command.Command.{Command as Asked}
 use Rattle.reverse_debug.specs.declared.command.Command.TheVariants as code
 use Rattle.reverse_debug.specs.Reading.{meant, Fits}
-use Rattle.reverse_debug.specs.Advance.{CountsMove}
 use Rattle.snap_ring.specs.Ring.{Snapshots}
-use Rattle.reverse_debug.specs.Session.{Standing, first_of, IsIn, StandsFor, StaysFor, GoesOn, Lands, Does, Moves, IsNearBy}
+use Rattle.reverse_debug.specs.Session.{Standing, first_of, StandsFor, StaysFor, Goes, GoesOn, Lands, Does, Moves, IsNearBy}
 use Rattle.reverse_debug.proofs.Paths.{path_last, last_within}
 use Rattle.reverse_debug.proofs.Rings.{in_same}
-use Rattle.reverse_debug.proofs.Sessions.{now_in_last, now_low, path_of, stays_here, stays_on}
+use Rattle.reverse_debug.proofs.Sessions.{now_in_last, now_low, path_of, stays_on, goes_here}
 
 -- ---- what a move is
 
@@ -36,6 +35,11 @@ moved_beyond w f t why target last stops lt =
     let s : stop w (last_state w f) ≡ Some why = ap (stop w) last ∙ stops in
     rw yes (rw s (ap (λ n. said n (stop_text why n)) e))
 
+-- where it has come to a stop, the run ends
+pub last_at : (w : Setting) (old new : Standing) (why : Why) → StaysFor w old new → stop w new.now ≡ Some why → last_state w (first_of old) ≡ new.now
+last_at w old new why stays stops =
+    ap (last_state w) (sym stays.first) ∙ path_last w (first_of new) new.now why (path_of w (first_of new) new stays.stands) stops (now_low w (first_of new) new stays.stands)
+
 -- ---- what a move costs
 
 pub move_within : (d c m t before after : ℕ) → after + m ≡ before + t → m ≤ t → (t < c → t < m + d) → (c ≤ t → c ≤ m) → after ≤ before + move_cost d c t
@@ -50,126 +54,74 @@ move_within d c m t before after count le back ahead = elim (cases_lt t c) [
       rw isnt (omega arith)
 ]
 
--- ---- a move to a cycle: first to a kept state, and then forward
+-- ---- a move: first to a kept state, and then forward
 
--- the near stretch of the kept state is that of the session behind it
-in_mid : (w : Setting) (mid new : Standing) (to : ℕ) (why : Option Why) → GoesOn w mid to new why → (c e : ℕ) → e ≡ c → IsIn mid.near c → IsIn new.near e
-in_mid w mid new to why go c e same h = in_same mid.near new.near c e go.stays.closer go.stretch same h
+pub arrived : (w : Setting) (old mid new : Standing) (target : ℕ) (reply : List ℕ) (before after : ℕ) → Lands w old target mid → Goes w mid new before after → new.now.cycle ≤ target → (new.now.cycle < old.now.cycle → new.now.cycle ≡ target) →
+    Moves w old (said new.now.cycle reply) new reply before after
+arrived w old mid new target reply before after land go within far =
+    let on : mid.now.cycle ≤ new.now.cycle = go.forward in
+    let count : after + mid.now.cycle ≡ before + new.now.cycle = go.count in
+    record {
+      stays = stays_on w old mid new go.forward land.stays go.stays;
+      cycle = refl;
+      said = refl;
+      forward = omega arith;
+      steps = move_within old.ring.spacing old.now.cycle mid.now.cycle new.now.cycle before after count on (λ lt. let there = far lt in let near = land.back (omega arith) in omega arith) (λ le. land.ahead (omega arith));
+      near = λ inside. move_within old.near.spacing old.now.cycle mid.now.cycle new.now.cycle before after count on
+          (λ lt. let there = far lt in let near = land.near (omega arith) (in_same old.near old.near new.now.cycle target refl refl (sym there) inside) in omega arith) (λ le. land.ahead (omega arith));
+      back = λ lt. let there = far lt in in_same mid.near new.near target new.now.cycle go.stays.closer go.stretch there (land.stretch (omega arith));
+      same = λ is inside. (
+          let from : old.now.cycle ≤ mid.now.cycle = land.ahead (omega arith) in
+          in_same old.near new.near old.now.cycle new.now.cycle (go.stays.closer ∙ land.stays.closer) (go.stretch ∙ land.same (omega arith)) is inside
+          );
+    }
 
--- where the session stands as it stood, it is that of before
-in_old : (w : Setting) (old mid new : Standing) (target to : ℕ) (why : Option Why) → Lands w old target mid → GoesOn w mid to new why → mid.now.cycle ≡ old.now.cycle → new.now.cycle ≡ old.now.cycle
-    → IsIn old.near old.now.cycle → IsIn new.near new.now.cycle
-in_old w old mid new target to why land go at is h =
-    in_mid w mid new to why go old.now.cycle new.now.cycle is (in_same old.near mid.near old.now.cycle old.now.cycle land.stays.closer (land.same at) refl h)
-
-pub moved_there : (w : Setting) (old mid new : Standing) (target : ℕ) (reply : List ℕ) (before after : ℕ) → StandsFor w old → Lands w old target mid → GoesOn w mid target new None →
-    new.now.cycle ≡ target → CountsMove mid.now new.now before after → reply ≡ at_reply target →
-    Moves w old (moved_to w (first_of old) target) new reply before after
-moved_there w old mid new target reply before after k land go there count is =
-    let stays : StaysFor w old new = stays_on w old mid new go.forward land.stays go.stays in
+pub moved_there : (w : Setting) (old mid new : Standing) (target : ℕ) (reply : List ℕ) (before after : ℕ) → StandsFor w old → Lands w old target mid → GoesOn w mid target new None before after →
+    new.now.cycle ≡ target → reply ≡ at_reply target → Moves w old (moved_to w (first_of old) target) new reply before after
+moved_there w old mid new target reply before after k land go there is =
+    let stays : StaysFor w old new = stays_on w old mid new go.goes.forward land.stays go.goes.stays in
     let last : new.now.cycle ≤ last_cycle w (first_of new) = now_in_last w (first_of new) new stays.stands in
     let same : last_cycle w (first_of new) ≡ last_cycle w (first_of old) = ap (last_cycle w) stays.first in
-    let what = moved_within w (first_of old) target (omega arith) in
-    let le : mid.now.cycle ≤ target = land.below in
-    subst (λ (x : Said). Moves w old x new reply before after) (sym what) (record {
-      stays = stays;
-      cycle = there;
-      said = is;
-      forward = omega arith;
-      steps = move_within old.ring.spacing old.now.cycle mid.now.cycle target before after (omega arith) le land.back land.ahead;
-      near = λ within. move_within old.near.spacing old.now.cycle mid.now.cycle target before after (omega arith) le (λ lt. land.near lt within) land.ahead;
-      back = λ lt. in_mid w mid new target None go target new.now.cycle there (land.stretch (omega arith));
-      same = λ is within. (
-          let from : old.now.cycle ≤ mid.now.cycle = land.ahead (omega arith) in
-          in_old w old mid new target target None land go (omega arith) is within
-          );
-    })
+    let what = ap (λ n. said n reply) there ∙ ap (said target) is ∙ sym (moved_within w (first_of old) target (omega arith)) in
+    subst (λ (x : Said). Moves w old x new reply before after) what (arrived w old mid new target reply before after land go.goes go.within (λ _. there))
 
-pub moved_stopped : (w : Setting) (old mid new : Standing) (target : ℕ) (why : Why) (reply : List ℕ) (before after : ℕ) → StandsFor w old → Lands w old target mid → GoesOn w mid target new (Some why) →
-    CountsMove mid.now new.now before after → reply ≡ stop_text why new.now.cycle →
-    Moves w old (moved_to w (first_of old) target) new reply before after
-moved_stopped w old mid new target why reply before after k land go count is =
-    let stays : StaysFor w old new = stays_on w old mid new go.forward land.stays go.stays in
-    let stops = go.stopped.0 in
-    let lt : new.now.cycle < target = go.stopped.1 in
-    let last_new : last_state w (first_of new) ≡ new.now =
-    path_last w (first_of new) new.now why (path_of w (first_of new) new stays.stands) stops (now_low w (first_of new) new stays.stands)
-    in
-    let last : last_state w (first_of old) ≡ new.now = ap (last_state w) (sym stays.first) ∙ last_new in
+pub moved_stopped : (w : Setting) (old mid new : Standing) (target : ℕ) (why : Why) (reply : List ℕ) (before after : ℕ) → StandsFor w old → Lands w old target mid → GoesOn w mid target new (Some why) before after →
+    reply ≡ stop_text why new.now.cycle → Moves w old (moved_to w (first_of old) target) new reply before after
+moved_stopped w old mid new target why reply before after k land go is =
+    let stays : StaysFor w old new = stays_on w old mid new go.goes.forward land.stays go.goes.stays in
+    let last = last_at w old new why stays go.stopped.0 in
     let here : old.now.cycle ≤ last_cycle w (first_of old) = now_in_last w (first_of old) old k in
     let end : last_cycle w (first_of old) ≡ new.now.cycle = ap (λ (x : State). x.cycle) last in
-    let what = moved_beyond w (first_of old) new.now why target last stops lt in
-    let on : mid.now.cycle ≤ new.now.cycle = go.forward in
-    let from : old.now.cycle ≤ mid.now.cycle = land.ahead (omega arith) in
-    subst (λ (x : Said). Moves w old x new reply before after) (sym what) (record {
-      stays = stays;
-      cycle = refl;
-      said = is;
-      forward = omega arith;
-      steps = move_within old.ring.spacing old.now.cycle mid.now.cycle new.now.cycle before after count on (λ bad. absurd (omega arith)) (λ _. from);
-      near = λ _. move_within old.near.spacing old.now.cycle mid.now.cycle new.now.cycle before after count on (λ bad. absurd (omega arith)) (λ _. from);
-      back = λ bad. absurd (omega arith);
-      same = λ is within. in_old w old mid new target target (Some why) land go (omega arith) is within;
-    })
+    let what = ap (said new.now.cycle) is ∙ sym (moved_beyond w (first_of old) new.now why target last go.stopped.0 go.stopped.1) in
+    subst (λ (x : Said). Moves w old x new reply before after) what (arrived w old mid new target reply before after land go.goes go.within (λ bad. absurd (omega arith)))
 
 -- ---- a move back
-
-back_to_start : (w : Setting) (f : State) (cycle back : ℕ) → cycle < back → moved_back w f cycle back ≡ said 0 (codes "at start\n")
-unfolding moved_back
-back_to_start w f cycle back lt = let yes : nat_lt cycle back ≡ true = grind (arith, nat_tests) in rw yes refl
-
-back_within : (w : Setting) (f : State) (cycle back : ℕ) → back ≤ cycle → cycle ≤ last_cycle w f → moved_back w f cycle back ≡ moved_to w f (cycle - back)
-unfolding moved_back
-back_within w f cycle back le last =
-    let isnt : nat_lt cycle back ≡ false = grind (arith, nat_tests) in
-    rw isnt (sym (moved_within w f (cycle - back) (omega arith)))
 
 -- the start is kept, so it is reached without a step
 pub started : (w : Setting) (old new : Standing) (reply : List ℕ) (steps : ℕ) → Lands w old 0 new → reply ≡ codes "at start\n" → Moves w old (said 0 (codes "at start\n")) new reply steps steps
 started w old new reply steps land is =
     let low : new.now.cycle ≤ 0 = land.below in
-    record {
-      stays = land.stays;
-      cycle = omega arith;
-      said = is;
-      forward = omega arith;
-      steps = omega arith;
-      near = λ _. omega arith;
-      back = λ lt. in_same new.near new.near 0 new.now.cycle refl refl (omega arith) (land.stretch (omega arith));
-      same = λ at within. in_same old.near new.near old.now.cycle new.now.cycle land.stays.closer (land.same at) at within;
-    }
+    subst (λ (x : Said). Moves w old x new reply steps steps) (ap (λ n. said n reply) (omega arith) ∙ ap (said 0) is)
+    (arrived w old new new 0 reply steps steps land (goes_here w new steps land.stays.stands) low (λ _. omega arith))
 
-pub moved_to_start : (w : Setting) (old new : Standing) (back : ℕ) (reply : List ℕ) (steps : ℕ) → Lands w old 0 new → old.now.cycle < back → reply ≡ codes "at start\n" →
-    Moves w old (moved_back w (first_of old) old.now.cycle back) new reply steps steps
-moved_to_start w old new back reply steps land lt is =
-    subst (λ (x : Said). Moves w old x new reply steps steps) (sym (back_to_start w (first_of old) old.now.cycle back lt)) (started w old new reply steps land is)
+pub moved_to_start : (w : Setting) (old new : Standing) (back : ℕ) (reply : List ℕ) (steps : ℕ) → Lands w old 0 new → old.now.cycle < back → reply ≡ codes "at start\n" → Moves w old (moved_back w (first_of old) old.now.cycle back) new reply steps steps
+unfolding moved_back
+moved_to_start w old new back reply steps land lt is = let yes : nat_lt old.now.cycle back ≡ true = grind (arith, nat_tests) in rw yes (started w old new reply steps land is)
 
-pub moved_back_to : (w : Setting) (old new : Standing) (back : ℕ) (reply : List ℕ) (before after : ℕ) → StandsFor w old → back ≤ old.now.cycle →
-    Moves w old (moved_to w (first_of old) (old.now.cycle - back)) new reply before after →
-    Moves w old (moved_back w (first_of old) old.now.cycle back) new reply before after
-moved_back_to w old new back reply before after k le does =
-    let what = back_within w (first_of old) old.now.cycle back le (now_in_last w (first_of old) old k) in
-    subst (λ (x : Said). Moves w old x new reply before after) (sym what) does
+pub moved_back_to : (w : Setting) (old new : Standing) (back now : ℕ) (reply : List ℕ) (before after : ℕ) → StandsFor w old → now ≡ old.now.cycle → back ≤ now →
+    Moves w old (moved_to w (first_of old) (now - back)) new reply before after → Moves w old (moved_back w (first_of old) old.now.cycle back) new reply before after
+unfolding moved_back
+moved_back_to w old new back now reply before after k at le does =
+    let isnt : nat_lt old.now.cycle back ≡ false = grind (arith, nat_tests) in
+    let last : old.now.cycle ≤ last_cycle w (first_of old) = now_in_last w (first_of old) old k in
+    let what : moved_to w (first_of old) (now - back) ≡ said (old.now.cycle - back) (at_reply (old.now.cycle - back)) = ap (λ n. moved_to w (first_of old) (n - back)) at ∙ moved_within w (first_of old) (old.now.cycle - back) (omega arith) in
+    rw isnt (subst (λ (x : Said). Moves w old x new reply before after) what does)
 
 -- ---- a move to the end
 
 pub moved_to_end : (w : Setting) (f : State) (target : ℕ) → last_cycle w f < target → moved_to w f target ≡ at_last w f
 unfolding moved_to
 moved_to_end w f target lt = let yes : nat_lt (last_cycle w f) target ≡ true = grind (arith, nat_tests) in rw yes refl
-
--- ---- what is shown
-
-pub shown : (w : Setting) (old : Standing) (text reply : List ℕ) (Near : Type 0) (most : ℕ → ℕ) (steps : ℕ) → StandsFor w old → reply ≡ text → Does w old (said old.now.cycle text) Near most old reply steps steps
-shown w old text reply Near most steps k is = record {
-  stays = stays_here w old k;
-  cycle = refl;
-  said = is;
-  forward = omega arith;
-  steps = omega arith;
-  near = λ _. omega arith;
-  back = λ bad. absurd (omega arith);
-  same = λ _ within. within;
-}
 
 -- ---- as it is written
 
@@ -178,18 +130,6 @@ stop_written before after why n cycle empty e h = h ∙ ap (λ t. t ++ stop_text
 
 pub text_written : (before after text : List ℕ) → before ≡ [] → after ≡ before ++ text → after ≡ text
 text_written before after text empty h = h ∙ ap (λ t. t ++ text) empty
-
-pub back_written : (w : Setting) (old new : Standing) (back now : ℕ) (reply : List ℕ) (before after : ℕ) → StandsFor w old → now ≡ old.now.cycle → back ≤ now →
-    Moves w old (moved_to w (first_of old) (now - back)) new reply before after →
-    Moves w old (moved_back w (first_of old) old.now.cycle back) new reply before after
-back_written w old new back now reply before after k e le does =
-    moved_back_to w old new back reply before after k (subst (λ n. back ≤ n) e le)
-    (subst (λ n. Moves w old (moved_to w (first_of old) (n - back)) new reply before after) e does)
-
-pub start_written : (w : Setting) (old new : Standing) (back now : ℕ) (empty reply : List ℕ) (steps : ℕ) → StandsFor w old → Lands w old 0 new → now ≡ old.now.cycle → now < back → empty ≡ [] → reply ≡ empty ++ codes "at start\n" →
-    Moves w old (moved_back w (first_of old) old.now.cycle back) new reply steps steps
-start_written w old new back now empty reply steps k land e lt none is =
-    moved_to_start w old new back reply steps land (subst (λ n. n < back) e lt) (text_written empty reply (codes "at start\n") none is)
 
 -- ---- what each command does
 
@@ -237,17 +177,9 @@ unfolding moved_to moved_back
 quits_exactly w f cycle (Step n) = quits_moved (nat_lt (last_cycle w f) (cycle + n)) _ _ refl refl
 quits_exactly w f cycle (Back n) = quits_moved (nat_lt cycle n) _ _ refl refl
 quits_exactly w f cycle (Goto target) = quits_moved (nat_lt (last_cycle w f) target) _ _ refl refl
-quits_exactly w f cycle End = refl
-quits_exactly w f cycle Regs = refl
-quits_exactly w f cycle (Mem address count) = refl
-quits_exactly w f cycle Pins = refl
-quits_exactly w f cycle (Pio block machine) = refl
-quits_exactly w f cycle (Peek address) = refl
 quits_exactly w f cycle (Until watched count) = quits_next w f (behind_next w f watched count cycle)
 quits_exactly w f cycle (Before watched count) = quits_prev (before_nth w f watched count cycle)
-quits_exactly w f cycle (Last watched) = refl
-quits_exactly w f cycle Quit = refl
-quits_exactly w f cycle Bad = refl
+quits_exactly w f cycle _ = refl
 
 -- within the near stretch, as a line is heard
 pub near_as_heard : (w : Setting) (f : State) (near : Snapshots) (d cycle : ℕ) (line : List ℕ) (q : Command) (before after : ℕ) → q ≡ command_of line →

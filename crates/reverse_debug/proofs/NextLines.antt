@@ -5,8 +5,9 @@ use Rattle.std.specs.Option.{option_map}
 use Rattle.std.proofs.lemmas.List.{append-nil, take_all, take-append-drop}
 use Rattle.rp_ports.specs.Source.{Consumes}
 use Rattle.rp_ports.specs.declared.source.Taken.TheVariants as taken
+use Rattle.reverse_debug.specs.declared.reader.Next.{Next}
 use Rattle.reverse_debug.specs.declared.reader.Next.TheVariants.{Line, Last, Failed, Full}
-use Rattle.reverse_debug.specs.NextLine.{Ahead, HasNoEnd, given_bytes, Passes, Fills, Reads}
+use Rattle.reverse_debug.specs.NextLine.{Ahead, HasNoEnd, given_bytes, Passes, Fills, Splits, EndsBy, Reads}
 
 -- ---- the first LF
 
@@ -170,42 +171,25 @@ passed_more limit a b c d left left' left'' lost lost' lost'' given given' n fal
 pub nearer : (limit : ℕ) (b c d : Ahead) (left left' : Option (List ℕ)) (lost lost' n : ℕ) → b.taken < limit → Fills limit b c left left' lost lost' (taken.Took n) → d.taken ≡ c.taken → limit - d.taken < limit - b.taken
 nearer limit b c d left left' lost lost' n lt f same = omega (arith, lt, f.0, f.1, f.2, same)
 
--- no LF came to the end
-pub read_last : (limit : ℕ) (a b c : Ahead) (left left' left'' : Option (List ℕ)) (lost lost' lost'' : ℕ) (given : List ℕ) → Passed limit a b left left' lost lost' given → b.taken < limit → Fills limit b c left' left'' lost' lost'' taken.End → Reads limit a c left left'' lost lost'' given Last
-read_last limit a b c left left' left'' lost lost' lost'' given k lt f = record {
+-- no LF came to the end, to a failed take, or to the limit
+read_open : (next : Next) (limit : ℕ) (a b c : Ahead) (left left' left'' : Option (List ℕ)) (lost lost' lost'' : ℕ) (given : List ℕ) (k : Passed limit a b left left' lost lost' given) → c.taken ≡ b.taken → left'' ≡ left' → Splits (a.rest ++ k.bytes) (a.rest ++ k.bytes) c.rest next → EndsBy limit c.taken left'' lost lost'' next → Reads limit a c left left'' lost lost'' given next
+read_open next limit a b c left left' left'' lost lost' lost'' given k same kept splits ends = record {
   bytes = k.bytes;
   line = a.rest ++ k.bytes;
-  count = f.0 ∙ k.count;
-  within = omega (arith, f.0, lt);
-  consumed = subst (λ (x : Option (List ℕ)). Consumes left x k.bytes) (sym f.2) k.consumed;
+  count = same ∙ k.count;
+  within = omega (arith, same, k.within);
+  consumed = subst (λ (x : Option (List ℕ)). Consumes left x k.bytes) (sym kept) k.consumed;
   unended = k.unended;
   gives = k.gives;
-  splits = (refl, f.1);
-  ends = (f.4 ∙ k.steady, omega (arith, f.0, lt), f.3);
+  splits = splits;
+  ends = ends;
 }
+
+pub read_last : (limit : ℕ) (a b c : Ahead) (left left' left'' : Option (List ℕ)) (lost lost' lost'' : ℕ) (given : List ℕ) → Passed limit a b left left' lost lost' given → b.taken < limit → Fills limit b c left' left'' lost' lost'' taken.End → Reads limit a c left left'' lost lost'' given Last
+read_last limit a b c left left' left'' lost lost' lost'' given k lt f = read_open Last limit a b c left left' left'' lost lost' lost'' given k f.0 f.2 (refl, f.1) (f.4 ∙ k.steady, omega (arith, f.0, lt), f.3)
 
 pub read_failed : (limit : ℕ) (a b c : Ahead) (left left' left'' : Option (List ℕ)) (lost lost' lost'' : ℕ) (given : List ℕ) → Passed limit a b left left' lost lost' given → b.taken < limit → Fills limit b c left' left'' lost' lost'' taken.Failed → Reads limit a c left left'' lost lost'' given Failed
-read_failed limit a b c left left' left'' lost lost' lost'' given k lt f = record {
-  bytes = k.bytes;
-  line = a.rest ++ k.bytes;
-  count = f.0 ∙ k.count;
-  within = omega (arith, f.0, lt);
-  consumed = subst (λ (x : Option (List ℕ)). Consumes left x k.bytes) (sym f.2) k.consumed;
-  unended = k.unended;
-  gives = k.gives;
-  splits = (refl, f.1);
-  ends = (omega (arith, f.3, k.steady), omega (arith, f.0, lt), omega (arith, f.4, k.steady));
-}
+read_failed limit a b c left left' left'' lost lost' lost'' given k lt f = read_open Failed limit a b c left left' left'' lost lost' lost'' given k f.0 f.2 (refl, f.1) (omega (arith, f.3, k.steady), omega (arith, f.0, lt), omega (arith, f.4, k.steady))
 
 pub read_full : (limit : ℕ) (a b : Ahead) (left left' : Option (List ℕ)) (lost lost' : ℕ) (given : List ℕ) → Passed limit a b left left' lost lost' given → limit ≤ b.taken → Reads limit a b left left' lost lost' given Full
-read_full limit a b left left' lost lost' given k le = record {
-  bytes = k.bytes;
-  line = a.rest ++ k.bytes;
-  count = k.count;
-  within = k.within;
-  consumed = k.consumed;
-  unended = k.unended;
-  gives = k.gives;
-  splits = (refl, k.none);
-  ends = (k.steady, le);
-}
+read_full limit a b left left' lost lost' given k le = read_open Full limit a b b left left' left' lost lost' lost' given k refl refl (refl, k.none) (k.steady, le)

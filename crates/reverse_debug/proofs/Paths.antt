@@ -1,5 +1,5 @@
 -- Runs from one state to another.
-use Rattle.std.proofs.Common.{◌≡◌, ℕ, zero, suc, ◌+◌, ◌-◌, ◌<◌, ◌≤◌, Option, Some, None, refl, sym, ap, subst, arith, ◌∙◌}
+use Rattle.std.proofs.Common.{◌≡◌, ℕ, zero, suc, ◌+◌, ◌-◌, ◌<◌, ◌≤◌, Option, Some, None, IfSome, refl, sym, ap, subst, arith, ◌∙◌}
 use Rattle.rp_base.specs.declared.Why.{Why}
 use Rattle.outer_lane.specs.Setting.{Setting}
 use Rattle.rp_machine.specs.State.{State}
@@ -9,12 +9,7 @@ use Rattle.rp_machine.specs.Run.{states, last_state, unless_stopped}
 use Rattle.rp_machine.proofs.Runs.{states_here, states_on, below_limit, next_cycle}
 use Rattle.rp_machine.proofs.Joining.{join}
 use Rattle.reverse_debug.specs.Reply.{last_cycle}
-use Rattle.reverse_debug.specs.Advance.{Advances, CountsMove}
-
--- the run from one state comes to another
-pub record Path (w : Setting) (s t : State) : Type 0 where
-  pub is : t ≡ states w s (t.cycle - s.cycle)
-  pub forward : s.cycle ≤ t.cycle
+use Rattle.reverse_debug.specs.Advance.{Path, Advances}
 
 pub none_first : (w : Setting) (s : State) → states w s zero ≡ s
 unfolding states
@@ -123,38 +118,33 @@ path_in_last w s t p le = subst (λ (x : State). t.cycle ≤ x.cycle) (sym (path
 
 -- ---- single cycles, up to a cycle
 
-pub record Way (w : Setting) (s t : State) (to before now : ℕ) : Type 0 where
-  pub path : Path w s t
-  pub low : t.cycle ≤ w.limit
-  pub within : t.cycle ≤ to
-  pub count : CountsMove s t before now
+pub way_here : (w : Setting) (s : State) (to steps : ℕ) → s.cycle ≤ w.limit → s.cycle ≤ to → Advances w s to s None steps steps
+way_here w s to steps low within = record { path = path_here w s; low = low; within = within; stopped = tt; count = refl }
 
-pub way_here : (w : Setting) (s : State) (to steps : ℕ) → s.cycle ≤ w.limit → s.cycle ≤ to → Way w s s to steps steps
-way_here w s to steps low within = record { path = path_here w s; low = low; within = within; count = refl }
+pub below_to : (w : Setting) (s : State) (to until : ℕ) (why : Option Why) → IfSome why (λ y. (stop w s ≡ Some y) × (s.cycle < until)) → until ≤ to → IfSome why (λ y. (stop w s ≡ Some y) × (s.cycle < to))
+below_to w s to until None h le = tt
+below_to w s to until (Some why) h le = (h.0, let lt = h.1 in omega arith)
 
-pub way_on : (w : Setting) (s t u : State) (to before now after : ℕ) → Way w s t to before now → stop w t ≡ None → u ≡ next w t → t.cycle < to → after ≡ now + 1 → Way w s u to before after
+pub way_join : (w : Setting) (s t u : State) (to until : ℕ) (why : Option Why) (before now after : ℕ) → Advances w s to t None before now → Advances w t until u why now after → until ≤ to → Advances w s to u why before after
+way_join w s t u to until why before now after h k le = record {
+  path = path_join w s t u h.path k.path;
+  low = k.low;
+  within = omega (arith, k.within);
+  stopped = below_to w u to until why k.stopped le;
+  count = omega (arith, h.count, k.count);
+}
+
+pub way_on : (w : Setting) (s t u : State) (to before now after : ℕ) → Advances w s to t None before now → stop w t ≡ None → u ≡ next w t → t.cycle < to → after ≡ now + 1 → Advances w s to u None before after
 way_on w s t u to before now after k none e lt more =
     let one : u.cycle ≡ t.cycle + 1 = next_at w t u e in
     let below : t.cycle < w.limit = below_limit w t none k.low in
     let so_far : now + s.cycle ≡ before + t.cycle = k.count in
-    record { path = path_on w s t u k.path none e; low = omega arith; within = omega arith; count = omega arith }
+    record { path = path_on w s t u k.path none e; low = omega arith; within = omega arith; stopped = tt; count = omega arith }
 
-pub way_stopped : (w : Setting) (s t u : State) (to before now : ℕ) (why : Why) → Way w s t to before now → stop w t ≡ Some why → t.cycle < to → u ≡ t → Advances w s to u (Some why)
-way_stopped w s t u to before now why k stops lt e =
-    subst (λ (x : State). Advances w s to x (Some why)) (sym e)
-    (record { state = k.path.is; forward = k.path.forward; low = k.low; within = k.within; stopped = (stops, lt) })
-
-pub way_there : (w : Setting) (s t : State) (to before now : ℕ) → Way w s t to before now → Advances w s to t None
-way_there w s t to before now k = record { state = k.path.is; forward = k.path.forward; low = k.low; within = k.within; stopped = tt }
-
-pub nearer_by_one : (t u : State) (n to : ℕ) → n ≡ t.cycle → u.cycle ≡ n + 1 → t.cycle < to → to - u.cycle < to - t.cycle
-nearer_by_one t u n to e one lt = omega arith
-
-pub way_counts : (w : Setting) (s t u : State) (to before now after : ℕ) → Way w s t to before now → u ≡ t → after ≡ now → CountsMove s u before after
-way_counts w s t u to before now after k e same =
-    let here : u.cycle ≡ t.cycle = same_cycle u t e in
+pub way_stopped : (w : Setting) (s t u : State) (to before now after : ℕ) (why : Why) → Advances w s to t None before now → stop w t ≡ Some why → t.cycle < to → u ≡ t → after ≡ now → Advances w s to u (Some why) before after
+way_stopped w s t u to before now after why k stops lt e same =
     let so_far : now + s.cycle ≡ before + t.cycle = k.count in
-    omega arith
+    rw e (record { path = k.path; low = k.low; within = k.within; stopped = (stops, lt); count = omega arith })
 
 -- ---- quiet times
 
@@ -166,11 +156,11 @@ within_by zero at most to within near here = omega (arith, here)
 within_by (suc n) at most to within near here = let le = within (omega arith) in omega (arith, le, near)
 
 -- so many cycles were passed at once, or none
-pub way_passed : (w : Setting) (s t u : State) (to before now after n most : ℕ) → Way w s t to before now → u ≡ states w t n → IsQuiet w t n → (0 < n → t.cycle + n ≤ most) → most ≤ to → most ≤ w.limit → after ≡ now + n → Way w s u to before after
+pub way_passed : (w : Setting) (s t u : State) (to before now after n most : ℕ) → Advances w s to t None before now → u ≡ states w t n → IsQuiet w t n → (0 < n → t.cycle + n ≤ most) → most ≤ to → most ≤ w.limit → after ≡ now + n → Advances w s to u None before after
 way_passed w s t u to before now after n most k e quiet within near low more =
     let there : u.cycle ≡ t.cycle + n = quiet_there w t u n e quiet in
     let far : n ≡ u.cycle - t.cycle = omega arith in
     let a : t.cycle + n ≤ to = within_by n t.cycle most to within near k.within in
     let b : t.cycle + n ≤ w.limit = within_by n t.cycle most w.limit within low k.low in
     let so_far : now + s.cycle ≡ before + t.cycle = k.count in
-    record { path = path_join w s t u k.path (record { is = e ∙ ap (states w t) far; forward = omega arith }); low = omega arith; within = omega arith; count = omega arith }
+    record { path = path_join w s t u k.path (record { is = e ∙ ap (states w t) far; forward = omega arith }); low = omega arith; within = omega arith; stopped = tt; count = omega arith }

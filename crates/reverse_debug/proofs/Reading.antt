@@ -1,6 +1,6 @@
 -- Words of a line, and words of SRAM.
 use Rattle.std.proofs.Common.{◌≡◌, ◌⊎◌, ◌*◌, ◌^◌, ◌%◌, ◌≤◌, ◌<◌, ℕ, nat_le, Bool, true, false, cond, ◌&&◌, ◌==◌, ◌-◌, List, [], ◌∷◌, length, inl, inr, refl, sym, ap, ◌∙◌, arith, zero, suc, ◌+◌}
-use Rattle.std.proofs.lemmas.Bool.{cases_Bool, cases_lt}
+use Rattle.std.proofs.lemmas.Bool.{cases_Bool, cases_lt, and_parts, leb-true}
 use Rattle.std.proofs.lemmas.Bool.Decides.{nat_tests}
 use Rattle.std.specs.List.{slice_split, onto_first, list_all}
 use Rattle.rp_base.specs.Map.{Range, ranges, place_by, place_of}
@@ -33,14 +33,6 @@ many_words line name operands first rest word more le h i j =
     let short : nat_le (length line) 255 ≡ true = grind (arith, nat_tests) in
     rw short (sym (four_words line name operands first rest word more h i j))
 
-second_true : (a b : Bool) → (a && b) ≡ true → b ≡ true
-second_true true b h = h
-second_true false b h = absurd (cc)
-
-first_true : (a b : Bool) → (a && b) ≡ true → a ≡ true
-first_true true b h = refl
-first_true false b h = absurd (cc)
-
 -- ---- SRAM lies below 22000000
 
 -- each range ends below it, or is none of SRAM
@@ -54,7 +46,7 @@ place_high (r ∷ rs) a le low = elim (cases_Bool (nat_le r.first a && nat_le a 
   | inr isnt ↦ rw isnt (place_high rs a le low.1)
   | inl is ↦ elim (low.0) [
     | inr none ↦ rw is (none (a - r.first))
-    | inl below ↦ absurd (let within = second_true (nat_le r.first a) (nat_le a r.last) is in let reaches : a ≤ r.last = grind (arith, nat_tests) in omega arith)
+    | inl below ↦ absurd (let within = (and_parts (nat_le r.first a) (nat_le a r.last) is).1 in let reaches : a ≤ r.last = grind (arith, nat_tests) in omega arith)
   ]
 ]
 
@@ -114,24 +106,22 @@ words_on next left some is = ap (list_all (λ a. is_ram (place_of a))) (addresse
 pub few_words : (address count : ℕ) → are_words address count ≡ true → count ≤ 16
 unfolding are_words
 few_words address count h =
-    let sizes = first_true (nat_le 1 count && nat_le count 16) (address % 4 == 0) (first_true (nat_le 1 count && nat_le count 16 && address % 4 == 0) _ h) in
-    let few = second_true (nat_le 1 count) (nat_le count 16) sizes in
-    grind (arith, nat_tests)
+    let sizes = (and_parts (nat_le 1 count && nat_le count 16) (address % 4 == 0) (and_parts (nat_le 1 count && nat_le count 16 && address % 4 == 0) _ h).0).0 in
+    leb-true _ _ (and_parts (nat_le 1 count) (nat_le count 16) sizes).1
 
 some_words : (address count : ℕ) → are_words address count ≡ true → 0 < count
 unfolding are_words
 some_words address count h =
-    let sizes = first_true (nat_le 1 count && nat_le count 16) (address % 4 == 0) (first_true (nat_le 1 count && nat_le count 16 && address % 4 == 0) _ h) in
-    let some = first_true (nat_le 1 count) (nat_le count 16) sizes in
-    grind (arith, nat_tests)
+    let sizes = (and_parts (nat_le 1 count && nat_le count 16) (address % 4 == 0) (and_parts (nat_le 1 count && nat_le count 16 && address % 4 == 0) _ h).0).0 in
+    leb-true 1 count (and_parts (nat_le 1 count) (nat_le count 16) sizes).0
 
 first_word_in : (address count : ℕ) → 0 < count → list_all (λ a. is_ram (place_of a)) (addresses address count) ≡ true → is_ram (place_of address) ≡ true
 first_word_in address count some h =
-    first_true (is_ram (place_of address)) _ (sym (ap (list_all (λ a. is_ram (place_of a))) (addresses_on address count some)) ∙ h)
+    (and_parts (is_ram (place_of address)) _ (sym (ap (list_all (λ a. is_ram (place_of a))) (addresses_on address count some)) ∙ h)).0
 
 all_in : (address count : ℕ) → are_words address count ≡ true → list_all (λ a. is_ram (place_of a)) (addresses address count) ≡ true
 unfolding are_words
-all_in address count h = second_true (nat_le 1 count && nat_le count 16 && address % 4 == 0) _ h
+all_in address count h = (and_parts (nat_le 1 count && nat_le count 16 && address % 4 == 0) _ h).1
 
 -- and they lie below 2 ^ 32
 pub low_words : (address count : ℕ) → are_words address count ≡ true → address + 4 * count < 2 ^ 32

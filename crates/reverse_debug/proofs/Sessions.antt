@@ -1,19 +1,19 @@
 -- Sessions as they move.
-use Rattle.std.proofs.Common.{◌≡◌, ◌⊎◌, ℕ, ◌+◌, ◌-◌, ◌*◌, ◌%◌, ◌==◌, ◌<◌, ◌≤◌, ◌^◌, ◌&&◌, ◌||◌, max, nat_lt, Bool, true, false, List, [], Option, Some, None, IfSome, inl, inr, refl, sym, ap, subst, arith, ◌∙◌}
-use Rattle.std.proofs.lemmas.Bool.{and_from, and_parts, ltb-true, lt-ltb, eq-eqb, true≢false}
+use Rattle.std.proofs.Common.{◌≡◌, ◌⊎◌, ℕ, ◌+◌, ◌-◌, ◌*◌, ◌%◌, ◌<◌, ◌≤◌, ◌^◌, ◌&&◌, ◌||◌, max, nat_lt, true, false, List, Option, None, inl, inr, refl, sym, ap, subst, arith, ◌∙◌}
+use Rattle.std.proofs.lemmas.Bool.{or_cases, or_parts, and_from, and_parts, ltb-true, lt-ltb, true≢false}
 use Rattle.std.proofs.lemmas.Bool.Decides.{nat_tests}
 use Rattle.std.proofs.Math.Nat.{mod-lt, mod-le, zero-mod}
 use Rattle.rp_base.specs.declared.Why.{Why}
 use Rattle.outer_lane.specs.Setting.{Setting}
 use Rattle.rp_machine.specs.State.{State}
-use Rattle.rp_machine.specs.Cycle.{stop}
 use Rattle.rp_machine.specs.Run.{states}
-use Rattle.snap_ring.specs.Ring.{Snapshots, spacing_of, near_spacing, is_kept, is_within, is_due, kept_with, restarted, state_at, restored, IsGreatest, IsNearest}
+use Rattle.snap_ring.specs.Ring.{Snapshots, spacing_of, near_spacing, is_kept, is_within, kept_with, restarted, state_at, restored, IsGreatest, IsNearest}
+use Rattle.snap_ring.proofs.Faithful.{keeping_is_faithful}
 use Rattle.reverse_debug.specs.Reply.{last_cycle}
-use Rattle.reverse_debug.specs.Advance.{Advances}
-use Rattle.reverse_debug.specs.Session.{Standing, first_of, IsIn, next_place, IsAlong, StandsFor, Stands, OpensAt, StaysFor, GoesOn, Lands}
-use Rattle.reverse_debug.proofs.Paths.{Path, path_join, path_in_last, last_within, none_first}
-use Rattle.reverse_debug.proofs.Rings.{multiple_below, place_below, place_within, within_of, begun_within, closer_low, closer_fills, restored_cycle, restored_any, spacing_stays, origin_stays, found_still, empty, keeps_after, keeps_to, keeps_first}
+use Rattle.reverse_debug.specs.Advance.{Path, Advances}
+use Rattle.reverse_debug.specs.Session.{Standing, first_of, IsIn, next_place, IsAlong, StandsFor, Stands, OpensAt, StaysFor, Goes, GoesOn, Lands}
+use Rattle.reverse_debug.proofs.Paths.{path_join, path_in_last, last_within, none_first, below_to}
+use Rattle.reverse_debug.proofs.Rings.{multiple_below, place_below, place_within, within_of, begun_within, closer_low, closer_fills, restored_cycle, restored_any, spacing_stays, origin_stays, found_still, empty, due_first, keeps_after, keeps_to, keeps_first}
 
 -- ---- what holds of a session that stands for a run
 
@@ -40,9 +40,6 @@ some_closer d = omega arith
 limit_in_spacings : (limit : ℕ) → limit ≤ 64 * spacing_of limit
 limit_in_spacings limit = omega arith
 
-pub spacing_some : (w : Setting) (first : State) (s : Standing) → IsAlong w first s → 0 < s.ring.spacing
-spacing_some w first s k = k.ring.some
-
 now_in_spacings : (w : Setting) (first : State) (s : Standing) → IsAlong w first s → s.now.cycle ≤ 64 * s.ring.spacing
 now_in_spacings w first s k =
     let low : s.now.cycle ≤ w.limit = now_low w first s k in
@@ -62,7 +59,7 @@ multiple_kept w first s c k multiple le low =
 -- the first state is kept
 pub first_kept : (w : Setting) (first : State) (s : Standing) → IsAlong w first s → is_kept 0 s.ring.kept ≡ true
 first_kept w first s k =
-    let some : 0 < s.ring.spacing = spacing_some w first s k in
+    let some : 0 < s.ring.spacing = k.ring.some in
     multiple_kept w first s 0 k (zero-mod s.ring.spacing) (omega arith) (omega arith)
 
 -- each stretch below the present cycle begins with one that is kept
@@ -86,11 +83,11 @@ path_of w first s k =
 -- ---- forward
 
 -- the session after its machine went on to a state
-abbrev pub after : State → Standing → Standing
-after s old = record { now = s; ring = kept_with s old.ring; near = kept_with s old.near; limit = old.limit; reached = max old.reached s.cycle }
+abbrev pub behind : State → Standing → Standing
+behind s old = record { now = s; ring = kept_with s old.ring; near = kept_with s old.near; limit = old.limit; reached = max old.reached s.cycle }
 
 along_after : (w : Setting) (first : State) (old : Standing) (s : State) → IsAlong w first old → Path w old.now s → s.cycle ≤ w.limit →
-    s.cycle ≤ next_place old.ring old.now.cycle → s.cycle ≤ next_place old.near old.now.cycle → IsAlong w first (after s old)
+    s.cycle ≤ next_place old.ring old.now.cycle → s.cycle ≤ next_place old.near old.now.cycle → IsAlong w first (behind s old)
 along_after w first old s k p low far close =
     let whole : Path w first s = path_join w first old.now s (path_of w first old k) p in
     let begins : first.cycle ≡ 0 = k.begins in
@@ -120,35 +117,29 @@ along_after w first old s k p low far close =
           (omega arith) (omega arith) (omega arith);
     }
 
-first_after : (w : Setting) (first : State) (old : Standing) (s : State) → IsAlong w first old → first_of (after s old) ≡ first_of old
+first_after : (w : Setting) (first : State) (old : Standing) (s : State) → IsAlong w first old → first_of (behind s old) ≡ first_of old
 first_after w first old s k = found_still s old.ring 0 s old.now (first_kept w first old k)
 
 stays_after : (w : Setting) (old : Standing) (s : State) → StandsFor w old → Path w old.now s → s.cycle ≤ w.limit →
-    s.cycle ≤ next_place old.ring old.now.cycle → s.cycle ≤ next_place old.near old.now.cycle → StaysFor w old (after s old)
+    s.cycle ≤ next_place old.ring old.now.cycle → s.cycle ≤ next_place old.near old.now.cycle → StaysFor w old (behind s old)
 stays_after w old s k p low far close =
     let same = first_after w (first_of old) old s k in
     record {
-      stands = subst (λ (f : State). IsAlong w f (after s old)) (sym same) (along_after w (first_of old) old s k p low far close);
+      stands = subst (λ (f : State). IsAlong w f (behind s old)) (sym same) (along_after w (first_of old) old s k p low far close);
       first = same;
       spacing = spacing_stays s old.ring;
       closer = spacing_stays s old.near;
       reached = refl;
     }
 
-below_to : (w : Setting) (s : State) (to until : ℕ) (why : Option Why) → IfSome why (λ y. (stop w s ≡ Some y) × (s.cycle < until)) → until ≤ to → IfSome why (λ y. (stop w s ≡ Some y) × (s.cycle < to))
-below_to w s to until None h le = tt
-below_to w s to until (Some why) h le = (h.0, let lt = h.1 in omega arith)
-
 -- one stretch of the way, up to the next state that is kept
-stretched : (w : Setting) (old : Standing) (s : State) (to until : ℕ) (why : Option Why) → StandsFor w old → Advances w old.now until s why → until ≤ to →
-    until ≤ next_place old.ring old.now.cycle → until ≤ next_place old.near old.now.cycle → GoesOn w old to (after s old) why
-stretched w old s to until why k a le far close =
+stretched : (w : Setting) (old : Standing) (s : State) (to until : ℕ) (why : Option Why) (before after : ℕ) → StandsFor w old → Advances w old.now until s why before after → until ≤ to →
+    until ≤ next_place old.ring old.now.cycle → until ≤ next_place old.near old.now.cycle → GoesOn w old to (behind s old) why before after
+stretched w old s to until why before after k a le far close =
     let within : s.cycle ≤ until = a.within in
     record {
-      stays = stays_after w old s k (record { is = a.state; forward = a.forward }) a.low (omega arith) (omega arith);
-      forward = a.forward;
+      goes = record { stays = stays_after w old s k a.path a.low (omega arith) (omega arith); forward = a.path.forward; stretch = origin_stays s old.near; count = a.count };
       within = omega arith;
-      stretch = origin_stays s old.near;
       stopped = below_to w s to until why a.stopped le;
     }
 
@@ -163,17 +154,22 @@ stays_on w a b c le h k =
     let two : c.reached ≡ max b.reached c.now.cycle = k.reached in
     record { stands = k.stands; first = k.first ∙ h.first; spacing = k.spacing ∙ h.spacing; closer = k.closer ∙ h.closer; reached = omega arith }
 
-pub going_here : (w : Setting) (s : Standing) (to : ℕ) → StandsFor w s → s.now.cycle ≤ to → GoesOn w s to s None
-going_here w s to k le = record { stays = stays_here w s k; forward = omega arith; within = le; stretch = refl; stopped = tt }
+pub goes_here : (w : Setting) (s : Standing) (steps : ℕ) → StandsFor w s → Goes w s s steps steps
+goes_here w s steps k = record { stays = stays_here w s k; forward = omega arith; stretch = refl; count = refl }
 
-pub going_on : (w : Setting) (a b c : Standing) (to : ℕ) (why : Option Why) → GoesOn w a to b None → GoesOn w b to c why → GoesOn w a to c why
-going_on w a b c to why h k =
-    let one : a.now.cycle ≤ b.now.cycle = h.forward in
-    let two : b.now.cycle ≤ c.now.cycle = k.forward in
-    record { stays = stays_on w a b c two h.stays k.stays; forward = omega arith; within = k.within; stretch = k.stretch ∙ h.stretch; stopped = k.stopped }
+pub going_here : (w : Setting) (s : Standing) (to steps : ℕ) → StandsFor w s → s.now.cycle ≤ to → GoesOn w s to s None steps steps
+going_here w s to steps k le = record { goes = goes_here w s steps k; within = le; stopped = tt }
 
-pub counted_on : (a b c before now after : ℕ) → now + a ≡ before + b → after + b ≡ now + c → after + a ≡ before + c
-counted_on a b c before now after h k = omega arith
+pub goes_on : (w : Setting) (a b c : Standing) (before now after : ℕ) → Goes w a b before now → Goes w b c now after → Goes w a c before after
+goes_on w a b c before now after h k = record {
+  stays = stays_on w a b c k.forward h.stays k.stays;
+  forward = omega (arith, h.forward, k.forward);
+  stretch = k.stretch ∙ h.stretch;
+  count = omega (arith, h.count, k.count);
+}
+
+pub going_on : (w : Setting) (a b c : Standing) (to : ℕ) (why : Option Why) (before now after : ℕ) → GoesOn w a to b None before now → GoesOn w b to c why now after → GoesOn w a to c why before after
+going_on w a b c to why before now after h k = record { goes = goes_on w a b c before now after h.goes k.goes; within = k.within; stopped = k.stopped }
 
 -- ---- back, or ahead, to a state that is kept
 
@@ -196,13 +192,13 @@ stays_near w old c s k kept e begun le =
       spacing = k.spacing;
       closer = k.closer;
       begins = k.begins;
-      now = e ∙ k.near.kept c old.now kept ∙ ap (states w (first_of old)) (sym cycle);
-      here = omega arith;
       reached = k.reached;
       zero = k.zero;
       ring = k.ring;
-      behind = omega arith;
       stretch = k.stretch;
+      now = e ∙ k.near.kept c old.now kept ∙ ap (states w (first_of old)) (sym cycle);
+      here = omega arith;
+      behind = omega arith;
       near = keeps_to w (first_of old) old.near old.now.cycle s.cycle old.reached (omega arith) k.near;
     } in
     record { stands = subst (λ (x : State). IsAlong w x (set_near s old)) (sym same) along; first = same; spacing = refl; closer = refl; reached = omega arith }
@@ -244,13 +240,13 @@ stays_far w old c s k kept e =
       limit = k.limit;
       small = k.small;
       spacing = k.spacing;
-      closer = spacing_stays s (restarted c old.near) ∙ k.closer;
       begins = k.begins;
-      now = is;
-      here = omega arith;
       reached = k.reached;
       zero = k.zero;
       ring = k.ring;
+      closer = spacing_stays s (restarted c old.near) ∙ k.closer;
+      now = is;
+      here = omega arith;
       behind = omega arith;
       stretch = ap (λ n. n % old.ring.spacing) (origin ∙ sym (from_zero w (first_of old) old c k)) ∙ k.ring.apart c kept;
       near = keeps_first w (first_of old) s old.near.spacing c s.cycle old.reached k.near.some cycle is (omega arith) (omega arith);
@@ -260,7 +256,7 @@ stays_far w old c s k kept e =
 -- the nearest kept state below a cycle that was passed is nearer than the spacing
 near_enough : (w : Setting) (old : Standing) (target found : ℕ) → StandsFor w old → IsGreatest target old.ring.kept found → target < old.now.cycle → target < found + old.ring.spacing
 near_enough w old target found k g lt =
-    let some : 0 < old.ring.spacing = spacing_some w (first_of old) old k in
+    let some : 0 < old.ring.spacing = k.ring.some in
     let rest : target % old.ring.spacing < old.ring.spacing = mod-lt target some in
     let most : target - target % old.ring.spacing ≤ found = g.greatest (target - target % old.ring.spacing) (every_now w (first_of old) old k target lt) (omega arith) in
     omega arith
@@ -292,7 +288,7 @@ landed_far w old target found s k out g e far =
       ];
     }
 
-stayed : (w : Setting) (old : Standing) (target : ℕ) → StandsFor w old → old.now.cycle ≤ target → Lands w old target old
+pub stayed : (w : Setting) (old : Standing) (target : ℕ) → StandsFor w old → old.now.cycle ≤ target → Lands w old target old
 stayed w old target k le = record {
   stays = stays_here w old k;
   below = le;
@@ -302,10 +298,6 @@ stayed w old target k le = record {
   stretch = λ lt. absurd (omega arith);
   same = λ _. refl;
 }
-
--- some state is kept at or below each cycle
-pub some_near : (w : Setting) (old : Standing) (target : ℕ) → StandsFor w old → IsNearest target old.ring.kept None → ⊥
-some_near w old target k none = let none_at : target < 0 = none 0 (first_kept w (first_of old) old k) in omega arith
 
 -- ---- the session as its parts: v is what the parts stand for
 
@@ -347,26 +339,12 @@ part_stops v old e h = subst (λ (x : Standing). HasStops x) (sym e) (has_stops 
 pub low_number : (w : Setting) (old : Standing) → StandsFor w old → old.now.cycle < 18446744073709551615
 low_number w old k = let small : old.now.cycle + old.ring.spacing < 2 ^ 64 = (has_stops w old k).small in let some : 0 < old.ring.spacing = k.ring.some in omega arith
 
-pub part_stretched : (w : Setting) (v old : Standing) (s : State) (ring near : Snapshots) (reached to until : ℕ) (why : Option Why) → v ≡ old → StandsFor w old →
-    Advances w v.now until s why → until ≤ to → until ≤ next_place old.ring old.now.cycle → until ≤ next_place old.near old.now.cycle → ring ≡ kept_with s v.ring → near ≡ kept_with s v.near →
-    reached ≡ max v.reached s.cycle → GoesOn w old to (record { now = s; ring = ring; near = near; limit = v.limit; reached = reached }) why
-part_stretched w v old s ring near reached to until why e k a le far close er en f =
-    let there : GoesOn w old to (after s old) why = stretched w old s to until why k (subst (λ (x : Standing). Advances w x.now until s why) e a) le far close in
-    let same : record { now = s; ring = ring; near = near; limit = v.limit; reached = reached } ≡ after s old =
-    ap (λ (r : Snapshots). record { now = s; ring = r; near = near; limit = v.limit; reached = reached }) er
-    ∙ ap (λ (r : Snapshots). record { now = s; ring = kept_with s v.ring; near = r; limit = v.limit; reached = reached }) en
-    ∙ ap (λ n. record { now = s; ring = kept_with s v.ring; near = kept_with s v.near; limit = v.limit; reached = n }) f
-    ∙ ap (after s) e
-    in
-    subst (λ (x : Standing). GoesOn w old to x why) (sym same) there
-
-either : (a b : Bool) → (a || b) ≡ true → (a ≡ true) ⊎ (b ≡ true)
-either true b h = inl refl
-either false b h = inr h
-
-neither : (a b : Bool) → (a || b) ≡ false → a ≡ false
-neither true b h = h
-neither false b h = refl
+pub part_stretched : (w : Setting) (v old : Standing) (s : State) (ring near : Snapshots) (reached to until : ℕ) (why : Option Why) (before after : ℕ) → v ≡ old → StandsFor w old →
+    Advances w v.now until s why before after → until ≤ to → until ≤ next_place old.ring old.now.cycle → until ≤ next_place old.near old.now.cycle → ring ≡ kept_with s v.ring → near ≡ kept_with s v.near →
+    reached ≡ max v.reached s.cycle → GoesOn w old to (record { now = s; ring = ring; near = near; limit = v.limit; reached = reached }) why before after
+part_stretched w v old s ring near reached to until why before after e k a le far close er en f =
+    rw (er, en, f) (subst (λ (x : Standing). GoesOn w old to (behind s x) why before after) (sym e)
+    (stretched w old s to until why before after k (subst (λ (x : Standing). Advances w x.now until s why before after) e a) le far close))
 
 -- v is what the parts stand for
 pub part_landed : (w : Setting) (v old : Standing) (target found now : ℕ) (s : State) (near mid : Snapshots) → v ≡ old → StandsFor w old → (nat_lt target old.now.cycle && is_within old.near.spacing old.near.origin target) ≡ false
@@ -374,17 +352,14 @@ pub part_landed : (w : Setting) (v old : Standing) (target found now : ℕ) (s :
     → mid ≡ restarted found v.near → near ≡ kept_with s mid → Lands w old target (record { now = s; ring = v.ring; near = near; limit = v.limit; reached = v.reached })
 part_landed w v old target found now s near mid e k out en g r far em ek =
     let isfar : (nat_lt target old.now.cycle || nat_lt old.now.cycle found) ≡ true = subst (λ n. (nat_lt target n || nat_lt n found) ≡ true) (en ∙ ap (λ (x : Standing). x.now.cycle) e) far in
-    let ways : (target < old.now.cycle) ⊎ (old.now.cycle < found) = elim (either (nat_lt target old.now.cycle) (nat_lt old.now.cycle found) isfar) [
+    let ways : (target < old.now.cycle) ⊎ (old.now.cycle < found) = elim (or_cases (nat_lt target old.now.cycle) (nat_lt old.now.cycle found) isfar) [
       | inl is ↦ inl (ltb-true _ _ is)
       | inr is ↦ inr (ltb-true _ _ is)
     ] in
     let outside : target < old.now.cycle → IsIn old.near target → ⊥ = λ lt within. true≢false (sym (and_from _ _ (lt-ltb _ _ lt) within) ∙ out) in
-    let same : record { now = s; ring = v.ring; near = near; limit = v.limit; reached = v.reached } ≡ set_far s found old =
-    ap (λ (x : Snapshots). record { now = s; ring = v.ring; near = x; limit = v.limit; reached = v.reached }) (ek ∙ ap (kept_with s) em) ∙ ap (set_far s found) e
-    in
-    subst (λ (x : Standing). Lands w old target x) (sym same)
+    rw (ek, em) (subst (λ (x : Standing). Lands w old target (set_far s found x)) (sym e)
     (landed_far w old target found s k outside (subst (λ (x : Standing). IsGreatest target x.ring.kept found) e g)
-    (subst (λ (x : Standing). s ≡ restored (state_at found x.ring.kept) x.now) e r) ways)
+    (subst (λ (x : Standing). s ≡ restored (state_at found x.ring.kept) x.now) e r) ways))
 
 pub part_close : (w : Setting) (v old : Standing) (target found : ℕ) (s : State) → v ≡ old → StandsFor w old → (nat_lt target old.now.cycle && is_within old.near.spacing old.near.origin target) ≡ true →
     IsGreatest target v.near.kept found → s ≡ restored (state_at found v.near.kept) v.now → Lands w old target (record { now = s; ring = v.ring; near = v.near; limit = v.limit; reached = v.reached })
@@ -396,13 +371,15 @@ part_close w v old target found s e k close g r =
 
 pub part_stayed : (w : Setting) (v old : Standing) (target found now : ℕ) → v ≡ old → StandsFor w old → now ≡ v.now.cycle → (nat_lt target now || nat_lt now found) ≡ false → Lands w old target old
 part_stayed w v old target found now e k en far =
-    let first : nat_lt target now ≡ false = neither (nat_lt target now) (nat_lt now found) far in
+    let first : nat_lt target now ≡ false = (or_parts (nat_lt target now) (nat_lt now found) far).0 in
     let at : now ≡ old.now.cycle = en ∙ ap (λ (x : Standing). x.now.cycle) e in
     let le : old.now.cycle ≤ target = grind (arith, nat_tests) in
     stayed w old target k le
 
+-- some state is kept at or below each cycle
 pub part_near : (w : Setting) (v old : Standing) (target : ℕ) → v ≡ old → StandsFor w old → IsNearest target v.ring.kept None → ⊥
-part_near w v old target e k none = some_near w v target (subst (λ (x : Standing). StandsFor w x) (sym e) k) none
+part_near w v old target e k none =
+    let none_at : target < 0 = none 0 (subst (λ (x : Standing). is_kept 0 x.ring.kept ≡ true) (sym e) (first_kept w (first_of old) old k)) in omega arith
 
 -- of the near stretch as well
 pub part_none : (w : Setting) (v old : Standing) (target : ℕ) → v ≡ old → StandsFor w old → (nat_lt target old.now.cycle && is_within old.near.spacing old.near.origin target) ≡ true → IsNearest target v.near.kept None → ⊥
@@ -426,18 +403,10 @@ at_first machine limit = record {
   reached = 0;
 }
 
-due_first : (limit cycle : ℕ) → cycle ≡ 0 → is_due (spacing_of limit) 0 [] cycle ≡ true
-due_first limit cycle e =
-    let some : 0 < spacing_of limit = some_spacing limit in
-    let within : is_within (spacing_of limit) 0 0 ≡ true = within_of (empty (spacing_of limit) 0) 0 (omega arith) (omega arith) in
-    let none : 0 - 0 ≡ 0 = omega arith in
-    let multiple : ((0 - 0) % spacing_of limit == 0) ≡ true = eq-eqb _ _ (ap (λ n. n % spacing_of limit) none ∙ zero-mod (spacing_of limit)) in
-    subst (λ n. is_due (spacing_of limit) 0 [] n ≡ true) (sym e) (and_from _ _ within (and_from _ _ multiple refl))
-
 opened_first : (machine own : State) (limit : ℕ) → machine.cycle ≡ 0 → restored (state_at 0 (kept_with machine (empty (spacing_of limit) 0)).kept) own ≡ machine
 opened_first machine own limit begins =
-    let here : (machine.cycle == 0) ≡ true = eq-eqb machine.cycle 0 begins in
-    rw (due_first limit machine.cycle begins) (rw here refl)
+    ap (λ n. restored (state_at n (kept_with machine (empty (spacing_of limit) 0)).kept) own) (sym begins)
+    ∙ ap (λ o. restored o own) ((keeping_is_faithful (empty (spacing_of limit) 0) machine).mine (due_first (spacing_of limit) 0 machine.cycle (some_spacing limit) begins))
 
 opened_along : (w : Setting) (machine : State) (limit : ℕ) → machine.cycle ≡ 0 → limit ≤ 1000000000 → w.limit ≡ limit → IsAlong w machine (at_first machine limit)
 opened_along w machine limit begins small same =
@@ -483,9 +452,4 @@ opened machine s limit spacing r n ring near begins small er esp en ek ekn es =
     let d : spacing ≡ spacing_of limit = esp ∙ ap (λ (x : Snapshots). x.spacing) er in
     let one : ring ≡ kept_with machine (empty (spacing_of limit) 0) = ek ∙ ap (kept_with machine) er in
     let two : near ≡ kept_with machine (empty (near_spacing (spacing_of limit)) 0) = ekn ∙ ap (kept_with machine) (en ∙ ap (λ m. empty (near_spacing m) 0) d) in
-    let same : record { now = s; ring = ring; near = near; limit = limit; reached = 0 } ≡ at_first machine limit =
-    ap (λ (x : State). record { now = x; ring = ring; near = near; limit = limit; reached = 0 }) es
-    ∙ ap (λ (x : Snapshots). record { now = machine; ring = x; near = near; limit = limit; reached = 0 }) one
-    ∙ ap (λ (x : Snapshots). record { now = machine; ring = kept_with machine (empty (spacing_of limit) 0); near = x; limit = limit; reached = 0 }) two
-    in
-    subst (λ (x : Standing). OpensAt machine limit x) (sym same) (opens machine limit begins small)
+    rw (es, one, two) (opens machine limit begins small)

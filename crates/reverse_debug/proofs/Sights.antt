@@ -30,24 +30,25 @@ begun_unended what core before address s e none = subst (λ (x : Watched). ends_
 
 -- ---- core 0 goes on cycle by cycle
 
--- it has gone on alone for so many cycles, at most so many, and nothing has stopped it
-pub record Unstopped (sight : Sight) (s t : State) (most done before now : ℕ) : Type 0 where
+-- it has gone on alone for so many cycles, at most so many, and nothing has stopped it behind one of them, but maybe behind the last one
+pub record Gone (sight : Sight) (s t : State) (most done before now : ℕ) : Type 0 where
   pub within : done ≤ most
   pub state : t ≡ inward_after done s
   pub inward : StaysInward s done
-  pub none : (k : ℕ) → k < done → stops_at sight (inward_after (k + 1) s) ≡ false
+  pub none : (k : ℕ) → k + 1 < done → stops_at sight (inward_after (k + 1) s) ≡ false
   pub counted : now ≡ before + done
   pub cycle : t.cycle ≡ s.cycle + done
+
+-- nor behind that one
+pub record Unstopped (sight : Sight) (s t : State) (most done before now : ℕ) : Type 0 where
+  pub gone : Gone sight s t most done before now
+  pub last : 0 < done → stops_at sight t ≡ false
 
 pub unstopped_here : (sight : Sight) (s : State) (most steps : ℕ) → Unstopped sight s s most 0 steps steps
 unfolding inward_after
 unstopped_here sight s most steps = record {
-  within = omega arith;
-  state = refl;
-  inward = λ k lt. absurd (omega arith);
-  none = λ k lt. absurd (omega arith);
-  counted = omega arith;
-  cycle = omega arith;
+  gone = record { within = omega arith; state = refl; inward = λ k lt. absurd (omega arith); none = λ k lt. absurd (omega arith); counted = omega arith; cycle = omega arith };
+  last = λ lt. absurd (omega arith);
 }
 
 after_one : (s t u : State) (done : ℕ) → t ≡ inward_after done s → u ≡ inward_after 1 t → u ≡ inward_after (done + 1) s
@@ -57,14 +58,6 @@ after_one s t u done h e = rw (add-one done) (e ∙ ap (λ (x : State). inward_a
 cycle_one : (t u : State) → u ≡ inward_after 1 t → u.cycle ≡ t.cycle + 1
 unfolding inward_after inward_next
 cycle_one t u e = ap (λ (x : State). x.cycle) e
-
--- one cycle more
-pub record OneMore (sight : Sight) (s t u : State) (most done before after : ℕ) : Type 0 where
-  pub within : done + 1 ≤ most
-  pub state : u ≡ inward_after (done + 1) s
-  pub inward : StaysInward s (done + 1)
-  pub counted : after ≡ before + (done + 1)
-  pub cycle : u.cycle ≡ s.cycle + (done + 1)
 
 inward_one : (s t : State) (done : ℕ) → t ≡ inward_after done s → StaysInward s done → StaysInward t 1 → StaysInward s (done + 1)
 unfolding inward_after
@@ -76,37 +69,25 @@ inward_one s t done h so_far one k lt = elim (cases_lt k done) [
       rw (same, ← h) last
 ]
 
+-- one cycle more
 pub one_more : (sight : Sight) (s t u : State) (most done r before now after : ℕ) → Unstopped sight s t most done before now → done < most → r ≡ 1
-    → u ≡ inward_after r t → StaysInward t r → after ≡ now + r → OneMore sight s t u most done before after
+    → u ≡ inward_after r t → StaysInward t r → after ≡ now + r → Gone sight s u most (done + 1) before after
 one_more sight s t u most done r before now after h lt one state inward count =
     let state1 : u ≡ inward_after 1 t = subst (λ n. u ≡ inward_after n t) one state in
-    let inward1 : StaysInward t 1 = subst (StaysInward t) one inward in
     let cycle : u.cycle ≡ t.cycle + 1 = cycle_one t u state1 in
-    let here : t.cycle ≡ s.cycle + done = h.cycle in
-    let counted : now ≡ before + done = h.counted in
+    let here : t.cycle ≡ s.cycle + done = h.gone.cycle in
+    let counted : now ≡ before + done = h.gone.counted in
     record {
       within = omega arith;
-      state = after_one s t u done h.state state1;
-      inward = inward_one s t done h.state h.inward inward1;
+      state = after_one s t u done h.gone.state state1;
+      inward = inward_one s t done h.gone.state h.gone.inward (subst (StaysInward t) one inward);
+      none = λ k lt. elim (cases_lt (k + 1) done) as (λ _. stops_at sight (inward_after (k + 1) s) ≡ false) [
+        | inl below ↦ h.gone.none k below
+        | inr le ↦ let same : k + 1 ≡ done = omega arith in ap (λ n. stops_at sight (inward_after n s)) same ∙ ap (stops_at sight) (sym h.gone.state) ∙ h.last (omega arith)
+      ];
       counted = omega arith;
       cycle = omega arith;
     }
-
-pub unstopped_on : (sight : Sight) (s t u : State) (most done before now after : ℕ) → Unstopped sight s t most done before now → OneMore sight s t u most done before after
-    → stops_at sight u ≡ false → Unstopped sight s u most (done + 1) before after
-unstopped_on sight s t u most done before now after h one none = record {
-  within = one.within;
-  state = one.state;
-  inward = one.inward;
-  none = λ k lt. elim (cases_lt k done) [
-    | inl below ↦ h.none k below
-    | inr le ↦
-        let same : k ≡ done = omega arith in
-        ap (λ n. stops_at sight (inward_after (n + 1) s)) same ∙ ap (stops_at sight) (sym one.state) ∙ none
-  ];
-  counted = one.counted;
-  cycle = one.cycle;
-}
 
 -- where it reaches for more than SRAM, nothing has changed
 pub nothing_more : (s t u : State) (done r : ℕ) → t ≡ inward_after done s → r ≡ 0 → u ≡ inward_after r t → u ≡ inward_after done s

@@ -11,11 +11,12 @@ use Rattle.snap_ring.specs.Ring.{Snapshots, state_at, restored, IsNearest}
 use Rattle.reverse_debug.specs.declared.search.Tally.{Tally}
 use Rattle.reverse_debug.specs.Command.{Watched}
 use Rattle.reverse_debug.specs.Reply.{last_cycle, happens, search_cost, before_nth}
+use Rattle.reverse_debug.specs.Advance.{Path}
 use Rattle.reverse_debug.specs.Search.{noted, tally}
-use Rattle.reverse_debug.specs.Session.{IsIn, AreOf, FindsNear, all_kept}
-use Rattle.reverse_debug.proofs.Paths.{Path, joined, last_within, path_to_last}
+use Rattle.reverse_debug.specs.Session.{IsIn, AreOf, Spends, all_kept}
+use Rattle.reverse_debug.proofs.Paths.{joined, last_within, path_to_last}
 use Rattle.reverse_debug.proofs.Rings.{restored_cycle, within_of, begun_within, low_within}
-use Rattle.reverse_debug.proofs.Tallies.{few_of}
+use Rattle.reverse_debug.proofs.Tallies.{tally_none, tally_one, few_of}
 
 -- ---- a run up to a state on the way, and from there on
 
@@ -27,14 +28,6 @@ unfolding happens
 happens_on w f m watched n is =
     let there : states w f (m.cycle + n) ≡ states w m n = joined w f m.cycle n (m.cycle + n) refl ∙ ap (λ (x : State). states w x n) (sym is) in
     rw there refl
-
-tally_none : (w : Setting) (m : State) (watched : Watched) (most : ℕ) → tally w m watched most 0 ≡ record { count = 0; last = None }
-unfolding tally
-tally_none w m watched most = refl
-
-tally_one : (w : Setting) (m : State) (watched : Watched) (most n : ℕ) (was : Bool) → happens w m watched n ≡ was → tally w m watched most (suc n) ≡ noted most was (m.cycle + n) (tally w m watched most n)
-unfolding tally
-tally_one w m watched most n was is = rw is refl
 
 before_one : (w : Setting) (f : State) (watched : Watched) (k cycle : ℕ) (was : Bool) → happens w f watched cycle ≡ was → before_nth w f watched (suc k) (suc cycle) ≡ before_nth w f watched (cond was k (suc k)) cycle
 unfolding before_nth
@@ -254,25 +247,20 @@ before_low w f watched (suc k) zero (Some x) some more e = absurd (omega arith)
 before_low w f watched (suc k) (suc cycle) (Some x) some more e =
     let low = before_within w f watched (cond (happens w f watched cycle) k (suc k)) cycle x e in omega (arith, low)
 
--- one pass over the stretch, or two where it is not the last
-pub record Near (count to spacing before after : ℕ) (found : Option ℕ) : Type 0 where
-  pub forward : before ≤ after
-  pub steps : after ≤ before + search_cost spacing count to found
-
 is_searched : (count to : ℕ) → 0 < count → 0 < to → (count == 0 || to == 0) ≡ false
 is_searched count to some more =
     let one : (count == 0) ≡ false = grind (arith, nat_tests) in let other : (to == 0) ≡ false = grind (arith, nat_tests) in rw one (rw other refl)
 
-near_by : (count to spacing before after : ℕ) (found : Option ℕ) → 0 < count → 0 < to → before ≤ after → after + or_zero found < before + to + spacing → Near count to spacing before after found
-near_by count to spacing before after found some more forward lt = let is = is_searched count to some more in elim (cases_lt 1 count) [
-  | inl many ↦ let no : nat_le count 1 ≡ false = grind (arith, nat_tests) in record { forward = forward; steps = rw is (rw no (omega (arith, lt))) }
-  | inr le ↦ let yes : nat_le count 1 ≡ true = grind (arith, nat_tests) in record { forward = forward; steps = rw is (rw yes (omega (arith, lt))) }
+near_by : (count to spacing before after : ℕ) (found : Option ℕ) → 0 < count → 0 < to → after + or_zero found < before + to + spacing → after ≤ before + search_cost spacing count to found
+near_by count to spacing before after found some more lt = let is = is_searched count to some more in elim (cases_lt 1 count) [
+  | inl many ↦ let no : nat_le count 1 ≡ false = grind (arith, nat_tests) in rw is (rw no (omega (arith, lt)))
+  | inr le ↦ let yes : nat_le count 1 ≡ true = grind (arith, nat_tests) in rw is (rw yes (omega (arith, lt)))
 ]
 
-near_twice : (count to spacing before after : ℕ) (found : Option ℕ) → 1 < count → 0 < to → before ≤ after → after + or_zero found < before + to + 2 * spacing → Near count to spacing before after found
-near_twice count to spacing before after found many more forward lt =
+near_twice : (count to spacing before after : ℕ) (found : Option ℕ) → 1 < count → 0 < to → after + or_zero found < before + to + 2 * spacing → after ≤ before + search_cost spacing count to found
+near_twice count to spacing before after found many more lt =
     let is = is_searched count to (omega arith) more in
-    let no : nat_le count 1 ≡ false = grind (arith, nat_tests) in record { forward = forward; steps = rw is (rw no (omega (arith, lt))) }
+    let no : nat_le count 1 ≡ false = grind (arith, nat_tests) in rw is (rw no (omega (arith, lt)))
 
 -- what is found is nearer to the start of the stretch than a spacing
 sum_once : (d before now after to start end f : ℕ) → f < start + d → after + start ≡ now + end → now + end ≤ before + to → after + f < before + to + d
@@ -281,9 +269,10 @@ sum_once d before now after to start end f near counted steps = omega arith
 sum_twice : (d before now mid after to start end f : ℕ) → f < start + d → end ≤ start + d → mid + start ≡ now + end → after + start ≡ mid + end → now + end ≤ before + to → after + f < before + to + 2 * d
 sum_twice d before now mid after to start end f near short first second steps = omega arith
 
-pub near_once : (w : Setting) (f : State) (ring near : Snapshots) (watched : Watched) (count to left end start before now after : ℕ) (s : State) (found : Option ℕ) → Searching w f watched count to left end before now → Stretch w f ring near to start end s →
-    found ≡ before_nth w f watched count to → after + s.cycle ≡ now + end → Near count to ring.spacing before after found
-near_once w f ring near watched count to left end start before now after s found so_far k is counted =
+-- one pass over the stretch
+pub spent_once : (w : Setting) (f : State) (ring near : Snapshots) (watched : Watched) (count to left end start before now after : ℕ) (s : State) (found : Option ℕ) → Searching w f watched count to left end before now → Stretch w f ring near to start end s →
+    found ≡ before_nth w f watched count to → after + s.cycle ≡ now + end → Spends ring near count to before after found
+spent_once w f ring near watched count to left end start before now after s found so_far k is counted =
     let begins : start < end = k.some in
     let low : or_zero found < end = before_low w f watched left end found so_far.some (omega arith) (is ∙ so_far.found) in
     let at : s.cycle ≡ start = k.begins.at in
@@ -292,24 +281,14 @@ near_once w f ring near watched count to left end start before now after s found
     let some : 0 < left = so_far.some in
     let within : end ≤ to = so_far.within in
     let forward : before ≤ now = so_far.forward in
-    near_by count to ring.spacing before after found (omega arith) (omega arith) (omega arith) (sum_once ring.spacing before now after to start end (or_zero found) (omega arith) (omega arith) so_far.steps)
+    let by : (d : ℕ) → or_zero found < start + d → after ≤ before + search_cost d count to found = λ d lt.
+    near_by count to d before after found (omega arith) (omega arith) (sum_once d before now after to start end (or_zero found) lt (omega arith) so_far.steps) in
+    record { forward = omega arith; steps = by ring.spacing (omega arith); close = λ h. by near.spacing (k.close (or_zero found) low h.ends) }
 
-pub close_once : (w : Setting) (f : State) (ring near : Snapshots) (watched : Watched) (count to left end start before now after : ℕ) (s : State) (found : Option ℕ) → Searching w f watched count to left end before now → Stretch w f ring near to start end s →
-    found ≡ before_nth w f watched count to → after + s.cycle ≡ now + end → FindsNear near count to (or_zero found) → after ≤ before + search_cost near.spacing count to found
-close_once w f ring near watched count to left end start before now after s found so_far k is counted h =
-    let begins : start < end = k.some in
-    let low : or_zero found < end = before_low w f watched left end found so_far.some (omega arith) (is ∙ so_far.found) in
-    let at : s.cycle ≡ start = k.begins.at in
-    let few : left ≤ count = so_far.few in
-    let some : 0 < left = so_far.some in
-    let within : end ≤ to = so_far.within in
-    let forward : before ≤ now = so_far.forward in
-    (near_by count to near.spacing before after found (omega arith) (omega arith) (omega arith)
-    (sum_once near.spacing before now after to start end (or_zero found) (k.close (or_zero found) low h.ends) (omega arith) so_far.steps)).steps
-
-pub near_again : (w : Setting) (f : State) (ring near : Snapshots) (watched : Watched) (count to left end start before now mid after : ℕ) (s u : State) (found : Option ℕ) → 1 < left → Searching w f watched count to left end before now → Stretch w f ring near to start end s →
-    Stretch w f ring near to start end u → found ≡ before_nth w f watched count to → mid + s.cycle ≡ now + end → after + u.cycle ≡ mid + end → Near count to ring.spacing before after found
-near_again w f ring near watched count to left end start before now mid after s u found more so_far k j is first second =
+-- two passes, where it is not the last time
+pub spent_twice : (w : Setting) (f : State) (ring near : Snapshots) (watched : Watched) (count to left end start before now mid after : ℕ) (s u : State) (found : Option ℕ) → 1 < left → Searching w f watched count to left end before now → Stretch w f ring near to start end s →
+    Stretch w f ring near to start end u → found ≡ before_nth w f watched count to → mid + s.cycle ≡ now + end → after + u.cycle ≡ mid + end → Spends ring near count to before after found
+spent_twice w f ring near watched count to left end start before now mid after s u found more so_far k j is first second =
     let begins : start < end = k.some in
     let low : or_zero found < end = before_low w f watched left end found so_far.some (omega arith) (is ∙ so_far.found) in
     let at : s.cycle ≡ start = k.begins.at in
@@ -318,25 +297,18 @@ near_again w f ring near watched count to left end start before now mid after s 
     let few : left ≤ count = so_far.few in
     let within : end ≤ to = so_far.within in
     let forward : before ≤ now = so_far.forward in
-    near_twice count to ring.spacing before after found (omega arith) (omega arith) (omega arith)
-    (sum_twice ring.spacing before now mid after to start end (or_zero found) (omega arith) short (omega arith) (omega arith) so_far.steps)
-
-pub close_again : (w : Setting) (f : State) (ring near : Snapshots) (watched : Watched) (count to left end start before now mid after : ℕ) (s u : State) (found : Option ℕ) → 1 < left → Searching w f watched count to left end before now → Stretch w f ring near to start end s →
-    Stretch w f ring near to start end u → found ≡ before_nth w f watched count to → mid + s.cycle ≡ now + end → after + u.cycle ≡ mid + end → FindsNear near count to (or_zero found) →
-    after ≤ before + search_cost near.spacing count to found
-close_again w f ring near watched count to left end start before now mid after s u found more so_far k j is first second h =
-    let begins : start < end = k.some in
-    let low : or_zero found < end = before_low w f watched left end found so_far.some (omega arith) (is ∙ so_far.found) in
-    let at : s.cycle ≡ start = k.begins.at in
-    let too : u.cycle ≡ start = j.begins.at in
-    let few : left ≤ count = so_far.few in
-    let within : end ≤ to = so_far.within in
-    let forward : before ≤ now = so_far.forward in
-    let begun : near.origin ≤ or_zero found = begun_within near (or_zero found) h.ends in
-    let below : to - near.origin < 64 * near.spacing = low_within near to (h.begins (omega arith)) in
-    let last : end - 1 < start + near.spacing = k.close (end - 1) (omega arith) (within_of near (end - 1) (omega arith) (omega arith)) in
-    (near_twice count to near.spacing before after found (omega arith) (omega arith) (omega arith)
-    (sum_twice near.spacing before now mid after to start end (or_zero found) (k.close (or_zero found) low h.ends) (omega arith) (omega arith) (omega arith) so_far.steps)).steps
+    let by : (d : ℕ) → or_zero found < start + d → end ≤ start + d → after ≤ before + search_cost d count to found = λ d lt fits.
+    near_twice count to d before after found (omega arith) (omega arith) (sum_twice d before now mid after to start end (or_zero found) lt fits (omega arith) (omega arith) so_far.steps) in
+    record {
+      forward = omega arith;
+      steps = by ring.spacing (omega arith) short;
+      close = λ h. (
+          let begun : near.origin ≤ or_zero found = begun_within near (or_zero found) h.ends in
+          let below : to - near.origin < 64 * near.spacing = low_within near to (h.begins (omega arith)) in
+          let last : end - 1 < start + near.spacing = k.close (end - 1) (omega arith) (within_of near (end - 1) (omega arith) (omega arith)) in
+          by near.spacing (k.close (or_zero found) low h.ends) (omega arith)
+          );
+    }
 
 none_left : (w : Setting) (f : State) (watched : Watched) (left : ℕ) → 0 < left → None ≡ before_nth w f watched left 0
 unfolding before_nth
@@ -348,16 +320,16 @@ searched w f watched count to left end before now k le =
     let e : end ≡ 0 = omega arith in
     none_left w f watched left k.some ∙ ap (before_nth w f watched left) (sym e) ∙ sym k.found
 
-pub searched_steps : (w : Setting) (f : State) (watched : Watched) (count to left end before now spacing : ℕ) → 0 < spacing → Searching w f watched count to left end before now → Near count to spacing before now None
-searched_steps w f watched count to left end before now spacing closer k =
+pub spent_all : (w : Setting) (f : State) (ring near : Snapshots) (watched : Watched) (count to left end before now : ℕ) → 0 < ring.spacing → 0 < near.spacing → Searching w f watched count to left end before now → Spends ring near count to before now None
+spent_all w f ring near watched count to left end before now far close k =
     let few : left ≤ count = k.few in
     let some : 0 < left = k.some in
-    let forward : before ≤ now = k.forward in
     let steps : now + end ≤ before + to = k.steps in
-    elim (cases_lt 0 to) [
-      | inl more ↦ near_by count to spacing before now None (omega arith) more forward (omega arith)
-      | inr le ↦ record { forward = forward; steps = omega arith }
-    ]
+    let by : (d : ℕ) → 0 < d → now ≤ before + search_cost d count to None = λ d lt. elim (cases_lt 0 to) as (λ _. now ≤ before + search_cost d count to None) [
+      | inl more ↦ near_by count to d before now None (omega arith) more (omega arith)
+      | inr le ↦ omega arith
+    ] in
+    record { forward = k.forward; steps = by ring.spacing far; close = λ _. by near.spacing close }
 
 pub zero_th : (w : Setting) (f : State) (watched : Watched) (count to : ℕ) → count ≡ 0 → Some to ≡ before_nth w f watched count to
 zero_th w f watched count to e = sym (ap (λ n. before_nth w f watched n to) e ∙ before_here w f watched to)

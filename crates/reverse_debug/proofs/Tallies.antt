@@ -1,5 +1,5 @@
 -- The times of what is watched, on a stretch of a run.
-use Rattle.std.proofs.Common.{◌≡◌, ℕ, zero, suc, ◌+◌, ◌-◌, ◌<◌, ◌≤◌, Bool, true, false, Option, Some, None, refl, sym, ap, subst, arith, ◌∙◌, add-one}
+use Rattle.std.proofs.Common.{◌≡◌, ℕ, zero, suc, ◌+◌, ◌-◌, ◌<◌, ◌≤◌, Bool, true, false, Option, Some, None, refl, sym, ap, subst, arith, ◌∙◌}
 use Rattle.rp_base.specs.declared.Why.{Why}
 use Rattle.outer_lane.specs.Setting.{Setting}
 use Rattle.rp_machine.specs.State.{State}
@@ -8,33 +8,28 @@ use Rattle.rp_machine.specs.Run.{states}
 use Rattle.rp_machine.proofs.Runs.{states_here, states_on}
 use Rattle.reverse_debug.specs.Command.{Watched}
 use Rattle.reverse_debug.specs.Reply.{seen, last_cycle, happens, happens_by}
-use Rattle.reverse_debug.specs.Advance.{Advances, CountsMove}
+use Rattle.reverse_debug.specs.Advance.{Path, Advances}
 use Rattle.reverse_debug.specs.declared.search.Tally.{Tally}
 use Rattle.reverse_debug.specs.Search.{noted, tally}
-use Rattle.reverse_debug.proofs.Paths.{Path, path_here, path_join, path_last, none_first}
+use Rattle.reverse_debug.proofs.Paths.{path_join, path_last, none_first, way_here, way_join}
 
 -- the run from one state has come to another, at most to a cycle; this was counted on the way
 pub record Counting (w : Setting) (f t : State) (watched : Watched) (most to : ℕ) (so_far : Tally) (before now : ℕ) : Type 0 where
-  pub path : Path w f t
-  pub low : t.cycle ≤ w.limit
-  pub within : t.cycle ≤ to
+  pub way : Advances w f to t None before now
   pub is : so_far ≡ tally w f watched most (t.cycle - f.cycle)
-  pub count : CountsMove f t before now
 
-none_yet : (w : Setting) (f : State) (watched : Watched) (most : ℕ) → (record { count = 0; last = None }) ≡ tally w f watched most 0
+pub tally_none : (w : Setting) (m : State) (watched : Watched) (most : ℕ) → tally w m watched most 0 ≡ record { count = 0; last = None }
 unfolding tally
-none_yet w f watched most = refl
+tally_none w m watched most = refl
+
+pub tally_one : (w : Setting) (m : State) (watched : Watched) (most n : ℕ) (was : Bool) → happens w m watched n ≡ was → tally w m watched most (suc n) ≡ noted most was (m.cycle + n) (tally w m watched most n)
+unfolding tally
+tally_one w m watched most n was is = rw is refl
 
 pub counting_here : (w : Setting) (f : State) (watched : Watched) (most to steps : ℕ) → f.cycle ≤ w.limit → f.cycle ≤ to → Counting w f f watched most to (record { count = 0; last = None }) steps steps
 counting_here w f watched most to steps low within =
     let e : f.cycle - f.cycle ≡ 0 = omega arith in
-    record {
-      path = path_here w f;
-      low = low;
-      within = within;
-      is = none_yet w f watched most ∙ ap (tally w f watched most) (sym e);
-      count = refl;
-    }
+    record { way = way_here w f to steps low within; is = sym (ap (tally w f watched most) e ∙ tally_none w f watched most) }
 
 pub by_cause : (w : Setting) (t u : State) (cause : Option Why) → stop w t ≡ cause → u ≡ states w t 1 → u.cycle ≡ t.cycle + 1 → u ≡ next w t
 by_cause w t u (Some why) h is one =
@@ -42,14 +37,10 @@ by_cause w t u (Some why) h is one =
     absurd (omega arith)
 by_cause w t u None h is one = is ∙ states_on w t zero h ∙ none_first w (next w t)
 
-one_next : (w : Setting) (t u : State) → Advances w t (t.cycle + 1) u None → u.cycle ≡ t.cycle + 1 → u ≡ next w t
-one_next w t u a one =
+one_next : (w : Setting) (t u : State) (now after : ℕ) → Advances w t (t.cycle + 1) u None now after → u.cycle ≡ t.cycle + 1 → u ≡ next w t
+one_next w t u now after a one =
     let far : u.cycle - t.cycle ≡ 1 = omega arith in
-    by_cause w t u (stop w t) refl (a.state ∙ ap (states w t) far) one
-
-more_by : (w : Setting) (f : State) (watched : Watched) (most n : ℕ) (was : Bool) → happens w f watched n ≡ was → tally w f watched most (n + 1) ≡ noted most was (f.cycle + n) (tally w f watched most n)
-unfolding tally
-more_by w f watched most n was is = rw (add-one n) (rw is refl)
+    by_cause w t u (stop w t) refl (a.path.is ∙ ap (states w t) far) one
 
 happens_next : (w : Setting) (f a b : State) (watched : Watched) (n : ℕ) → a ≡ states w f n → b ≡ next w a → happens w f watched n ≡ happens_by watched (seen watched a) (seen watched b)
 unfolding happens
@@ -57,39 +48,33 @@ happens_next w f a b watched n here nexts =
     ap (λ (s : State). happens_by watched (seen watched s) (seen watched (next w s))) (sym here)
     ∙ ap (λ (s : State). happens_by watched (seen watched a) (seen watched s)) (sym nexts)
 
-counting_to : (w : Setting) (f t u : State) (watched : Watched) (most to : ℕ) (so_far more : Tally) (before now after : ℕ) → Counting w f t watched most to so_far before now → Advances w t (t.cycle + 1) u None →
-    u.cycle ≡ t.cycle + 1 → t.cycle < to → more ≡ noted most (happens_by watched (seen watched t) (seen watched u)) t.cycle so_far → CountsMove t u now after → Counting w f u watched most to more before after
-counting_to w f t u watched most to so_far more before now after k a one lt one_more count =
-    let stepped : now + f.cycle ≡ before + t.cycle = k.count in
-    let counted : after + t.cycle ≡ now + u.cycle = count in
-    let on : f.cycle ≤ t.cycle = k.path.forward in
-    let here : t ≡ states w f (t.cycle - f.cycle) = k.path.is in
-    let nexts : u ≡ next w t = one_next w t u a one in
+counting_to : (w : Setting) (f t u : State) (watched : Watched) (most to : ℕ) (so_far more : Tally) (before now after : ℕ) → Counting w f t watched most to so_far before now → Advances w t (t.cycle + 1) u None now after →
+    u.cycle ≡ t.cycle + 1 → t.cycle < to → more ≡ noted most (happens_by watched (seen watched t) (seen watched u)) t.cycle so_far → Counting w f u watched most to more before after
+counting_to w f t u watched most to so_far more before now after k a one lt one_more =
+    let on : f.cycle ≤ t.cycle = k.way.path.forward in
+    let here : t ≡ states w f (t.cycle - f.cycle) = k.way.path.is in
+    let nexts : u ≡ next w t = one_next w t u now after a one in
     let same = happens_next w f t u watched (t.cycle - f.cycle) here nexts in
     let at : t.cycle ≡ f.cycle + (t.cycle - f.cycle) = omega arith in
-    let far : u.cycle - f.cycle ≡ (t.cycle - f.cycle) + 1 = omega arith in
+    let far : u.cycle - f.cycle ≡ suc (t.cycle - f.cycle) = omega arith in
     record {
-      path = path_join w f t u k.path (record { is = a.state; forward = a.forward });
-      low = a.low;
-      within = omega arith;
+      way = way_join w f t u to (t.cycle + 1) None before now after k.way a (omega arith);
       is =
           one_more ∙ ap (noted most (happens_by watched (seen watched t) (seen watched u)) t.cycle) k.is
           ∙ ap (λ m. noted most (happens_by watched (seen watched t) (seen watched u)) m (tally w f watched most (t.cycle - f.cycle))) at
-          ∙ sym (more_by w f watched most (t.cycle - f.cycle) (happens_by watched (seen watched t) (seen watched u)) same)
+          ∙ sym (tally_one w f watched most (t.cycle - f.cycle) (happens_by watched (seen watched t) (seen watched u)) same)
           ∙ ap (tally w f watched most) (sym far);
-      count = omega arith;
     }
 
-pub counting_on : (w : Setting) (f t u : State) (watched : Watched) (most to : ℕ) (so_far more : Tally) (before now after n x y : ℕ) (was : Bool) → Counting w f t watched most to so_far before now → n ≡ t.cycle → Advances w t (n + 1) u None →
-    u.cycle ≡ n + 1 → t.cycle < to → x ≡ seen watched u → y ≡ seen watched t → was ≡ happens_by watched y x → more ≡ noted most was n so_far → CountsMove t u now after → Counting w f u watched most to more before after
-counting_on w f t u watched most to so_far more before now after n x y was k en a one lt ex ey is one_more count =
+pub counting_on : (w : Setting) (f t u : State) (watched : Watched) (most to : ℕ) (so_far more : Tally) (before now after n x y : ℕ) (was : Bool) → Counting w f t watched most to so_far before now → n ≡ t.cycle → Advances w t (n + 1) u None now after →
+    u.cycle ≡ n + 1 → t.cycle < to → x ≡ seen watched u → y ≡ seen watched t → was ≡ happens_by watched y x → more ≡ noted most was n so_far → Counting w f u watched most to more before after
+counting_on w f t u watched most to so_far more before now after n x y was k en a one lt ex ey is one_more =
     let same : was ≡ happens_by watched (seen watched t) (seen watched u) =
     is ∙ ap (λ m. happens_by watched m x) ey ∙ ap (happens_by watched (seen watched t)) ex
     in
-    counting_to w f t u watched most to so_far more before now after k (subst (λ m. Advances w t (m + 1) u None) en a) (subst (λ m. u.cycle ≡ m + 1) en one) lt
+    counting_to w f t u watched most to so_far more before now after k (subst (λ m. Advances w t (m + 1) u None now after) en a) (subst (λ m. u.cycle ≡ m + 1) en one) lt
     (one_more ∙ ap (λ b. noted most b n so_far) same
     ∙ ap (λ m. noted most (happens_by watched (seen watched t) (seen watched u)) m so_far) en)
-    count
 
 -- no more are counted than there are cycles
 few_noted : (most : ℕ) (was : Bool) (cycle : ℕ) (t : Tally) → (noted most was cycle t).count ≤ t.count + 1
@@ -111,21 +96,21 @@ few_counted w f t watched most to so_far before now k lt =
     omega (arith, few)
 
 -- the run does not end before the cycle
-pub never_stopped : (w : Setting) (f t u : State) (watched : Watched) (most to : ℕ) (so_far : Tally) (before now n : ℕ) (why : Why) → Counting w f t watched most to so_far before now → n ≡ t.cycle → Advances w t (n + 1) u (Some why) → t.cycle < to → to ≤ last_cycle w f → ⊥
-never_stopped w f t u watched most to so_far before now n why k en a lt le =
-    let path : Path w f u = path_join w f t u k.path (record { is = a.state; forward = a.forward }) in
+pub never_stopped : (w : Setting) (f t u : State) (watched : Watched) (most to : ℕ) (so_far : Tally) (before now after n : ℕ) (why : Why) → Counting w f t watched most to so_far before now → n ≡ t.cycle → Advances w t (n + 1) u (Some why) now after → t.cycle < to → to ≤ last_cycle w f → ⊥
+never_stopped w f t u watched most to so_far before now after n why k en a lt le =
+    let path : Path w f u = path_join w f t u k.way.path a.path in
     let end : last_cycle w f ≡ u.cycle = ap (λ (x : State). x.cycle) (path_last w f u why path a.stopped.0 a.low) in
     let below : u.cycle < n + 1 = a.stopped.1 in
     omega arith
 
 pub counted_all : (w : Setting) (f t : State) (watched : Watched) (most to : ℕ) (so_far : Tally) (before now : ℕ) → Counting w f t watched most to so_far before now → to ≤ t.cycle → so_far ≡ tally w f watched most (to - f.cycle)
 counted_all w f t watched most to so_far before now k le =
-    let within : t.cycle ≤ to = k.within in
+    let within : t.cycle ≤ to = k.way.within in
     let e : t.cycle ≡ to = omega arith in
     k.is ∙ ap (λ c. tally w f watched most (c - f.cycle)) e
 
 pub counted_steps : (w : Setting) (f t : State) (watched : Watched) (most to : ℕ) (so_far : Tally) (before now : ℕ) → Counting w f t watched most to so_far before now → to ≤ t.cycle → now + f.cycle ≡ before + to
 counted_steps w f t watched most to so_far before now k le =
-    let within : t.cycle ≤ to = k.within in
-    let stepped : now + f.cycle ≡ before + t.cycle = k.count in
+    let within : t.cycle ≤ to = k.way.within in
+    let stepped : now + f.cycle ≡ before + t.cycle = k.way.count in
     omega arith

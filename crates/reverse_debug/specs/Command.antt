@@ -90,13 +90,10 @@ abbrev pub begun_at : Option ℕ → Option ℕ → Option Watched
 begun_at (Some address) (Some core) = if nat_le core 1 then Some (Begun core (Some address)) else None
 begun_at _ _ = None
 
-abbrev pub next_of : Option ℕ → Option ℕ → Command
-next_of (Some count) (Some core) = if nat_le core 1 then Until (Begun core None) count else Bad
-next_of _ _ = Bad
-
-abbrev pub prev_of : Option ℕ → Option ℕ → Command
-prev_of (Some count) (Some core) = if nat_le core 1 then Before (Begun core None) count else Bad
-prev_of _ _ = Bad
+-- each one is watched, and a move goes to one time of it
+abbrev pub each_of : (Watched → ℕ → Command) → Option ℕ → Option ℕ → Command
+each_of move (Some count) (Some core) = if nat_le core 1 then move (Begun core None) count else Bad
+each_of move _ _ = Bad
 
 abbrev pub bare_command : List ℕ → Command
 bare_command name =
@@ -105,15 +102,15 @@ bare_command name =
     else if bytes_eq name (codes "end") then End
     else if bytes_eq name (codes "regs") then Regs
     else if bytes_eq name (codes "pins") then Pins
-    else if bytes_eq name (codes "next") then next_of (Some 1) (Some 0)
-    else if bytes_eq name (codes "prev") then prev_of (Some 1) (Some 0)
+    else if bytes_eq name (codes "next") then each_of Until (Some 1) (Some 0)
+    else if bytes_eq name (codes "prev") then each_of Before (Some 1) (Some 0)
     else if bytes_eq name (codes "quit") then Quit
     else Bad
 
--- a command with an operand that is there
-abbrev pub with_number : (ℕ → Command) → Option ℕ → Command
-with_number command None = Bad
-with_number command (Some n) = command n
+-- a command with an operand, where that is one
+abbrev pub asked : {A : Type 0} → (A → Command) → Option A → Command
+asked command None = Bad
+asked command (Some operand) = command operand
 
 abbrev pub mem_of : Option ℕ → Option ℕ → Command
 mem_of (Some address) (Some count) = if are_words address count then Mem address count else Bad
@@ -128,13 +125,9 @@ abbrev pub pin_of : Option ℕ → Option Watched
 pin_of None = None
 pin_of (Some pin) = if nat_le pin 29 then Some (Pin pin) else None
 
-abbrev pub until_of : Option Watched → Command
-until_of None = Bad
-until_of (Some watched) = Until watched 1
-
-abbrev pub last_of : Option Watched → Command
-last_of None = Bad
-last_of (Some watched) = Last watched
+-- a move to its next time
+abbrev pub next_time : Watched → Command
+next_time watched = Until watched 1
 
 -- a word that is looked at has an address that is a multiple of 4
 abbrev pub peek_of : Option ℕ → Command
@@ -147,29 +140,29 @@ pio_of _ _ = Bad
 
 abbrev pub with_one : List ℕ → List ℕ → Command
 with_one name word =
-    if bytes_eq name (codes "step") then with_number Step (number_of word)
-    else if bytes_eq name (codes "back") then with_number Back (number_of word)
-    else if bytes_eq name (codes "goto") then with_number Goto (number_of word)
+    if bytes_eq name (codes "step") then asked Step (number_of word)
+    else if bytes_eq name (codes "back") then asked Back (number_of word)
+    else if bytes_eq name (codes "goto") then asked Goto (number_of word)
     else if bytes_eq name (codes "mem") then mem_of (address_of word) (Some 1)
     else if bytes_eq name (codes "peek") then peek_of (address_of word)
-    else if bytes_eq name (codes "next") then next_of (number_of word) (Some 0)
-    else if bytes_eq name (codes "prev") then prev_of (number_of word) (Some 0)
-    else if bytes_eq name (codes "until") then until_of (begun_at (address_of word) (Some 0))
-    else if bytes_eq name (codes "untilwrite") then until_of (word_of (address_of word))
-    else if bytes_eq name (codes "untilpin") then until_of (pin_of (number_of word))
-    else if bytes_eq name (codes "lastat") then last_of (begun_at (address_of word) (Some 0))
-    else if bytes_eq name (codes "lastwrite") then last_of (word_of (address_of word))
-    else if bytes_eq name (codes "lastpin") then last_of (pin_of (number_of word))
+    else if bytes_eq name (codes "next") then each_of Until (number_of word) (Some 0)
+    else if bytes_eq name (codes "prev") then each_of Before (number_of word) (Some 0)
+    else if bytes_eq name (codes "until") then asked next_time (begun_at (address_of word) (Some 0))
+    else if bytes_eq name (codes "untilwrite") then asked next_time (word_of (address_of word))
+    else if bytes_eq name (codes "untilpin") then asked next_time (pin_of (number_of word))
+    else if bytes_eq name (codes "lastat") then asked Last (begun_at (address_of word) (Some 0))
+    else if bytes_eq name (codes "lastwrite") then asked Last (word_of (address_of word))
+    else if bytes_eq name (codes "lastpin") then asked Last (pin_of (number_of word))
     else Bad
 
 abbrev pub with_two : List ℕ → List ℕ → List ℕ → Command
 with_two name first second =
     if bytes_eq name (codes "mem") then mem_of (address_of first) (number_of second)
     else if bytes_eq name (codes "pio") then pio_of (number_of first) (number_of second)
-    else if bytes_eq name (codes "next") then next_of (number_of first) (number_of second)
-    else if bytes_eq name (codes "prev") then prev_of (number_of first) (number_of second)
-    else if bytes_eq name (codes "until") then until_of (begun_at (address_of first) (number_of second))
-    else if bytes_eq name (codes "lastat") then last_of (begun_at (address_of first) (number_of second))
+    else if bytes_eq name (codes "next") then each_of Until (number_of first) (number_of second)
+    else if bytes_eq name (codes "prev") then each_of Before (number_of first) (number_of second)
+    else if bytes_eq name (codes "until") then asked next_time (begun_at (address_of first) (number_of second))
+    else if bytes_eq name (codes "lastat") then asked Last (begun_at (address_of first) (number_of second))
     else Bad
 
 unfoldable pub command_by : List (List ℕ) → Command

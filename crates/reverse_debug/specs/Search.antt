@@ -1,16 +1,10 @@
 -- What is watched on a stretch of a run (the project's own).
-use Rattle.std.specs.Prelude.{ℕ, zero, suc, ◌+◌, max, Bool, true, false, nat_lt, if◌then◌else◌, Option, Some, None}
+use Rattle.std.specs.Prelude.{ℕ, zero, suc, ◌+◌, Bool, true, false, nat_lt, if◌then◌else◌, Some, None}
 use Rattle.outer_lane.specs.Setting.{Setting}
 use Rattle.rp_machine.specs.State.{State}
 use Rattle.reverse_debug.specs.declared.search.Tally.{Tally}
 use Rattle.reverse_debug.specs.Command.{Watched}
 use Rattle.reverse_debug.specs.Reply.{happens}
-
--- the greater of two cycles, of which each may be none
-abbrev pub greater_of : Option ℕ → Option ℕ → Option ℕ
-greater_of None other = other
-greater_of (Some one) None = Some one
-greater_of (Some one) (Some other) = Some (max one other)
 
 -- one cycle more, in which it happened or not; only the first ones are remembered, at most so many
 abbrev pub noted : ℕ → Bool → ℕ → Tally → Tally

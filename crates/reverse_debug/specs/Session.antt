@@ -11,7 +11,7 @@ use Rattle.snap_ring.specs.Ring.{Snapshots, spacing_of, near_spacing, is_kept, i
 use Rattle.reverse_debug.specs.Advance.{CountsMove}
 use Rattle.reverse_debug.specs.Command.{Command, Watched}
 use Rattle.reverse_debug.specs.Command.Command.{Before, Last}
-use Rattle.reverse_debug.specs.Reply.{Said, last_cycle, move_cost, before_nth, behind_next, answer}
+use Rattle.reverse_debug.specs.Reply.{Said, last_cycle, move_cost, search_cost, before_nth, behind_next, answer}
 
 pub record Standing : Type 0 where
   -- the machine's state at the present cycle
@@ -110,21 +110,23 @@ pub record StaysFor (w : Setting) (old new : Standing) : Type 0 where
   pub closer : new.near.spacing ≡ old.near.spacing
   pub reached : new.reached ≡ max old.reached new.now.cycle
 
--- The session has gone forward, at most to a cycle, with the same near stretch; with a cause only where that is the stop below it.
-pub record GoesOn (w : Setting) (old : Standing) (to : ℕ) (new : Standing) (result : Option Why) : Type 0 where
+-- The session has gone forward, with the same near stretch.
+pub record Goes (w : Setting) (old new : Standing) (before after : ℕ) : Type 0 where
   pub stays : StaysFor w old new
   pub forward : old.now.cycle ≤ new.now.cycle
-  pub within : new.now.cycle ≤ to
   pub stretch : new.near.origin ≡ old.near.origin
+  pub count : CountsMove old.now new.now before after
+
+-- So it has gone, at most to a cycle; with a cause only where that is the stop below it.
+pub record GoesOn (w : Setting) (old : Standing) (to : ℕ) (new : Standing) (result : Option Why) (before after : ℕ) : Type 0 where
+  pub goes : Goes w old new before after
+  pub within : new.now.cycle ≤ to
   pub stopped : IfSome result (λ why. (stop w new.now ≡ Some why) × (new.now.cycle < to))
 
--- The session has gone forward with the same near stretch, and so many of the times at which it would end are left.
+-- So it has gone, and so many of the times at which it would end are left.
 pub record Seeks (w : Setting) (watched : Watched) (times : ℕ) (old new : Standing) (left before now : ℕ) : Type 0 where
-  pub stays : StaysFor w old new
-  pub forward : old.now.cycle ≤ new.now.cycle
-  pub stretch : new.near.origin ≡ old.near.origin
+  pub goes : Goes w old new before now
   pub next : behind_next w (first_of old) watched times old.now.cycle ≡ behind_next w (first_of old) watched left new.now.cycle
-  pub count : CountsMove old.now new.now before now
 
 -- Some are left, and it has come to a stop.
 pub record Misses (w : Setting) (watched : Watched) (count : ℕ) (old new : Standing) (why : Why) (before now : ℕ) : Type 0 where
@@ -174,6 +176,13 @@ Moves w old what new reply before after =
 pub record FindsNear (near : Snapshots) (count cycle found : ℕ) : Type 0 where
   pub ends : IsIn near found
   pub begins : 1 < count → IsIn near cycle
+
+-- A search for a cycle took at most so many steps by the spacing of one ring, and at most as many by that of the other one where it finds
+-- a cycle of its stretch.
+pub record Spends (ring near : Snapshots) (count cycle before after : ℕ) (found : Option ℕ) : Type 0 where
+  pub forward : before ≤ after
+  pub steps : after ≤ before + search_cost ring.spacing count cycle found
+  pub close : FindsNear near count cycle (or_zero found) → after ≤ before + search_cost near.spacing count cycle found
 
 -- what is said to a command is of the near stretch: the cycle that is moved to, or told as the last one
 abbrev pub IsNearBy : Setting → State → Snapshots → ℕ → Command → Type 0

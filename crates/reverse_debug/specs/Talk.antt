@@ -1,5 +1,5 @@
 -- A talk: lines, and the answer to each. The project's own.
-use Rattle.std.specs.Prelude.{◌≡◌, ℕ, ◌+◌, ◌≤◌, Bool, if◌then◌else◌, List, [], ◌∷◌, ◌++◌, length, Option, Result, IfOk, OnOk}
+use Rattle.std.specs.Prelude.{◌≡◌, ℕ, ◌+◌, ◌≤◌, Bool, List, [], ◌∷◌, ◌++◌, length, Option, Result, IfOk, OnOk}
 use Rattle.trace_text.specs.Sent.{Sends}
 use Rattle.trace_text.specs.declared.writer.SinkFault.{SinkFault}
 use Rattle.reverse_debug.specs.declared.way.Way.{Way}
@@ -28,17 +28,6 @@ cycle_after t cycle (line ∷ lines) = cycle_after t (t.next cycle line) lines
 abbrev pub cost_from : Talk → ℕ → List (List ℕ) → ℕ
 cost_from t cycle [] = 0
 cost_from t cycle (line ∷ lines) = t.cost cycle line + cost_from t (t.next cycle line) lines
-
--- what is said to one line, and its steps at most; nothing to a last one
-abbrev pub said_to : Talk → ℕ → List ℕ → List ℕ
-said_to t cycle line = if t.last line then [] else t.reply cycle line
-
-abbrev pub spent_on : Talk → ℕ → List ℕ → ℕ
-spent_on t cycle line = if t.last line then 0 else t.cost cycle line
-
--- and where who answers stands then: at a last one it stays
-abbrev pub moved_by : Talk → ℕ → List ℕ → ℕ
-moved_by t cycle line = if t.last line then cycle else t.next cycle line
 
 -- Lines of a source were heard and answered from a cycle on: some bytes were taken, at most so many, and the taking ended so; the
 -- replies to the lines were sent, no put failed, and who answers stands at the cycle after them; or the sink failed and a part of the

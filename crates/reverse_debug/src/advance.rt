@@ -4,7 +4,7 @@ ghost use Rattle.std.specs.Prelude.{◌≡◌, ℕ, ◌≤◌, ◌<◌, ◌+◌,
 ghost use Rattle.outer_lane.specs.Setting.{setting};
 ghost use Rattle.rp_machine.specs.Quiet.{IsQuiet};
 ghost use Rattle.rp_machine.specs.Run.{states};
-ghost use Rattle.reverse_debug.specs.Advance.{Advances, SeesAs, EndsAtLast, CountsMove};
+ghost use Rattle.reverse_debug.specs.Advance.{Advances, Approaches, SeesAs};
 ghost use Rattle.reverse_debug.specs.Reading.{sought, IsThere};
 ghost use Rattle.reverse_debug.specs.Reply.{ends_by, seen};
 
@@ -40,9 +40,8 @@ pub(crate) fn advance<X: Device, L: Ledger>(
 ) -> Option<Why>
     requires low { machine.old.cycle ≤ world.now.limit }
     requires ahead { machine.old.cycle ≤ to }
-    ensures way { Advances (setting X.meaning world.now) machine.old to machine.new result }
+    ensures way { Advances (setting X.meaning world.now) machine.old to machine.new result steps.old steps.new }
     ensures there { IfNone result (machine.new.cycle ≡ to) }
-    ensures steps { CountsMove machine.old machine.new steps.old steps.new }
 {
     let most = passable(machine.number(), to, world.limit);
     let mut pace = Pace::default();
@@ -115,10 +114,7 @@ pub(crate) fn seek<X: Device, L: Ledger>(
     requires watched { IsThere watched }
     requires low { machine.old.cycle ≤ world.now.limit }
     requires ahead { machine.old.cycle < to }
-    ensures way { Advances (setting X.meaning world.now) machine.old to machine.new result }
-    ensures ahead { IfNone result (machine.old.cycle < machine.new.cycle) }
-    ensures none { EndsAtLast (setting X.meaning world.now) (sought watched) machine.old machine.new result }
-    ensures steps { CountsMove machine.old machine.new steps.old steps.new }
+    ensures { Approaches (setting X.meaning world.now) (sought watched) machine.old to machine.new result steps.old steps.new }
 {
     let before = seen(machine, watched);
     let most = passable(machine.number(), to, world.limit);

@@ -2,7 +2,8 @@
 
 ghost use Rattle.std.specs.Prelude.{◌≡◌, not, IfSome};
 ghost use Rattle.std.specs.Option.{option_map};
-ghost use Rattle.reverse_debug.specs.Command.{is_quit, command_of, bare_command, with_one, with_two, mem_of, word_of, pin_of, begun_at, next_of, prev_of, until_of, last_of, peek_of, pio_of};
+ghost use Rattle.reverse_debug.specs.Command.{is_quit, command_of, bare_command, with_one, with_two, mem_of, word_of, pin_of, begun_at, each_of, asked, next_time, peek_of, pio_of};
+ghost use Rattle.reverse_debug.specs.Command.Command.{Until, Before, Last};
 ghost use Rattle.reverse_debug.specs.Reading.{meant, sought, Fits, IsThere};
 
 use crate::watch::Watched;
@@ -64,7 +65,7 @@ fn begun_at(address: Option<u32>, core: Option<u64>) -> Option<Watched>
 
 /// `next` with its operands.
 fn next_of(count: Option<u64>, core: Option<u64>) -> Command
-    ensures meaning { meant result ≡ next_of count core }
+    ensures meaning { meant result ≡ each_of Until count core }
     ensures fits { Fits result }
 {
     match (count, core) {
@@ -78,7 +79,7 @@ fn next_of(count: Option<u64>, core: Option<u64>) -> Command
 
 /// `prev` with its operands.
 fn prev_of(count: Option<u64>, core: Option<u64>) -> Command
-    ensures meaning { meant result ≡ prev_of count core }
+    ensures meaning { meant result ≡ each_of Before count core }
     ensures fits { Fits result }
 {
     match (count, core) {
@@ -93,7 +94,7 @@ fn prev_of(count: Option<u64>, core: Option<u64>) -> Command
 /// A move to the next time of what is watched.
 fn until_of(watched: Option<Watched>) -> Command
     requires { IfSome watched IsThere }
-    ensures meaning { meant result ≡ until_of (option_map sought watched) }
+    ensures meaning { meant result ≡ asked next_time (option_map sought watched) }
     ensures fits { Fits result }
 {
     match watched {
@@ -105,7 +106,7 @@ fn until_of(watched: Option<Watched>) -> Command
 /// A question for the last time of what is watched.
 fn last_of(watched: Option<Watched>) -> Command
     requires { IfSome watched IsThere }
-    ensures meaning { meant result ≡ last_of (option_map sought watched) }
+    ensures meaning { meant result ≡ asked Last (option_map sought watched) }
     ensures fits { Fits result }
 {
     match watched {

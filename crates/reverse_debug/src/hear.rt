@@ -1,15 +1,14 @@
 //! Lines from a source for the debugger: each is answered before more is taken.
 
-ghost use Rattle.std.specs.Prelude.{◌≡◌, ◌≤◌, ◌+◌, ◌++◌, ◌∷◌, [], ℕ, List, Option, true, false, not, take, IfOk, OnErr};
+ghost use Rattle.std.specs.Prelude.{◌≡◌, ◌≤◌, ℕ, List, Option, take};
 ghost use Rattle.std.specs.Str.Lines.{strip_carriage_return};
-ghost use Rattle.trace_text.specs.Sent.{Sends};
 ghost use Rattle.outer_lane.specs.Setting.{setting};
 ghost use Rattle.reverse_debug.specs.Session.{first_of, StandsFor};
 ghost use Rattle.reverse_debug.specs.Debugger.{talk_with};
-ghost use Rattle.reverse_debug.specs.Lines.{all_lines};
-ghost use Rattle.reverse_debug.specs.NextLine.{behind, given_bytes, HasNoEnd};
-ghost use Rattle.reverse_debug.specs.Talk.{Talk, said_to, spent_on, moved_by, Hears};
-ghost use Rattle.reverse_debug.specs.Way.{Along, Feeds, Finishes, Taking, IsAfterLine};
+ghost use Rattle.reverse_debug.specs.Lines.{without_cr, unless_empty, until};
+ghost use Rattle.reverse_debug.specs.NextLine.{behind, given_bytes};
+ghost use Rattle.reverse_debug.specs.Talk.{Hears};
+ghost use Rattle.reverse_debug.specs.Way.{Tells, RepliesTo, Taking, IsAfterLine};
 
 use crate::Session;
 use crate::reader::{LINE, LineReader, Next};
@@ -36,30 +35,6 @@ fn without_return(line: &[u8]) -> &[u8]
     }
 }
 
-/// Lets the session answer a line, and leaves the reply in `reply`; false exactly for a last line.
-fn say<X: Device, L: Ledger>(
-    session: &mut Session,
-    world: &World<'_, X>,
-    line: &[u8],
-    reply: &mut ArrayVec<u8, REPLY>,
-    steps: &mut Steps<L>,
-) -> bool
-    requires stood { StandsFor (setting X.meaning world.now) session.old }
-    ensures stands { StandsFor (setting X.meaning world.now) session.new }
-    ensures first { first_of session.new ≡ first_of session.old }
-    ensures more { let t = talk_with (setting X.meaning world.now) session.old in result ≡ not
-        (t.last line.now) }
-    ensures reply { let t = talk_with (setting X.meaning world.now) session.old in result ≡ true →
-        reply.new.items ≡ t.reply session.old.now.cycle line.now }
-    ensures cycle { let t = talk_with (setting X.meaning world.now) session.old in
-        session.new.now.cycle ≡ moved_by t session.old.now.cycle line.now }
-    ensures forward { steps.old ≤ steps.new }
-    ensures within { let t = talk_with (setting X.meaning world.now) session.old in steps.new ≤
-        steps.old + spent_on t session.old.now.cycle line.now }
-{
-    session.command(world, line, reply, steps)
-}
-
 /// Puts the reply to a line, and tells whether it is no last one.
 fn answer<X: Device, O: Sink, L: Ledger>(
     session: &mut Session,
@@ -72,21 +47,13 @@ fn answer<X: Device, O: Sink, L: Ledger>(
     ensures stands { StandsFor (setting X.meaning world.now) session.new }
     ensures first { first_of session.new ≡ first_of session.old }
     ensures same_sink { writer.new.out.ghost_name ≡ writer.old.out.ghost_name }
-    ensures more { let t = talk_with (setting X.meaning world.now) session.old in IfOk result (λ
-        more. more ≡ not (t.last line.now)) }
-    ensures other { let t = talk_with (setting X.meaning world.now) session.old in OnErr result
-        (t.last line.now ≡ false) }
-    ensures sends { let t = talk_with (setting X.meaning world.now) session.old in Sends (O.written
-        writer.old.out.now) (O.written writer.new.out.now) (O.faults writer.old.out.now) (O.faults
-        writer.new.out.now) (said_to t session.old.now.cycle line.now) result }
-    ensures cycle { let t = talk_with (setting X.meaning world.now) session.old in
-        session.new.now.cycle ≡ moved_by t session.old.now.cycle line.now }
-    ensures forward { steps.old ≤ steps.new }
-    ensures within { let t = talk_with (setting X.meaning world.now) session.old in steps.new ≤
-        steps.old + spent_on t session.old.now.cycle line.now }
+    ensures replies { let t = talk_with (setting X.meaning world.now) session.old in RepliesTo t
+        session.old.now.cycle line.now (O.written writer.old.out.now) (O.written writer.new.out.now)
+        (O.faults writer.old.out.now) (O.faults writer.new.out.now) steps.old steps.new
+        session.new.now.cycle result }
 {
     let mut reply = ArrayVec::<u8, REPLY>::new();
-    if !say(session, world, line, &mut reply, steps) {
+    if !session.command(world, line, &mut reply, steps) {
         return Ok(false);
     }
     match writer.line(&reply) {
@@ -107,12 +74,10 @@ fn hear_line<X: Device, O: Sink, L: Ledger>(
     ensures stands { StandsFor (setting X.meaning world.now) session.new }
     ensures first { first_of session.new ≡ first_of session.old }
     ensures same_sink { writer.new.out.ghost_name ≡ writer.old.out.ghost_name }
-    ensures feeds { let t = talk_with (setting X.meaning world.now) session.old in (cycle : ℕ) (seen
-        whole : List ℕ) (old : Option (List ℕ)) (before base : ℕ) → HasNoEnd whole → given.now ≡
-        take given_bytes whole → Along t cycle seen old (O.written writer.old.out.now) before
-        (O.faults writer.old.out.now) base steps.old session.old.now.cycle → Feeds t cycle (seen ++
-        (whole ++ 10 ∷ [])) old (O.written writer.new.out.now) before (O.faults writer.new.out.now)
-        base steps.new session.new.now.cycle result }
+    ensures replies { let t = talk_with (setting X.meaning world.now) session.old in (whole : List ℕ)
+        → given.now ≡ take given_bytes whole → RepliesTo t session.old.now.cycle (without_cr whole)
+        (O.written writer.old.out.now) (O.written writer.new.out.now) (O.faults writer.old.out.now)
+        (O.faults writer.new.out.now) steps.old steps.new session.new.now.cycle result }
 {
     answer(session, world, without_return(given), writer, steps)
 }
@@ -124,25 +89,21 @@ fn hear_end<X: Device, O: Sink, L: Ledger>(
     given: &[u8],
     writer: &mut Writer<'_, O>,
     steps: &mut Steps<L>,
-) -> Result<(), SinkFault>
+) -> Result<bool, SinkFault>
     requires stood { StandsFor (setting X.meaning world.now) session.old }
     ensures stands { StandsFor (setting X.meaning world.now) session.new }
     ensures first { first_of session.new ≡ first_of session.old }
     ensures same_sink { writer.new.out.ghost_name ≡ writer.old.out.ghost_name }
-    ensures ends { let t = talk_with (setting X.meaning world.now) session.old in (cycle : ℕ) (seen
-        whole : List ℕ) (old : Option (List ℕ)) (before base : ℕ) → HasNoEnd whole → given.now ≡
-        take given_bytes whole → Along t cycle seen old (O.written writer.old.out.now) before
-        (O.faults writer.old.out.now) base steps.old session.old.now.cycle → Finishes t cycle
-        (all_lines (seen ++ whole)) old (O.written writer.new.out.now) before (O.faults
-        writer.new.out.now) base steps.new session.new.now.cycle result }
+    ensures tells { let t = talk_with (setting X.meaning world.now) session.old in (whole : List ℕ) →
+        given.now ≡ take given_bytes whole → Tells t session.old.now.cycle (until t.last
+        (unless_empty whole)) (O.written writer.old.out.now) (O.written writer.new.out.now)
+        (O.faults writer.old.out.now) (O.faults writer.new.out.now) steps.old steps.new
+        session.new.now.cycle result }
 {
     if given.is_empty() {
-        return Ok(());
+        return Ok(true);
     }
-    match answer(session, world, given, writer, steps) {
-        Ok(_) => Ok(()),
-        Err(fault) => Err(fault),
-    }
+    answer(session, world, given, writer, steps)
 }
 
 /// Reads the next line of a source and answers it; none where the session goes on.
@@ -176,7 +137,7 @@ fn hear_next<X: Device, I: Source, O: Sink, L: Ledger>(
             Err(fault) => Err(fault),
         },
         Next::Last => match hear_end(session, world, &line, writer, steps) {
-            Ok(()) => Ok(Some(Way::Ended)),
+            Ok(_) => Ok(Some(Way::Ended)),
             Err(fault) => Err(fault),
         },
         Next::Failed => Ok(Some(Way::Broken)),

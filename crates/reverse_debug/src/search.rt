@@ -2,18 +2,17 @@
 
 ghost use Rattle.std.specs.Prelude.{◌≡◌, ◌≤◌, ◌<◌, ◌+◌, ◌-◌, ◌^◌};
 ghost use Rattle.outer_lane.specs.Setting.{setting};
-ghost use Rattle.rp_base.specs.Alias.{or_zero};
 ghost use Rattle.snap_ring.specs.Ring.{state_at, restored, IsNearest};
-ghost use Rattle.reverse_debug.specs.Search.{greater_of, noted, tally};
-ghost use Rattle.reverse_debug.specs.Reply.{last_cycle, search_cost, before_nth};
+ghost use Rattle.reverse_debug.specs.Search.{noted, tally};
+ghost use Rattle.reverse_debug.specs.Reply.{last_cycle, before_nth};
 ghost use Rattle.reverse_debug.specs.Reading.{sought, IsThere};
-ghost use Rattle.reverse_debug.specs.Session.{AreOf, FindsNear, all_kept, first_in};
+ghost use Rattle.reverse_debug.specs.Session.{AreOf, Spends, all_kept, first_in};
 
 use crate::advance::advance;
 use crate::watch::{Watched, happens_by, seen};
 use lane_look::{Device, Marks};
 use rp_machine::{Machine, Steps, World};
-use snap_ring::Ring;
+use snap_ring::{Ring, greater_of};
 use std::sync::ledger::Ledger;
 
 /// In how many cycles of a stretch it happened, and the last one of the first of these.
@@ -80,17 +79,6 @@ fn scan<X: Device, L: Ledger>(
     tally
 }
 
-/// The greater of two cycles, of which each may be none.
-fn greater_of(one: Option<u64>, other: Option<u64>) -> Option<u64>
-    ensures { result ≡ greater_of one other }
-{
-    match (one, other) {
-        (Some(one), Some(other)) => Some(one.max(other)),
-        (None, _) => other,
-        (_, None) => one,
-    }
-}
-
 /// The greatest cycle not above another one of which one of two rings keeps the state.
 fn nearest_of(ring: &Ring, near: &Ring, cycle: u64) -> Option<u64>
     ensures { IsNearest cycle (all_kept ring.now near.now) result }
@@ -125,10 +113,7 @@ pub(crate) fn nth_before<X: Device, L: Ledger>(
     requires to { to ≤ last_cycle (setting X.meaning world.now) (first_in ring.now machine.old) }
     ensures found { result
         ≡ before_nth (setting X.meaning world.now) (first_in ring.now machine.old) (sought watched) count to }
-    ensures forward { steps.old ≤ steps.new }
-    ensures steps { steps.new ≤ steps.old + search_cost ring.now.spacing count to result }
-    ensures near { FindsNear near.now count to (or_zero result)
-        → steps.new ≤ steps.old + search_cost near.now.spacing count to result }
+    ensures spends { Spends ring.now near.now count to steps.old steps.new result }
 {
     if count == 0 {
         return Some(to);

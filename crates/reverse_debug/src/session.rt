@@ -43,13 +43,6 @@ fn place_after(ring: &Ring, at: u64, to: u64) -> u64
     if next < to { next } else { to }
 }
 
-/// The greater of two cycles.
-fn greater(one: u64, other: u64) -> u64
-    ensures { result ≡ max one other }
-{
-    if one < other { other } else { one }
-}
-
 /// The times that are left, where one of them was in this cycle or not.
 fn fewer(was: bool, left: u64) -> u64
     requires { 0 < left }
@@ -99,7 +92,7 @@ impl Session {
     ghost use Rattle.reverse_debug.specs.Reply.{heard, answer, cost, command_cost, moved_to, moved_back, move_cost, search_cost, before_nth, behind_next, at_or_last, at_or_start};
     ghost use Rattle.reverse_debug.specs.Command.{command_of};
     ghost use Rattle.snap_ring.specs.Ring.{is_within};
-    ghost use Rattle.reverse_debug.specs.Advance.{EndsAtLast, CountsMove};
+    ghost use Rattle.reverse_debug.specs.Advance.{EndsAtLast};
     ghost use Rattle.reverse_debug.specs.Session.{first_of, next_place, StandsFor, Stands, OpensAt, StaysFor, GoesOn, Lands, ComesTo, Does, Moves, IsIn, FindsNear, IsNearBy};
 
     /// A session at the state of a machine before its first cycle, for runs up to a limit of at most 1,000,000,000 cycles. It takes
@@ -212,13 +205,12 @@ impl Session {
     ) -> Option<Why>
         requires stands { StandsFor (setting X.meaning world.now) self.old }
         requires ahead { self.old.now.cycle < to }
-        ensures way { GoesOn (setting X.meaning world.now) self.old to self.new result }
+        ensures way { GoesOn (setting X.meaning world.now) self.old to self.new result steps.old steps.new }
         ensures nearer { IfNone result (self.old.now.cycle < self.new.now.cycle) }
-        ensures steps { CountsMove self.old.now self.new.now steps.old steps.new }
     {
         let until = self.next_stop(to);
         let why = advance(&mut self.machine, world, until, marks, steps);
-        self.reached = greater(self.reached, self.machine.number());
+        self.reached = self.reached.max(self.machine.number());
         self.ring.keep(&self.machine);
         self.near.keep(&self.machine);
         why
@@ -235,14 +227,13 @@ impl Session {
     ) -> Option<Why>
         requires stands { StandsFor (setting X.meaning world.now) self.old }
         requires watched { IsThere watched }
-        ensures way { GoesOn (setting X.meaning world.now) self.old (self.old.now.cycle + self.old.ring.spacing) self.new result }
+        ensures way { GoesOn (setting X.meaning world.now) self.old (self.old.now.cycle + self.old.ring.spacing) self.new result steps.old steps.new }
         ensures ahead { IfNone result (self.old.now.cycle < self.new.now.cycle) }
         ensures none { EndsAtLast (setting X.meaning world.now) (sought watched) self.old.now self.new.now result }
-        ensures steps { CountsMove self.old.now self.new.now steps.old steps.new }
     {
         let until = self.next_stop(u64::MAX);
         let why = seek(&mut self.machine, world, watched, until, marks, steps);
-        self.reached = greater(self.reached, self.machine.number());
+        self.reached = self.reached.max(self.machine.number());
         self.ring.keep(&self.machine);
         self.near.keep(&self.machine);
         why
@@ -257,9 +248,8 @@ impl Session {
     ) -> Option<Why>
         requires stands { StandsFor (setting X.meaning world.now) self.old }
         requires ahead { self.old.now.cycle ≤ to }
-        ensures way { GoesOn (setting X.meaning world.now) self.old to self.new result }
+        ensures way { GoesOn (setting X.meaning world.now) self.old to self.new result steps.old steps.new }
         ensures there { IfNone result (self.new.now.cycle ≡ to) }
-        ensures steps { CountsMove self.old.now self.new.now steps.old steps.new }
     {
         let mut marks = Marks::new();
         'stretches: while self.machine.number() < to {

@@ -22,12 +22,12 @@ within spacing origin cycle h =
       below = ltb-true (cycle - origin) (64 * spacing) a.1;
     }
 
-record IsDue (spacing origin : ℕ) (kept : List State) (cycle : ℕ) : Type 0 where
-  place : IsWithin spacing origin cycle
-  multiple : (cycle - origin) % spacing ≡ 0
-  new : is_kept cycle kept ≡ false
+pub record IsDue (spacing origin : ℕ) (kept : List State) (cycle : ℕ) : Type 0 where
+  pub place : IsWithin spacing origin cycle
+  pub multiple : (cycle - origin) % spacing ≡ 0
+  pub new : is_kept cycle kept ≡ false
 
-due : (spacing origin : ℕ) (kept : List State) (cycle : ℕ) → is_due spacing origin kept cycle ≡ true → IsDue spacing origin kept cycle
+pub due : (spacing origin : ℕ) (kept : List State) (cycle : ℕ) → is_due spacing origin kept cycle ≡ true → IsDue spacing origin kept cycle
 due spacing origin kept cycle h =
     let a = and_parts (is_within spacing origin cycle) (((cycle - origin) % spacing == 0) && not (is_kept cycle kept)) h in
     let b = and_parts ((cycle - origin) % spacing == 0) (not (is_kept cycle kept)) a.1 in

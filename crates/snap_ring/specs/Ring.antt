@@ -62,10 +62,11 @@ abbrev pub IsNearest : ℕ → List State → Option ℕ → Type 0
 IsNearest cycle kept None = (other : ℕ) → is_kept other kept ≡ true → cycle < other
 IsNearest cycle kept (Some found) = IsGreatest cycle kept found
 
--- a cycle is above the greatest that was found
-abbrev pub is_beyond : Option ℕ → ℕ → Bool
-is_beyond None cycle = true
-is_beyond (Some found) cycle = nat_lt found cycle
+-- the greater of two cycles, of which each may be none
+abbrev pub greater_of : Option ℕ → Option ℕ → Option ℕ
+greater_of None other = other
+greater_of (Some one) None = Some one
+greater_of (Some one) (Some other) = Some (max one other)
 
 -- how many pages are stored for a state: those that differ from the state that was kept before it, and all for the first
 abbrev pub stored_for : State → List State → ℕ

@@ -7,3 +7,4 @@ mod ring;
 mod snapshot;
 
 pub use ring::Ring;
+pub use snapshot::greater_of;

@@ -2,7 +2,7 @@
 
 ghost use Rattle.std.specs.Prelude.{◌≡◌, IfOk, List, ℕ, vec_len};
 ghost use Rattle.std.specs.Option.{option_copied};
-ghost use Rattle.snap_ring.specs.Ring.{is_kept, is_beyond, IsNearest};
+ghost use Rattle.snap_ring.specs.Ring.{is_kept, greater_of, IsNearest};
 ghost use Rattle.snap_ring.specs.Snapshot.{first_numbers, snapshot_at, states_in};
 
 use rp_machine::{Machine, Rest};
@@ -75,13 +75,14 @@ pub fn first_numbers(snapshots: &[Snapshot]) -> Option<[u32; 264]>
     }
 }
 
-/// A cycle is above the greatest that was found.
-fn is_beyond(found: Option<u64>, cycle: u64) -> bool
-    ensures { result ≡ is_beyond found cycle }
+/// The greater of two cycles, of which each may be none.
+pub fn greater_of(one: Option<u64>, other: Option<u64>) -> Option<u64>
+    ensures { result ≡ greater_of one other }
 {
-    match found {
-        Some(found) => found < cycle,
-        None => true,
+    match (one, other) {
+        (Some(one), Some(other)) => Some(one.max(other)),
+        (None, _) => other,
+        (_, None) => one,
     }
 }
 
@@ -92,9 +93,10 @@ pub fn nearest_of(snapshots: &[Snapshot], cycle: u64) -> Option<u64>
     let mut nearest = None;
     for snapshot in snapshots {
         let kept = snapshot.rest.number();
-        if kept <= cycle && is_beyond(nearest, kept) {
-            nearest = Some(kept);
+        if kept > cycle {
+            continue;
         }
+        nearest = greater_of(Some(kept), nearest);
     }
     nearest
 }

@@ -1,6 +1,5 @@
-use Rattle.std.proofs.Common.{◌+◌, ◌<◌, ◌≡◌, ◌≤◌, ◌∙◌, ap, sym, arith}
-use Rattle.outer_lane.specs.Setting.{setting_of}
-use Rattle.reverse_debug.proofs.Paths.{next_at, way_here, way_on, way_stopped, way_there, way_counts, way_passed}
+use Rattle.std.proofs.Common.{◌+◌, ◌≡◌, ◌≤◌, ◌∙◌, ap, sym, arith}
+use Rattle.reverse_debug.proofs.Paths.{next_at, way_here, way_on, way_stopped, way_passed}
 use Rattle.reverse_debug.proofs.advance.advance.Goals as goal
 
 pub cycles-init : goal.cycles-init
@@ -8,54 +7,36 @@ cycles-init g c = way_here _ _ _ _ c.requires.low c.requires.ahead
 
 pub cycles-smaller : goal.cycles-smaller
 cycles-smaller g c =
-    let w = setting_of c.args.world.now.script.now (g.X.Device.meaning c.args.world.now.device.now) c.args.world.now.limit in
-    let lt : c.cycles.machine.cycle < c.args.to = omega arith in
-    let one = next_at w c.cycles.machine c.cycle.new.self c.in-None.ensures.state in
-    omega (arith, one, lt)
+    let one = next_at _ c.cycles.machine c.cycle.new.self c.in-None.ensures.state in
+    omega (arith, one)
 
 pub cycles-smaller-then-is_due : goal.cycles-smaller-then-is_due
 cycles-smaller-then-is_due g c =
-    let w = setting_of c.args.world.now.script.now (g.X.Device.meaning c.args.world.now.device.now) c.args.world.now.limit in
-    let lt : c.cycles.machine.cycle < c.args.to = omega arith in
-    let one = next_at w c.cycles.machine c.cycle.new.self c.in-None.ensures.state in
+    let one = next_at _ c.cycles.machine c.cycle.new.self c.in-None.ensures.state in
     let q = c.pass_paced.ensures in
     let number : c.pass_paced.new.machine.cycle ≡ c.cycle.new.self.cycle + c.pass_paced.result = ap (λ s. s.cycle) q.state ∙ q.quiet.cycle _ (omega arith) in
-    omega (arith, one, lt, number)
+    omega (arith, one, number)
 
 pub cycles-preserved : goal.cycles-preserved
 cycles-preserved g c =
-    let w = setting_of c.args.world.now.script.now (g.X.Device.meaning c.args.world.now.device.now) c.args.world.now.limit in
-    let lt : c.cycles.machine.cycle < c.args.to = omega arith in
-    way_on w _ c.cycles.machine c.cycle.new.self c.args.to _ _ _ c.cycles.invariant (sym c.in-None.ensures.cause) c.in-None.ensures.state lt c.in-None.ensures.steps
+    way_on _ _ c.cycles.machine c.cycle.new.self c.args.to _ _ _ c.cycles.invariant (sym c.in-None.ensures.cause) c.in-None.ensures.state (omega arith) c.in-None.ensures.steps
 
 pub cycles-preserved-then-is_due : goal.cycles-preserved-then-is_due
 cycles-preserved-then-is_due g c =
-    let w = setting_of c.args.world.now.script.now (g.X.Device.meaning c.args.world.now.device.now) c.args.world.now.limit in
-    let lt : c.cycles.machine.cycle < c.args.to = omega arith in
-    let on = way_on w _ c.cycles.machine c.cycle.new.self c.args.to _ _ _ c.cycles.invariant (sym c.in-None.ensures.cause) c.in-None.ensures.state lt c.in-None.ensures.steps in
+    let on = way_on _ _ c.cycles.machine c.cycle.new.self c.args.to _ _ _ c.cycles.invariant (sym c.in-None.ensures.cause) c.in-None.ensures.state (omega arith) c.in-None.ensures.steps in
     let q = c.pass_paced.ensures in
     let near : c.passable-most.result ≤ c.args.to = omega (arith, c.passable-most.ensures.before) in
-    way_passed w _ c.cycle.new.self c.pass_paced.new.machine c.args.to _ _ _ _ _ on q.state q.quiet q.within near c.passable-most.ensures.limit q.steps
+    way_passed _ _ c.cycle.new.self c.pass_paced.new.machine c.args.to _ _ _ _ _ on q.state q.quiet q.within near c.passable-most.ensures.limit q.steps
 
 pub returns-in-Some-clause-way : goal.returns-in-Some-clause-way
 returns-in-Some-clause-way g c =
-    let w = setting_of c.args.world.now.script.now (g.X.Device.meaning c.args.world.now.device.now) c.args.world.now.limit in
-    let lt : c.cycles.machine.cycle < c.args.to = omega arith in
-    way_stopped w _ c.cycles.machine _ c.args.to _ _ _ c.cycles.invariant (sym c.in-Some.ensures.cause) lt c.in-Some.ensures.state
-
-pub returns-in-Some-clause-steps : goal.returns-in-Some-clause-steps
-returns-in-Some-clause-steps g c =
-    let w = setting_of c.args.world.now.script.now (g.X.Device.meaning c.args.world.now.device.now) c.args.world.now.limit in
-    way_counts w _ c.cycles.machine _ c.args.to _ _ _ c.cycles.invariant c.in-Some.ensures.state c.in-Some.ensures.steps
+    way_stopped _ _ c.cycles.machine _ c.args.to _ _ _ _ c.cycles.invariant (sym c.in-Some.ensures.cause) (omega arith) c.in-Some.ensures.state c.in-Some.ensures.steps
 
 pub returns-clause-way : goal.returns-clause-way
-returns-clause-way g c = way_there _ _ _ _ _ _ c.cycles.invariant
+returns-clause-way g c = c.cycles.invariant
 
 pub returns-clause-there : goal.returns-clause-there
 returns-clause-there g c = let within : c.cycles.machine.cycle ≤ c.args.to = c.cycles.invariant.within in omega arith
-
-pub returns-clause-steps : goal.returns-clause-steps
-returns-clause-steps g c = c.cycles.invariant.count
 
 pub cycle-requires : goal.cycle-requires
 cycle-requires g c = (c.type_bounds.sync-X, c.cycles.invariant.low)

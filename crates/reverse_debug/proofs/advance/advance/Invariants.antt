@@ -1,11 +1,11 @@
-use Rattle.std.proofs.Common.{◌-◌}
+use Rattle.std.proofs.Common.{◌-◌, None}
 use Rattle.outer_lane.specs.Setting.{setting_of}
-use Rattle.reverse_debug.proofs.Paths.{Way}
+use Rattle.reverse_debug.specs.Advance.{Advances}
 use Rattle.reverse_debug.proofs.advance.advance.Given as goal
 
 abbrev pub invariant-cycles : goal.invariant-cycles
 invariant-cycles g l =
-    Way (setting_of l.world.script.now (g.X.Device.meaning l.world.device.now) l.world.limit) l.initial.machine l.machine l.to l.initial.steps l.steps
+    Advances (setting_of l.world.script.now (g.X.Device.meaning l.world.device.now) l.world.limit) l.initial.machine l.to l.machine None l.initial.steps l.steps
 
 abbrev pub decreases-cycles : goal.decreases-cycles
 decreases-cycles g l = l.to - l.machine.cycle

@@ -1,160 +1,67 @@
-use Rattle.std.proofs.Common.{◌<◌, ◌≤◌, ◌+◌, ◌≡◌, ap, sym, arith, ◌∙◌}
+use Rattle.std.proofs.Common.{◌+◌, ◌≡◌, ap, sym, arith, ◌∙◌}
 use Rattle.outer_lane.specs.Setting.{setting_of}
+use Rattle.reverse_debug.specs.Advance.{SeesAs}
 use Rattle.reverse_debug.specs.Reading.{sought}
 use Rattle.reverse_debug.specs.Reply.{ends_by}
-use Rattle.reverse_debug.proofs.Paths.{next_at, way_here, way_counts}
-use Rattle.reverse_debug.proofs.Ends.{sees_there, unended_none, unended_passed, unended_found, unended_cycle, unended_ended, unended_at_stop, unended_there}
+use Rattle.reverse_debug.proofs.Paths.{next_at, way_here}
+use Rattle.reverse_debug.proofs.Ends.{Unended, sees_there, unended_none, unended_passed, unended_found, unended_cycle, unended_ended, unended_at_stop, unended_there}
+use Rattle.reverse_debug.proofs.advance.seek.Given.{Over}
+use Rattle.reverse_debug.proofs.advance.seek.Goals.{After-is_due}
 use Rattle.reverse_debug.proofs.advance.seek.Goals as goal
 
 pub cycles-init : goal.cycles-init
 cycles-init g c = unended_none _ _ _ _ _ (way_here _ _ _ _ c.requires.low (omega arith))
 
-pub returns-then-ends_by-clause-way : goal.returns-then-ends_by-clause-way
-returns-then-ends_by-clause-way g c =
-    let w = setting_of c.args.world.now.script.now (g.X.Device.meaning c.args.world.now.device.now) c.args.world.now.limit in
-    let lt : c.cycles.machine.cycle < c.args.to = omega arith in
-    (unended_ended w (sought c.args.watched) _ c.cycles.machine c.cycle.new.self c.args.to _ _ _ c.cycles.invariant (sym c.in-None.ensures.cause) c.in-None.ensures.state lt c.in-None.ensures.steps).way
+pub returns-then-ends_by : goal.returns-then-ends_by
+returns-then-ends_by g c =
+    unended_ended _ (sought c.args.watched) _ c.cycles.machine c.cycle.new.self c.args.to _ _ _ c.cycles.invariant (sym c.in-None.ensures.cause) c.in-None.ensures.state (omega arith) c.in-None.ensures.steps
 
-pub returns-then-ends_by-clause-ahead : goal.returns-then-ends_by-clause-ahead
-returns-then-ends_by-clause-ahead g c =
-    let w = setting_of c.args.world.now.script.now (g.X.Device.meaning c.args.world.now.device.now) c.args.world.now.limit in
-    let lt : c.cycles.machine.cycle < c.args.to = omega arith in
-    (unended_ended w (sought c.args.watched) _ c.cycles.machine c.cycle.new.self c.args.to _ _ _ c.cycles.invariant (sym c.in-None.ensures.cause) c.in-None.ensures.state lt c.in-None.ensures.steps).ahead
-
-pub returns-then-ends_by-clause-none : goal.returns-then-ends_by-clause-none
-returns-then-ends_by-clause-none g c =
-    let w = setting_of c.args.world.now.script.now (g.X.Device.meaning c.args.world.now.device.now) c.args.world.now.limit in
-    let lt : c.cycles.machine.cycle < c.args.to = omega arith in
-    (unended_ended w (sought c.args.watched) _ c.cycles.machine c.cycle.new.self c.args.to _ _ _ c.cycles.invariant (sym c.in-None.ensures.cause) c.in-None.ensures.state lt c.in-None.ensures.steps).none
-
-pub returns-then-ends_by-clause-steps : goal.returns-then-ends_by-clause-steps
-returns-then-ends_by-clause-steps g c =
-    let w = setting_of c.args.world.now.script.now (g.X.Device.meaning c.args.world.now.device.now) c.args.world.now.limit in
-    let lt : c.cycles.machine.cycle < c.args.to = omega arith in
-    (unended_ended w (sought c.args.watched) _ c.cycles.machine c.cycle.new.self c.args.to _ _ _ c.cycles.invariant (sym c.in-None.ensures.cause) c.in-None.ensures.state lt c.in-None.ensures.steps).count
-
-pub returns-then-has_ended-clause-way : goal.returns-then-has_ended-clause-way
-returns-then-has_ended-clause-way g c =
-    let w = setting_of c.args.world.now.script.now (g.X.Device.meaning c.args.world.now.device.now) c.args.world.now.limit in
-    let lt : c.cycles.machine.cycle < c.args.to = omega arith in
+-- one cycle more, behind which it has not ended
+on : (g : Over) (c : After-is_due g) → Unended (setting_of c.args.world.now.script.now (g.X.Device.meaning c.args.world.now.device.now) c.args.world.now.limit) (sought c.args.watched) c.args.machine.now c.cycle.new.self c.args.to c.args.steps.now c.cycle.new.steps
+on g c =
     let what = sought c.args.watched in
-    let same = sees_there w _ c.cycles.machine what _ c.seen-before.ensures c.cycles.invariant.way.path c.cycles.invariant.none in
-    let on = unended_cycle w what _ c.cycles.machine c.cycle.new.self c.args.to _ _ _ _ c.cycles.invariant same (sym c.in-None.ensures.cause) c.in-None.ensures.state lt c.in-None.ensures.steps (sym (c.ends_by.ensures ∙ ap (ends_by what c.seen-before.result) c.seen.ensures) ∙ c.if-ends_by.false) in
-    let then = sees_there w _ c.cycle.new.self what _ c.seen-before.ensures on.way.path on.none in
-    let q = c.pass_seeking-passed.ensures in
-    let near : c.passable-most.result ≤ c.args.to = omega (arith, c.passable-most.ensures.before) in
-    (unended_found w what _ c.cycle.new.self c.pass_seeking-passed.new.machine c.args.to _ _ _ _ _ _ on then q.state q.quiet q.within near c.passable-most.ensures.limit q.steps q.none (sym c.has_ended.ensures ∙ c.if-has_ended.true)).way
+    let same = sees_there _ _ c.cycles.machine what _ c.seen-before.ensures c.cycles.invariant.way.path c.cycles.invariant.none in
+    unended_cycle _ what _ c.cycles.machine c.cycle.new.self c.args.to _ _ _ _ c.cycles.invariant same (sym c.in-None.ensures.cause) c.in-None.ensures.state (omega arith) c.in-None.ensures.steps (sym (c.ends_by.ensures ∙ ap (ends_by what c.seen-before.result) c.seen.ensures) ∙ c.if-ends_by.false)
 
-pub returns-then-has_ended-clause-ahead : goal.returns-then-has_ended-clause-ahead
-returns-then-has_ended-clause-ahead g c =
-    let w = setting_of c.args.world.now.script.now (g.X.Device.meaning c.args.world.now.device.now) c.args.world.now.limit in
-    let lt : c.cycles.machine.cycle < c.args.to = omega arith in
-    let what = sought c.args.watched in
-    let same = sees_there w _ c.cycles.machine what _ c.seen-before.ensures c.cycles.invariant.way.path c.cycles.invariant.none in
-    let on = unended_cycle w what _ c.cycles.machine c.cycle.new.self c.args.to _ _ _ _ c.cycles.invariant same (sym c.in-None.ensures.cause) c.in-None.ensures.state lt c.in-None.ensures.steps (sym (c.ends_by.ensures ∙ ap (ends_by what c.seen-before.result) c.seen.ensures) ∙ c.if-ends_by.false) in
-    let then = sees_there w _ c.cycle.new.self what _ c.seen-before.ensures on.way.path on.none in
-    let q = c.pass_seeking-passed.ensures in
-    let near : c.passable-most.result ≤ c.args.to = omega (arith, c.passable-most.ensures.before) in
-    (unended_found w what _ c.cycle.new.self c.pass_seeking-passed.new.machine c.args.to _ _ _ _ _ _ on then q.state q.quiet q.within near c.passable-most.ensures.limit q.steps q.none (sym c.has_ended.ensures ∙ c.if-has_ended.true)).ahead
+sees : (g : Over) (c : After-is_due g) → SeesAs (sought c.args.watched) c.seen-before.result c.cycle.new.self
+sees g c = sees_there _ _ c.cycle.new.self (sought c.args.watched) _ c.seen-before.ensures (on g c).way.path (on g c).none
 
-pub returns-then-has_ended-clause-none : goal.returns-then-has_ended-clause-none
-returns-then-has_ended-clause-none g c =
-    let w = setting_of c.args.world.now.script.now (g.X.Device.meaning c.args.world.now.device.now) c.args.world.now.limit in
-    let lt : c.cycles.machine.cycle < c.args.to = omega arith in
-    let what = sought c.args.watched in
-    let same = sees_there w _ c.cycles.machine what _ c.seen-before.ensures c.cycles.invariant.way.path c.cycles.invariant.none in
-    let on = unended_cycle w what _ c.cycles.machine c.cycle.new.self c.args.to _ _ _ _ c.cycles.invariant same (sym c.in-None.ensures.cause) c.in-None.ensures.state lt c.in-None.ensures.steps (sym (c.ends_by.ensures ∙ ap (ends_by what c.seen-before.result) c.seen.ensures) ∙ c.if-ends_by.false) in
-    let then = sees_there w _ c.cycle.new.self what _ c.seen-before.ensures on.way.path on.none in
-    let q = c.pass_seeking-passed.ensures in
-    let near : c.passable-most.result ≤ c.args.to = omega (arith, c.passable-most.ensures.before) in
-    (unended_found w what _ c.cycle.new.self c.pass_seeking-passed.new.machine c.args.to _ _ _ _ _ _ on then q.state q.quiet q.within near c.passable-most.ensures.limit q.steps q.none (sym c.has_ended.ensures ∙ c.if-has_ended.true)).none
+pub cycles-preserved : goal.cycles-preserved
+cycles-preserved g c = on g (goal.at.cycles-preserved g c).After-is_due
 
-pub returns-then-has_ended-clause-steps : goal.returns-then-has_ended-clause-steps
-returns-then-has_ended-clause-steps g c =
-    let w = setting_of c.args.world.now.script.now (g.X.Device.meaning c.args.world.now.device.now) c.args.world.now.limit in
-    let lt : c.cycles.machine.cycle < c.args.to = omega arith in
-    let what = sought c.args.watched in
-    let same = sees_there w _ c.cycles.machine what _ c.seen-before.ensures c.cycles.invariant.way.path c.cycles.invariant.none in
-    let on = unended_cycle w what _ c.cycles.machine c.cycle.new.self c.args.to _ _ _ _ c.cycles.invariant same (sym c.in-None.ensures.cause) c.in-None.ensures.state lt c.in-None.ensures.steps (sym (c.ends_by.ensures ∙ ap (ends_by what c.seen-before.result) c.seen.ensures) ∙ c.if-ends_by.false) in
-    let then = sees_there w _ c.cycle.new.self what _ c.seen-before.ensures on.way.path on.none in
-    let q = c.pass_seeking-passed.ensures in
-    let near : c.passable-most.result ≤ c.args.to = omega (arith, c.passable-most.ensures.before) in
-    (unended_found w what _ c.cycle.new.self c.pass_seeking-passed.new.machine c.args.to _ _ _ _ _ _ on then q.state q.quiet q.within near c.passable-most.ensures.limit q.steps q.none (sym c.has_ended.ensures ∙ c.if-has_ended.true)).count
+pub pass_seeking-passed-requires-clause-before : goal.pass_seeking-passed-requires-clause-before
+pass_seeking-passed-requires-clause-before g c κs within = sees g (goal.at.pass_seeking-passed-requires-clause-before g c).After-is_due
 
-pub cycles-smaller-else-has_ended : goal.cycles-smaller-else-has_ended
-cycles-smaller-else-has_ended g c =
-    let w = setting_of c.args.world.now.script.now (g.X.Device.meaning c.args.world.now.device.now) c.args.world.now.limit in
-    let lt : c.cycles.machine.cycle < c.args.to = omega arith in
-    let one = next_at w c.cycles.machine c.cycle.new.self c.in-None.ensures.state in
+pub returns-then-has_ended : goal.returns-then-has_ended
+returns-then-has_ended g c =
+    let at = (goal.at.returns-then-has_ended g c).After-is_due in
     let q = c.pass_seeking-passed.ensures in
-    let number : c.pass_seeking-passed.new.machine.cycle ≡ c.cycle.new.self.cycle + c.pass_seeking-passed.result = ap (λ s. s.cycle) q.state ∙ q.quiet.cycle _ (omega arith) in
-    omega (arith, one, lt, number)
+    unended_found _ (sought c.args.watched) _ c.cycle.new.self c.pass_seeking-passed.new.machine c.args.to _ _ _ _ _ _ (on g at) (sees g at) q.state q.quiet q.within (omega (arith, c.passable-most.ensures.before)) c.passable-most.ensures.limit q.steps q.none (sym c.has_ended.ensures ∙ c.if-has_ended.true)
 
 pub cycles-preserved-else-has_ended : goal.cycles-preserved-else-has_ended
 cycles-preserved-else-has_ended g c =
-    let w = setting_of c.args.world.now.script.now (g.X.Device.meaning c.args.world.now.device.now) c.args.world.now.limit in
-    let lt : c.cycles.machine.cycle < c.args.to = omega arith in
-    let what = sought c.args.watched in
-    let same = sees_there w _ c.cycles.machine what _ c.seen-before.ensures c.cycles.invariant.way.path c.cycles.invariant.none in
-    let on = unended_cycle w what _ c.cycles.machine c.cycle.new.self c.args.to _ _ _ _ c.cycles.invariant same (sym c.in-None.ensures.cause) c.in-None.ensures.state lt c.in-None.ensures.steps (sym (c.ends_by.ensures ∙ ap (ends_by what c.seen-before.result) c.seen.ensures) ∙ c.if-ends_by.false) in
-    let then = sees_there w _ c.cycle.new.self what _ c.seen-before.ensures on.way.path on.none in
+    let at = (goal.at.cycles-preserved-else-has_ended g c).After-is_due in
     let q = c.pass_seeking-passed.ensures in
-    let near : c.passable-most.result ≤ c.args.to = omega (arith, c.passable-most.ensures.before) in
-    unended_passed w what _ c.cycle.new.self c.pass_seeking-passed.new.machine c.args.to _ _ _ _ _ _ on then q.state q.quiet q.within near c.passable-most.ensures.limit q.steps q.none (sym c.has_ended.ensures ∙ c.if-has_ended.false)
+    unended_passed _ (sought c.args.watched) _ c.cycle.new.self c.pass_seeking-passed.new.machine c.args.to _ _ _ _ _ _ (on g at) (sees g at) q.state q.quiet q.within (omega (arith, c.passable-most.ensures.before)) c.passable-most.ensures.limit q.steps q.none (sym c.has_ended.ensures ∙ c.if-has_ended.false)
+
+pub cycles-smaller-else-has_ended : goal.cycles-smaller-else-has_ended
+cycles-smaller-else-has_ended g c =
+    let one = next_at _ c.cycles.machine c.cycle.new.self c.in-None.ensures.state in
+    let q = c.pass_seeking-passed.ensures in
+    let number : c.pass_seeking-passed.new.machine.cycle ≡ c.cycle.new.self.cycle + c.pass_seeking-passed.result = ap (λ s. s.cycle) q.state ∙ q.quiet.cycle _ (omega arith) in
+    omega (arith, one, number)
 
 pub cycles-smaller : goal.cycles-smaller
 cycles-smaller g c =
-    let w = setting_of c.args.world.now.script.now (g.X.Device.meaning c.args.world.now.device.now) c.args.world.now.limit in
-    let lt : c.cycles.machine.cycle < c.args.to = omega arith in
-    let one = next_at w c.cycles.machine c.cycle.new.self c.in-None.ensures.state in
-    omega (arith, one, lt)
+    let one = next_at _ c.cycles.machine c.cycle.new.self c.in-None.ensures.state in
+    omega (arith, one)
 
-pub cycles-preserved : goal.cycles-preserved
-cycles-preserved g c =
-    let w = setting_of c.args.world.now.script.now (g.X.Device.meaning c.args.world.now.device.now) c.args.world.now.limit in
-    let lt : c.cycles.machine.cycle < c.args.to = omega arith in
-    let what = sought c.args.watched in
-    let same = sees_there w _ c.cycles.machine what _ c.seen-before.ensures c.cycles.invariant.way.path c.cycles.invariant.none in
-    let on = unended_cycle w what _ c.cycles.machine c.cycle.new.self c.args.to _ _ _ _ c.cycles.invariant same (sym c.in-None.ensures.cause) c.in-None.ensures.state lt c.in-None.ensures.steps (sym (c.ends_by.ensures ∙ ap (ends_by what c.seen-before.result) c.seen.ensures) ∙ c.if-ends_by.false) in
-    on
+pub returns-in-Some : goal.returns-in-Some
+returns-in-Some g c =
+    unended_at_stop _ (sought c.args.watched) _ c.cycles.machine _ c.args.to _ _ _ _ c.cycles.invariant (sym c.in-Some.ensures.cause) (omega arith) c.in-Some.ensures.state c.in-Some.ensures.steps
 
-pub pass_seeking-passed-requires-clause-before : goal.pass_seeking-passed-requires-clause-before
-pass_seeking-passed-requires-clause-before g c κs within =
-    let w = setting_of c.args.world.now.script.now (g.X.Device.meaning c.args.world.now.device.now) c.args.world.now.limit in
-    let lt : c.cycles.machine.cycle < c.args.to = omega arith in
-    let what = sought c.args.watched in
-    let same = sees_there w _ c.cycles.machine what _ c.seen-before.ensures c.cycles.invariant.way.path c.cycles.invariant.none in
-    let on = unended_cycle w what _ c.cycles.machine c.cycle.new.self c.args.to _ _ _ _ c.cycles.invariant same (sym c.in-None.ensures.cause) c.in-None.ensures.state lt c.in-None.ensures.steps (sym (c.ends_by.ensures ∙ ap (ends_by what c.seen-before.result) c.seen.ensures) ∙ c.if-ends_by.false) in
-    sees_there w _ c.cycle.new.self what _ c.seen-before.ensures on.way.path on.none
-
-pub returns-in-Some-clause-way : goal.returns-in-Some-clause-way
-returns-in-Some-clause-way g c =
-    let w = setting_of c.args.world.now.script.now (g.X.Device.meaning c.args.world.now.device.now) c.args.world.now.limit in
-    let lt : c.cycles.machine.cycle < c.args.to = omega arith in
-    (unended_at_stop w (sought c.args.watched) _ c.cycles.machine _ c.args.to _ _ _ c.cycles.invariant (sym c.in-Some.ensures.cause) lt c.in-Some.ensures.state).0
-
-pub returns-in-Some-clause-none : goal.returns-in-Some-clause-none
-returns-in-Some-clause-none g c =
-    let w = setting_of c.args.world.now.script.now (g.X.Device.meaning c.args.world.now.device.now) c.args.world.now.limit in
-    let lt : c.cycles.machine.cycle < c.args.to = omega arith in
-    (unended_at_stop w (sought c.args.watched) _ c.cycles.machine _ c.args.to _ _ _ c.cycles.invariant (sym c.in-Some.ensures.cause) lt c.in-Some.ensures.state).1
-
-pub returns-in-Some-clause-steps : goal.returns-in-Some-clause-steps
-returns-in-Some-clause-steps g c =
-    let w = setting_of c.args.world.now.script.now (g.X.Device.meaning c.args.world.now.device.now) c.args.world.now.limit in
-    way_counts w _ c.cycles.machine _ c.args.to _ _ _ c.cycles.invariant.way c.in-Some.ensures.state c.in-Some.ensures.steps
-
-pub returns-clause-way : goal.returns-clause-way
-returns-clause-way g c = (unended_there _ _ _ _ _ _ _ c.cycles.invariant c.requires.ahead (omega arith)).way
-
-pub returns-clause-ahead : goal.returns-clause-ahead
-returns-clause-ahead g c = (unended_there _ _ _ _ _ _ _ c.cycles.invariant c.requires.ahead (omega arith)).ahead
-
-pub returns-clause-none : goal.returns-clause-none
-returns-clause-none g c = (unended_there _ _ _ _ _ _ _ c.cycles.invariant c.requires.ahead (omega arith)).none
-
-pub returns-clause-steps : goal.returns-clause-steps
-returns-clause-steps g c = c.cycles.invariant.way.count
+pub returns : goal.returns
+returns g c = unended_there _ _ _ _ _ _ _ c.cycles.invariant c.requires.ahead (omega arith)
 
 pub cycle-requires : goal.cycle-requires
 cycle-requires g c = (c.type_bounds.sync-X, c.cycles.invariant.way.low)

@@ -1,7 +1,7 @@
 use Rattle.std.proofs.Common.{sym, subst}
 use Rattle.snap_ring.specs.Ring.{IsNearest}
 use Rattle.reverse_debug.specs.Session.{all_kept}
-use Rattle.reverse_debug.proofs.Rings.{nearest_both}
+use Rattle.snap_ring.proofs.Nearest.{nearest_both}
 use Rattle.reverse_debug.proofs.search.nearest_of.Goals as goal
 
 pub returns : goal.returns

@@ -1,6 +1,5 @@
 use Rattle.std.proofs.Common.{◌<◌, arith}
 use Rattle.reverse_debug.proofs.Tallies.{counting_here, counting_on, never_stopped, few_counted, counted_all, counted_steps}
-use Rattle.reverse_debug.proofs.Paths.{nearer_by_one}
 use Rattle.reverse_debug.proofs.search.scan.Goals as goal
 
 pub cycles-init : goal.cycles-init
@@ -8,14 +7,12 @@ cycles-init g c = counting_here _ _ _ _ _ _ c.requires.low c.requires.ahead
 
 pub cycles-smaller : goal.cycles-smaller
 cycles-smaller g c =
-    let lt : c.cycles.machine.cycle < c.args.to = omega arith in
-    nearer_by_one c.cycles.machine c.advance.new.machine c.number-cycle.result c.args.to c.number-cycle.ensures c.in-None.ensures.there lt
+    omega (arith, c.number-cycle.ensures, c.in-None.ensures.there)
 
 pub cycles-preserved : goal.cycles-preserved
 cycles-preserved g c =
-    let lt : c.cycles.machine.cycle < c.args.to = omega arith in
-    counting_on _ _ _ _ _ _ _ _ _ _ _ _ _ _ _ _ c.cycles.invariant c.number-cycle.ensures c.in-None.ensures.way c.in-None.ensures.there lt c.seen.ensures
-    c.seen-before.ensures c.happens_by-happened.ensures c.noted-tally.ensures c.in-None.ensures.steps
+    counting_on _ _ _ _ _ _ _ _ _ _ _ _ _ _ _ _ c.cycles.invariant c.number-cycle.ensures c.in-None.ensures.way c.in-None.ensures.there (omega arith) c.seen.ensures
+    c.seen-before.ensures c.happens_by-happened.ensures c.noted-tally.ensures
 
 pub noted-tally-requires : goal.noted-tally-requires
 noted-tally-requires g c =
@@ -23,15 +20,9 @@ noted-tally-requires g c =
     let few : c.cycles.tally.count < c.args.to = few_counted _ _ _ _ _ _ _ _ _ c.cycles.invariant lt in
     record { few = omega (arith, c.ranges.to.fits) }
 
-pub returns-in-Some-clause-tally : goal.returns-in-Some-clause-tally
-returns-in-Some-clause-tally g c =
-    let lt : c.cycles.machine.cycle < c.args.to = omega arith in
-    absurd (never_stopped _ _ _ _ _ _ _ _ _ _ _ _ c.cycles.invariant c.number-cycle.ensures c.in-Some.ensures.way lt c.requires.to)
-
-pub returns-in-Some-clause-steps : goal.returns-in-Some-clause-steps
-returns-in-Some-clause-steps g c =
-    let lt : c.cycles.machine.cycle < c.args.to = omega arith in
-    absurd (never_stopped _ _ _ _ _ _ _ _ _ _ _ _ c.cycles.invariant c.number-cycle.ensures c.in-Some.ensures.way lt c.requires.to)
+pub returns-in-Some : goal.returns-in-Some
+returns-in-Some g c =
+    absurd (never_stopped _ _ _ _ _ _ _ _ _ _ _ _ _ c.cycles.invariant c.number-cycle.ensures c.in-Some.ensures.way (omega arith) c.requires.to)
 
 pub returns-clause-tally : goal.returns-clause-tally
 returns-clause-tally g c = counted_all _ _ _ _ _ _ _ _ _ c.cycles.invariant (omega arith)

@@ -9,10 +9,9 @@ forward-requires-clause-ahead g c κs within = (c.jump.ensures _ c.requires.stan
 
 pub returns-in-None : goal.returns-in-None
 returns-in-None g c =
-    moved_there _ _ _ _ _ _ _ _ c.requires.stands (c.jump.ensures _ c.requires.stands) c.in-None.ensures.way c.in-None.ensures.there c.in-None.ensures.steps
-    c.put_cycle.ensures
+    moved_there _ _ _ _ _ _ _ _ c.requires.stands (c.jump.ensures _ c.requires.stands) c.in-None.ensures.way c.in-None.ensures.there c.put_cycle.ensures
 
 pub returns-in-Some : goal.returns-in-Some
 returns-in-Some g c =
-    moved_stopped _ _ _ _ _ _ _ _ _ c.requires.stands (c.jump.ensures _ c.requires.stands) c.in-Some.ensures.way c.in-Some.ensures.steps
+    moved_stopped _ _ _ _ _ _ _ _ _ c.requires.stands (c.jump.ensures _ c.requires.stands) c.in-Some.ensures.way
     (stop_written _ _ _ _ _ c.requires.empty c.cycle.ensures c.stop_line.ensures)

@@ -1,4 +1,4 @@
-use Rattle.reverse_debug.proofs.Befores.{kept_of, reaches, same_before, search_near, search_close}
+use Rattle.reverse_debug.proofs.Befores.{kept_of, reaches, same_before, spent_same}
 use Rattle.reverse_debug.proofs.session.Session.nth_before.Goals as goal
 
 pub nth_before-requires-clause-kept : goal.nth_before-requires-clause-kept
@@ -10,8 +10,11 @@ nth_before-requires-clause-to g c κs within = reaches _ _ _ _ _ c.self.view_is 
 pub returns-clause-found : goal.returns-clause-found
 returns-clause-found g c = same_before _ _ _ _ _ _ _ _ c.self.view_is c.requires.stands c.cycle-now.ensures c.nth_before.ensures.found
 
+pub returns-clause-forward : goal.returns-clause-forward
+returns-clause-forward g c = c.nth_before.ensures.spends.forward
+
 pub returns-clause-steps : goal.returns-clause-steps
-returns-clause-steps g c = search_near _ _ _ _ _ _ c.nth_before.result c.self.view_is c.cycle-now.ensures c.nth_before.ensures.steps
+returns-clause-steps g c = (spent_same _ _ _ _ _ _ c.nth_before.result c.self.view_is c.cycle-now.ensures c.nth_before.ensures.spends).steps
 
 pub returns-clause-near : goal.returns-clause-near
-returns-clause-near g c = search_close _ _ _ _ _ _ c.nth_before.result c.self.view_is c.cycle-now.ensures c.nth_before.ensures.near
+returns-clause-near g c = (spent_same _ _ _ _ _ _ c.nth_before.result c.self.view_is c.cycle-now.ensures c.nth_before.ensures.spends).close

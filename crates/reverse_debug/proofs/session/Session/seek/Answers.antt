@@ -1,6 +1,5 @@
 use Rattle.std.proofs.Common.{◌≤◌, ◌+◌, max, ap, arith, ◌∙◌}
 use Rattle.reverse_debug.specs.Session.{next_place}
-use Rattle.reverse_debug.proofs.Rings.{next_reach}
 use Rattle.reverse_debug.proofs.Sessions.{low_number, part_low, part_stretched}
 use Rattle.reverse_debug.proofs.session.Session.seek.Goals as goal
 
@@ -16,7 +15,7 @@ seek-why-requires-clause-low g c κs within = part_low _ _ _ c.self.view_is c.re
 pub returns-clause-way : goal.returns-clause-way
 returns-clause-way g c =
     let old = c.args.self.now in
-    let reach : next_place old.ring old.now.cycle ≤ old.now.cycle + old.ring.spacing = next_reach old.ring old.now.cycle in
-    part_stretched _ _ _ _ _ _ _ _ _ _ c.self.view_is c.requires.stands c.seek-why.ensures.way (omega (arith, reach, c.next_stop-until.ensures.far))
+    let reach : next_place old.ring old.now.cycle ≤ old.now.cycle + old.ring.spacing = omega arith in
+    part_stretched _ _ _ _ _ _ _ _ _ _ _ _ c.self.view_is c.requires.stands c.seek-why.ensures.way (omega (arith, reach, c.next_stop-until.ensures.far))
     c.next_stop-until.ensures.far c.next_stop-until.ensures.near c.keep.ensures.kept c.keep-2.ensures.kept
-    (c.greater-self-inside.ensures ∙ ap (λ n. max c.self.inside.reached n) c.number.ensures)
+    (c.max-self-inside.ensures ∙ ap (λ n. max c.self.inside.reached n) c.number.ensures)

@@ -10,6 +10,6 @@ advance-why-requires-clause-low g c κs within = part_low _ _ _ c.self.view_is c
 
 pub returns-clause-way : goal.returns-clause-way
 returns-clause-way g c =
-    part_stretched _ _ _ _ _ _ _ _ _ _ c.self.view_is c.requires.stands c.advance-why.ensures.way c.next_stop-until.ensures.within
+    part_stretched _ _ _ _ _ _ _ _ _ _ _ _ c.self.view_is c.requires.stands c.advance-why.ensures.way c.next_stop-until.ensures.within
     c.next_stop-until.ensures.far c.next_stop-until.ensures.near c.keep.ensures.kept c.keep-2.ensures.kept
-    (c.greater-self-inside.ensures ∙ ap (λ n. max c.self.inside.reached n) c.number.ensures)
+    (c.max-self-inside.ensures ∙ ap (λ n. max c.self.inside.reached n) c.number.ensures)
