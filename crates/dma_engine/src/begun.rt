@@ -32,7 +32,7 @@ pub struct BegunTransfer {
 }
 
 impl BegunTransfer {
-    /// What an engine that stays as it is begins: room for what is begun.
+    /// What an engine that asks and wants nothing begins: room for what is begun.
     #[inline(always)]
     pub fn nothing() -> BegunTransfer
         ensures { result ≡ idle_begun }

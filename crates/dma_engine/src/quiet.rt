@@ -32,7 +32,7 @@ impl PacingTimer {
         requires { (k : ℕ) → k < n → gives (timer_after k self.now) ≡ false }
         ensures { result ≡ timer_after n self.now }
     {
-        fits(self.y, self.accumulator);
+        fact_fits(self.y, self.accumulator);
         let added = n * u64::from(self.step());
         PacingTimer {
             x: self.x,
@@ -66,7 +66,7 @@ fn all_passed(timers: &[PacingTimer; 4], n: u64) -> [PacingTimer; 4]
 }
 
 /// Y and what was added up fit 16 bits. It costs nothing.
-fn fits(_y: u16, _accumulator: u16)
+fn fact_fits(_y: u16, _accumulator: u16)
     ensures y { _y < 2 ^ 16 }
     ensures accumulator { _accumulator < 2 ^ 16 }
 {}

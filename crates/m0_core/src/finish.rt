@@ -212,8 +212,8 @@ impl Core {
         }
     }
 
-    /// A cycle in which the core begins the instruction of this halfword, where that is a sum, a shift, a move, a comparison, a branch by
-    /// an offset, or a load or a store of one register whose access comes later. False where it is other; then nothing changes.
+    /// A cycle in which the core begins the instruction of this halfword, where that is a plain one (`is_plain`), a branch by an offset, or
+    /// a load or a store of one register whose access comes later. False elsewhere; then nothing changes.
     #[inline(always)]
     #[tactic(auto, unfolding(crate::specs::Fetch::asks_second), using(crate::proofs::Plain::plain_decoded, crate::proofs::Plain::plainly_after))]
     pub fn pass_short(&mut self, first: u16, lines: u32, cycle: u64) -> bool
@@ -285,8 +285,8 @@ impl Core {
         }
     }
 
-    /// The first beat of a load or a store of one register is over, where it is inside the core and the access comes next, which the
-    /// core keeps. False where it is other, and where the instruction faults; then nothing changes.
+    /// Ends the first beat of a load or a store of one register, where it is inside the core and the access comes next; the core keeps
+    /// that access. False elsewhere, as where the instruction faults; then nothing changes.
     #[inline(never)]
     #[tactic(auto, unfolding(crate::specs::Cycle::passed_instruction), using(crate::proofs::OneAccess::held))]
     fn hold(&mut self, op: &Op) -> bool

@@ -12,7 +12,7 @@ impl Nvic {
     pub fn quiet(&self, lines: u32, cycle: u64) -> u64
         ensures { IsQuiet lines self.now cycle result }
     {
-        fits(self.pending, lines);
+        fact_fits(self.pending, lines);
         if self.is_settled(lines) {
             self.systick.cycles_left(cycle)
         } else {
@@ -25,7 +25,7 @@ impl Nvic {
         requires { first + n < 2 ^ 64 }
         ensures { self.new ≡ after_all lines first n self.old }
     {
-        fits(self.pending, lines);
+        fact_fits(self.pending, lines);
         if self.is_settled(lines) && n <= self.systick.cycles_left(first) {
             self.systick.count_down(first, n);
         } else {
@@ -95,7 +95,7 @@ impl SysTick {
 }
 
 /// A set of exceptions fits 64 bits, and the lines fit 32. It costs nothing.
-fn fits(_set: u64, _lines: u32)
+fn fact_fits(_set: u64, _lines: u32)
     ensures set { _set < 2 ^ 64 }
     ensures lines { _lines < 2 ^ 32 }
 {}

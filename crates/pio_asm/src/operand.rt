@@ -89,7 +89,7 @@ fn field_for(evaluated: Evaluated, low: u8, high: u8) -> Field
         None => (None, outside),
         Some(value) => match small_number(value, low, high) {
             None => (None, true),
-            number => (number, outside),
+            fitting => (fitting, outside),
         },
     };
     Field {

@@ -1,3 +1,4 @@
+pub mod Beside
 pub mod Bounds
 pub mod Control
 pub mod Cycle
@@ -8,5 +9,4 @@ pub mod Queues
 pub mod Quiet
 pub mod Registers
 pub mod State
-pub mod Told
 pub mod Words

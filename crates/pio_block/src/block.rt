@@ -23,13 +23,13 @@ pub struct PioBlock {
 
 impl Model for PioBlock {
     ghost use Rattle.pio_block.specs.State.{State};
-    ghost use Rattle.pio_block.specs.Told.{AreTold};
+    ghost use Rattle.pio_block.specs.Beside.{StandBeside};
 
     ghost Value = { State };
 
     ghost view = { λ b. b.state };
 
-    ghost invariant = { λ b. AreTold b.busy b.silent b.counts b.state };
+    ghost invariant = { λ b. StandBeside b.busy b.silent b.counts b.state };
 }
 
 impl PioBlock {
@@ -37,7 +37,7 @@ impl PioBlock {
     ghost use Rattle.pio_block.specs.State.{at_reset, machine_of, is_busy};
     ghost use Rattle.pio_block.specs.Cycle.{after_cycle};
     ghost use Rattle.pio_block.specs.Words.{word_of, effect_of, is_allowed, pacing_of, register_list, counter_set, outs_of, is_silent, lines_of};
-    ghost use Rattle.pio_block.specs.Told.{packed_counts};
+    ghost use Rattle.pio_block.specs.Beside.{packed_counts};
 
     /// The reset state: no machine is enabled, and all FIFOs are empty.
     pub fn new() -> PioBlock

@@ -10,7 +10,7 @@ impl State {
 
     /// The flags are a byte, and the levels and enables words. It costs nothing.
     #[inline(always)]
-    fn has_words(&self)
+    fn fact_has_words(&self)
         ensures { HasWords self.now }
     {
         let (_flags, _levels, _enables) = (self.seen.flags, self.levels, self.enables);
@@ -20,7 +20,7 @@ impl State {
     fn quiet(&self) -> u64
         ensures { IsQuiet self.now result }
     {
-        self.has_words();
+        self.fact_has_words();
         self.machines.quiet()
     }
 
@@ -47,7 +47,7 @@ impl PioBlock {
         if self.busy {
             self.state.quiet()
         } else {
-            self.state.has_words();
+            self.state.fact_has_words();
             u64::MAX
         }
     }

@@ -2,7 +2,7 @@
 
 ghost use Rattle.std.specs.Prelude.{◌≡◌, [], ◌∷◌, replicate};
 ghost use Rattle.pio_machine.specs.Pins.{overlaid};
-ghost use Rattle.pio_block.specs.Told.{packed_counts};
+ghost use Rattle.pio_block.specs.Beside.{packed_counts};
 
 use crate::inputs::Inputs;
 use crate::machines::Machines;
@@ -90,7 +90,7 @@ impl State {
     ghost use Rattle.std.specs.Prelude.{◌≡◌, ◌<◌, Decides, false};
     ghost use Rattle.pio_block.specs.State.{at_reset, is_busy, machine_of};
     ghost use Rattle.pio_block.specs.Words.{counter_set, pacing_of, register_list, outs_of, is_silent};
-    ghost use Rattle.pio_block.specs.Told.{packed_counts};
+    ghost use Rattle.pio_block.specs.Beside.{packed_counts};
     ghost use Rattle.pio_block.specs.Cycle.{seen_by, all_written, with_stepped, joined, after_cycle};
 
     /// The reset state.

@@ -1,6 +1,5 @@
 -- Core 0 has gone on by itself, and the other lanes, which are quiet, are brought up behind it.
 use Rattle.std.proofs.Common.{◌≡◌, ℕ, ◌+◌, ◌<◌, ◌≤◌, Bool, true, false, refl, sym, ap, subst, ◌∙◌, arith}
-use Rattle.std.specs.Prelude.{slice_index}
 use Rattle.rp_base.specs.declared.resettable.Resettable.{Resettable}
 use Rattle.dma_engine.specs.State.{State as Engine}
 use Rattle.dma_engine.specs.Quiet.{GivesNone}
@@ -11,9 +10,9 @@ use Rattle.outer_lane.specs.Setting.{Setting}
 use Rattle.outer_lane.specs.State.{State as OuterState}
 use Rattle.outer_lane.specs.declared.world.SeenOutputs.{SeenOutputs}
 use Rattle.outer_lane.specs.Quiet as outer
-use Rattle.outer_lane.specs.Quiet.{outer_after, held_blocks}
+use Rattle.outer_lane.specs.Quiet.{outer_after}
 use Rattle.rp_machine.specs.State.{State}
-use Rattle.rp_machine.specs.Copies.{Agree, CopiesAgree}
+use Rattle.rp_machine.specs.Copies.{CopiesAgree}
 use Rattle.rp_machine.specs.Cycle.{begun, pins_of}
 use Rattle.rp_machine.specs.Run.{states}
 use Rattle.rp_machine.specs.Alone.{Blocks, AreBlocksQuiet, blocks_after}
@@ -22,7 +21,7 @@ use Rattle.rp_machine.proofs.Going.{fewer_cycles}
 use Rattle.rp_machine.proofs.Inward.{stays_after, core0_goes_on_alone, went_onward}
 use Rattle.rp_machine.proofs.Quietly.{seen_number}
 use Rattle.quiet_run.specs.Parts.{MayBringUp}
-use Rattle.quiet_run.proofs.Passing.{passing_agrees, fewer}
+use Rattle.quiet_run.proofs.Passing.{fewer}
 
 -- what the tests and the calls of the run have shown of the state s at its start
 pub record HasBegun (w : Setting) (s : State) (seen : SeenOutputs) (most : ℕ) : Type 0 where
@@ -85,11 +84,3 @@ pub brought_up : (w : Setting) (s t u : State) (seen : SeenOutputs) (most done :
     → u ≡ with_beside (blocks_after done t) (outer_after w seen done t.outer) t → u ≡ states w s done
 brought_up w s t u seen most done h le inward went up =
     up ∙ went_onward w s t (outer_after w seen done t.outer) seen done h.goes h.known h.same went refl (goes_onward w s seen most done h le inward)
-
-pub agrees : (w : Setting) (j : State) (o : OuterState) (seen : SeenOutputs) (done : ℕ) → outer.IsQuiet w seen j.outer done → o ≡ outer_after w seen done j.outer
-    → CopiesAgree j → Agree (slice_index j.resets 0) j.core1 j.dma.held j.pio0.held j.pio1.held o j.sio
-agrees w j o seen done quiet passed a =
-    passing_agrees refl
-    (ap (λ (x : OuterState). x.pads) passed ∙ quiet.pads done (omega arith))
-    (ap held_blocks passed ∙ quiet.held done (omega arith))
-    (ap (λ (x : OuterState). x.sio) passed ∙ quiet.sio done (omega arith)) a

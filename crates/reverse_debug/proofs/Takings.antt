@@ -12,7 +12,7 @@ use Rattle.reverse_debug.specs.Lines.{without_cr, complete_from, complete_lines,
 use Rattle.reverse_debug.specs.NextLine.{Ahead, behind, HasNoEnd, given_bytes, Reads}
 use Rattle.reverse_debug.specs.Hearing.{MayEnd, lines_heard, IsTaken, status_by}
 use Rattle.reverse_debug.specs.Talk.{Talk, Hears}
-use Rattle.reverse_debug.specs.Way.{Tells, RepliesTo, Taking, IsAfterLine}
+use Rattle.reverse_debug.specs.Way.{AnswersLines, RepliesTo, Taking, IsAfterLine}
 use Rattle.reverse_debug.proofs.NextLines.{consumes_none, consumes_both}
 use Rattle.reverse_debug.proofs.LineLists.{complete_append, lines_more, open_more, lines_open, all_open, closes_more, has_last_both, until_all, until_both, until_more}
 use Rattle.reverse_debug.proofs.Talks.{tells_none, tells_both, tells_line, tells_so, cut_more}
@@ -31,24 +31,24 @@ pub empty_same : (given whole : List ℕ) → given ≡ take given_bytes whole �
 empty_same given [] e = ap (λ g. length g == 0) e
 empty_same given (x ∷ xs) e = zero_not (length given) (length (take 256 xs)) (ap length e)
 
-pub end_empty : {T : Type 0} {x : T} (t : Talk) (cycle : ℕ) (whole : List ℕ) (a : Option (List ℕ)) (f p : ℕ) → no_byte whole ≡ true → Tells t cycle (until t.last (unless_empty whole)) a a f f p p cycle (Ok x)
+pub end_empty : {T : Type 0} {x : T} (t : Talk) (cycle : ℕ) (whole : List ℕ) (a : Option (List ℕ)) (f p : ℕ) → no_byte whole ≡ true → AnswersLines t cycle (until t.last (unless_empty whole)) a a f f p p cycle (Ok x)
 end_empty t cycle [] a f p is = tells_none t cycle a f p
 end_empty t cycle (x ∷ xs) a f p is = absurd (cc is)
 
-pub end_said : (t : Talk) (cycle : ℕ) (whole : List ℕ) {a b : Option (List ℕ)} {f g p q at : ℕ} (result : Result Bool SinkFault) → no_byte whole ≡ false → RepliesTo t cycle whole a b f g p q at result → Tells t cycle (until t.last (unless_empty whole)) a b f g p q at result
+pub end_said : (t : Talk) (cycle : ℕ) (whole : List ℕ) {a b : Option (List ℕ)} {f g p q at : ℕ} (result : Result Bool SinkFault) → no_byte whole ≡ false → RepliesTo t cycle whole a b f g p q at result → AnswersLines t cycle (until t.last (unless_empty whole)) a b f g p q at result
 end_said t cycle [] result other h = absurd (cc other)
 end_said t cycle (x ∷ xs) result other h = tells_line t cycle (x ∷ xs) result h
 
 -- ---- the ends of a hearing
 
 hears : (t : Talk) (cycle limit : ℕ) (bytes : List ℕ) (way : Way) {left left' : Option (List ℕ)} {lost lost' : ℕ} {a b : Option (List ℕ)} {f g p q at : ℕ} (result : Result Way SinkFault) → IfOk result (λ w. w ≡ way) → length bytes ≤ limit →
-    MayEnd limit (closes t.last bytes) (length bytes) way → IsTaken left left' lost lost' (status_by result) bytes way → Tells t cycle (lines_heard t.last way bytes) a b f g p q at result → Hears t cycle limit left left' lost lost' a b f g p q at result
+    MayEnd limit (closes t.last bytes) (length bytes) way → IsTaken left left' lost lost' (status_by result) bytes way → AnswersLines t cycle (lines_heard t.last way bytes) a b f g p q at result → Hears t cycle limit left left' lost lost' a b f g p q at result
 hears t cycle limit bytes way result is within may taken h =
     record { bytes = bytes; way = way; within = within; may = may; taken = taken; is = is; sends = h.sends; stands = h.stands; forward = h.forward; most = h.most }
 
 -- where the sink failed the taking counts as ended after the bytes taken
 hears_cut : (t : Talk) (cycle limit : ℕ) (bytes : List ℕ) {left left' : Option (List ℕ)} {lost lost' : ℕ} {a b : Option (List ℕ)} {f g p q at : ℕ} (fault : SinkFault) (closed short : Bool) → closes t.last bytes ≡ closed → nat_lt (length bytes) limit ≡ short → length bytes ≤ limit → Consumes left left' bytes → lost' ≡ lost →
-    Tells {T = Bool} t cycle (until t.last (complete_lines bytes)) a b f g p q at (Err fault) → Hears t cycle limit left left' lost lost' a b f g p q at (Err fault)
+    AnswersLines {T = Bool} t cycle (until t.last (complete_lines bytes)) a b f g p q at (Err fault) → Hears t cycle limit left left' lost lost' a b f g p q at (Err fault)
 hears_cut t cycle limit bytes fault true short is lt le taken same h =
     hears t cycle limit bytes Closed (Err fault) tt le is (record { taken = taken; forward = omega (arith, same); borne = same }) (rw append-nil at (cut_more {T = Bool} {U = Way} t cycle (complete_lines bytes) [] h))
 hears_cut t cycle limit bytes fault false true is lt le taken same h =
@@ -71,7 +71,8 @@ taking_first t cycle limit left lost old before steps ahead none =
       tells = tells_none t cycle old before steps;
     })
 
--- with the bytes that were read, what was taken is longer by them: it is the bytes before, those that were read of a line, and what is left over
+-- with the bytes that were read, what was taken is longer by them: it is the bytes before, those that were read of a line, and what is
+-- left over
 taken_on : (left left' left'' : Option (List ℕ)) (bytes rest more line rest' : List ℕ) (count count' : ℕ) → Consumes left left' (bytes ++ rest) → Consumes left' left'' more → length (bytes ++ rest) ≡ count → count' ≡ count + length more → rest ++ more ≡ line ++ rest' →
     Consumes left left'' ((bytes ++ line) ++ rest') × (length ((bytes ++ line) ++ rest') ≡ count')
 taken_on left left' left'' bytes rest more line rest' count count' before consumed long is splits =
@@ -95,7 +96,7 @@ record Fed (t : Talk) (cycle : ℕ) (left left' : Option (List ℕ)) (a b : Opti
   long : length (bytes ++ ahead.rest) ≡ ahead.taken
   last : closes t.last bytes ≡ t.last (without_cr line)
   whole : open_line bytes ≡ []
-  tells : Tells t cycle (until t.last (complete_lines bytes)) a b f g p q at result
+  tells : AnswersLines t cycle (until t.last (complete_lines bytes)) a b f g p q at result
 
 fed : (t : Talk) (cycle limit : ℕ) {left left' left'' : Option (List ℕ)} {lost lost' lost'' : ℕ} {o n n' : Option (List ℕ)} {f g h p q r at at' : ℕ} {a b : Ahead} {given : List ℕ} (result : Result Bool SinkFault) → Taking t cycle limit left left' lost lost' o n f g p q at a →
     (got : Reads limit a b left' left'' lost' lost'' given read.Line) → RepliesTo t at (without_cr got.line) n n' g h q r at' result → Fed t cycle left left'' o n' f h p r at' got.line b result
@@ -110,7 +111,7 @@ fed t cycle limit {left} {left'} {left''} {o} {n'} {f} {h} {p} {r} {at} {at'} {a
       long = taken.1;
       last = ap (has_last t.last) lines ∙ has_last_both t.last (complete_lines k.bytes) (line ∷ []) k.none ∙ or_none (t.last line);
       whole = open_more k.bytes got.line got.unended;
-      tells = subst (λ l. Tells t cycle l o n' f h p r at' result) (sym front) (tells_both t cycle (complete_lines k.bytes) (until t.last (line ∷ [])) result k.tells (tells_line t at line result said));
+      tells = subst (λ l. AnswersLines t cycle l o n' f h p r at' result) (sym front) (tells_both t cycle (complete_lines k.bytes) (until t.last (line ∷ [])) result k.tells (tells_line t at line result said));
     }
 
 -- the line was answered, and it was no last one
@@ -130,7 +131,7 @@ next_more t cycle limit {lost} {lost'} {lost''} {o} {n'} {f} {h} {p} {r} {at'} {
         steady = same ∙ k.steady;
         none = none;
         whole = x.whole;
-        tells = subst (λ l. Tells t cycle l o n' f h p r at' (Ok false)) (until_all t.last (complete_lines x.bytes) none) (tells_so t cycle (until t.last (complete_lines x.bytes)) x.tells);
+        tells = subst (λ l. AnswersLines t cycle l o n' f h p r at' (Ok false)) (until_all t.last (complete_lines x.bytes) none) (tells_so t cycle (until t.last (complete_lines x.bytes)) x.tells);
       },
     )
 
@@ -144,7 +145,7 @@ next_last t cycle limit {lost} {lost'} {lost''} {o} {n'} {f} {h} {p} {r} {at'} {
     let same : lost'' ≡ lost' = got.ends in
     let lines = until_more t.last (complete_lines x.bytes) (complete_from (open_line x.bytes) b.rest) is ∙ ap (until t.last) (sym (complete_append [] x.bytes b.rest)) in
     hears t cycle limit (x.bytes ++ b.rest) Closed (Ok Closed) refl (omega (arith, x.long, got.within)) (closes_more t.last x.bytes b.rest is) (record { taken = x.consumed; forward = omega (arith, same, k.steady); borne = same ∙ k.steady })
-    (subst (λ l. Tells t cycle l o n' f h p r at' (Ok Closed)) lines (tells_so t cycle (until t.last (complete_lines x.bytes)) x.tells))
+    (subst (λ l. AnswersLines t cycle l o n' f h p r at' (Ok Closed)) lines (tells_so t cycle (until t.last (complete_lines x.bytes)) x.tells))
 
 -- the sink failed at its reply
 pub next_cut : (t : Talk) (cycle limit : ℕ) {left left' left'' : Option (List ℕ)} {lost lost' lost'' : ℕ} {o n n' : Option (List ℕ)} {f g h p q r at at' : ℕ} {a b : Ahead} {given : List ℕ} {fault : SinkFault} → Taking t cycle limit left left' lost lost' o n f g p q at a →
@@ -153,7 +154,7 @@ next_cut t cycle limit {lost} {lost'} {lost''} {o} {n'} {f} {h} {p} {r} {at'} {a
     let x = fed t cycle limit (Err fault) k got said in
     let same : lost'' ≡ lost' = got.ends in
     hears_cut t cycle limit (x.bytes ++ b.rest) fault _ _ refl refl (omega (arith, x.long, got.within)) x.consumed (same ∙ k.steady)
-    (subst (λ l. Tells {T = Bool} t cycle (until t.last l) o n' f h p r at' (Err fault)) (sym (complete_append [] x.bytes b.rest)) (cut_more t cycle (complete_lines x.bytes) (complete_from (open_line x.bytes) b.rest) x.tells))
+    (subst (λ l. AnswersLines {T = Bool} t cycle (until t.last l) o n' f h p r at' (Err fault)) (sym (complete_append [] x.bytes b.rest)) (cut_more t cycle (complete_lines x.bytes) (complete_from (open_line x.bytes) b.rest) x.tells))
 
 -- where no LF came
 open_taken : (t : Talk) (cycle limit : ℕ) {left left' : Option (List ℕ)} (left'' : Option (List ℕ)) {lost lost' : ℕ} {o n : Option (List ℕ)} {f g p q at : ℕ} {a : Ahead} (bytes line : List ℕ) (count : ℕ) (k : Taking t cycle limit left left' lost lost' o n f g p q at a) → Consumes left' left'' bytes → count ≡ a.taken + length bytes → a.rest ++ bytes ≡ line →
@@ -163,7 +164,7 @@ open_taken t cycle limit {left} {left'} left'' {a} bytes line count k consumed i
 
 -- the input has ended, and the open line was answered
 pub next_end : (t : Talk) (cycle limit : ℕ) {left left' left'' : Option (List ℕ)} {lost lost' lost'' : ℕ} {o n n' : Option (List ℕ)} {f g h p q r at at' : ℕ} {a b : Ahead} {given : List ℕ} (result : Result Way SinkFault) → IfOk result (λ w. w ≡ Ended) → Taking t cycle limit left left' lost lost' o n f g p q at a →
-    (got : Reads limit a b left' left'' lost' lost'' given read.Last) → Tells t at (until t.last (unless_empty got.line)) n n' g h q r at' result → Hears t cycle limit left left'' lost lost'' o n' f h p r at' result
+    (got : Reads limit a b left' left'' lost' lost'' given read.Last) → AnswersLines t at (until t.last (unless_empty got.line)) n n' g h q r at' result → Hears t cycle limit left left'' lost lost'' o n' f h p r at' result
 next_end t cycle limit {lost} {lost'} {lost''} {o} {n'} {f} {h} {p} {r} {at'} {a} {b} result is k got said =
     let taken = open_taken t cycle limit _ got.bytes got.line b.taken k got.consumed got.count got.splits.0 in
     let same : lost'' ≡ lost' = got.ends.0 in
@@ -171,15 +172,15 @@ next_end t cycle limit {lost} {lost'} {lost''} {o} {n'} {f} {h} {p} {r} {at'} {a
     let lines = ap (until t.last) (all_open k.bytes got.line k.whole got.unended) ∙ until_both t.last (complete_lines k.bytes) (unless_empty got.line) k.none in
     hears t cycle limit (k.bytes ++ got.line) Ended result is (omega (arith, taken.1, lt)) (ap (has_last t.last) (lines_open k.bytes got.line got.unended) ∙ k.none, omega (arith, taken.1, lt))
     (record { taken = taken.0; forward = omega (arith, same, k.steady); borne = (same ∙ k.steady, inr got.ends.2) })
-    (subst (λ l. Tells t cycle l o n' f h p r at' result) (sym lines) (tells_both t cycle (complete_lines k.bytes) (until t.last (unless_empty got.line)) result k.tells said))
+    (subst (λ l. AnswersLines t cycle l o n' f h p r at' result) (sym lines) (tells_both t cycle (complete_lines k.bytes) (until t.last (unless_empty got.line)) result k.tells said))
 
 -- nothing more is heard
 still_open : (t : Talk) (cycle limit : ℕ) {left left' : Option (List ℕ)} {lost lost' : ℕ} {o n : Option (List ℕ)} {f g p q at : ℕ} {a : Ahead} (line : List ℕ) (way : Way) (k : Taking t cycle limit left left' lost lost' o n f g p q at a) → HasNoEnd line →
-    (closes t.last (k.bytes ++ line) ≡ false) × Tells t cycle (until t.last (complete_lines (k.bytes ++ line))) o n f g p q at (Ok way)
+    (closes t.last (k.bytes ++ line) ≡ false) × AnswersLines t cycle (until t.last (complete_lines (k.bytes ++ line))) o n f g p q at (Ok way)
 still_open t cycle limit {o} {n} {f} {g} {p} {q} {at} line way k none =
     let lines = lines_open k.bytes line none in (
       ap (has_last t.last) lines ∙ k.none,
-      subst (λ l. Tells t cycle l o n f g p q at (Ok way)) (sym (ap (until t.last) lines ∙ until_all t.last (complete_lines k.bytes) k.none)) (tells_so t cycle (complete_lines k.bytes) k.tells),
+      subst (λ l. AnswersLines t cycle l o n f g p q at (Ok way)) (sym (ap (until t.last) lines ∙ until_all t.last (complete_lines k.bytes) k.none)) (tells_so t cycle (complete_lines k.bytes) k.tells),
     )
 
 -- a take failed

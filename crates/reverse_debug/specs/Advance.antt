@@ -17,7 +17,7 @@ pub record Path (w : Setting) (s t : State) : Type 0 where
 abbrev pub CountsMove : State → State → ℕ → ℕ → Type 0
 CountsMove old new before after = after + old.cycle ≡ before + new.cycle
 
--- from one state to another, at most to a cycle; with a cause only where that is the first stop below it
+-- from one state to another, at most to a cycle, and a step for each cycle; with a cause only where that is the first stop below it
 pub record Advances (w : Setting) (old : State) (to : ℕ) (new : State) (result : Option Why) (before after : ℕ) : Type 0 where
   pub path : Path w old new
   pub low : new.cycle ≤ w.limit
@@ -34,7 +34,7 @@ abbrev pub EndsAtLast : Setting → Watched → State → State → Option Why �
 EndsAtLast w watched old new None = NoneEnds w watched old (new.cycle - old.cycle - 1)
 EndsAtLast w watched old new (Some why) = NoneEnds w watched old (new.cycle - old.cycle)
 
--- so it went, at most to the first cycle behind which a move forward ends; where it came to no stop, it went on
+-- so it went, at most to the first cycle behind which a move forward ends; without a cause it went on by a cycle at least
 pub record Approaches (w : Setting) (watched : Watched) (old : State) (to : ℕ) (new : State) (result : Option Why) (before after : ℕ) : Type 0 where
   pub way : Advances w old to new result before after
   pub ahead : IfNone result (old.cycle < new.cycle)

@@ -90,7 +90,7 @@ abbrev pub begun_at : Option ℕ → Option ℕ → Option Watched
 begun_at (Some address) (Some core) = if nat_le core 1 then Some (Begun core (Some address)) else None
 begun_at _ _ = None
 
--- each one is watched, and a move goes to one time of it
+-- a move to the n-th instruction that a core begins, at whatever address
 abbrev pub each_of : (Watched → ℕ → Command) → Option ℕ → Option ℕ → Command
 each_of move (Some count) (Some core) = if nat_le core 1 then move (Begun core None) count else Bad
 each_of move _ _ = Bad
@@ -107,10 +107,10 @@ bare_command name =
     else if bytes_eq name (codes "quit") then Quit
     else Bad
 
--- a command with an operand, where that is one
-abbrev pub asked : {A : Type 0} → (A → Command) → Option A → Command
-asked command None = Bad
-asked command (Some operand) = command operand
+-- a command with its operand; none where the operand is no such one
+abbrev pub operand_asked : {A : Type 0} → (A → Command) → Option A → Command
+operand_asked command None = Bad
+operand_asked command (Some operand) = command operand
 
 abbrev pub mem_of : Option ℕ → Option ℕ → Command
 mem_of (Some address) (Some count) = if are_words address count then Mem address count else Bad
@@ -125,7 +125,7 @@ abbrev pub pin_of : Option ℕ → Option Watched
 pin_of None = None
 pin_of (Some pin) = if nat_le pin 29 then Some (Pin pin) else None
 
--- a move to its next time
+-- a move to the next time of what is watched
 abbrev pub next_time : Watched → Command
 next_time watched = Until watched 1
 
@@ -140,19 +140,19 @@ pio_of _ _ = Bad
 
 abbrev pub with_one : List ℕ → List ℕ → Command
 with_one name word =
-    if bytes_eq name (codes "step") then asked Step (number_of word)
-    else if bytes_eq name (codes "back") then asked Back (number_of word)
-    else if bytes_eq name (codes "goto") then asked Goto (number_of word)
+    if bytes_eq name (codes "step") then operand_asked Step (number_of word)
+    else if bytes_eq name (codes "back") then operand_asked Back (number_of word)
+    else if bytes_eq name (codes "goto") then operand_asked Goto (number_of word)
     else if bytes_eq name (codes "mem") then mem_of (address_of word) (Some 1)
     else if bytes_eq name (codes "peek") then peek_of (address_of word)
     else if bytes_eq name (codes "next") then each_of Until (number_of word) (Some 0)
     else if bytes_eq name (codes "prev") then each_of Before (number_of word) (Some 0)
-    else if bytes_eq name (codes "until") then asked next_time (begun_at (address_of word) (Some 0))
-    else if bytes_eq name (codes "untilwrite") then asked next_time (word_of (address_of word))
-    else if bytes_eq name (codes "untilpin") then asked next_time (pin_of (number_of word))
-    else if bytes_eq name (codes "lastat") then asked Last (begun_at (address_of word) (Some 0))
-    else if bytes_eq name (codes "lastwrite") then asked Last (word_of (address_of word))
-    else if bytes_eq name (codes "lastpin") then asked Last (pin_of (number_of word))
+    else if bytes_eq name (codes "until") then operand_asked next_time (begun_at (address_of word) (Some 0))
+    else if bytes_eq name (codes "untilwrite") then operand_asked next_time (word_of (address_of word))
+    else if bytes_eq name (codes "untilpin") then operand_asked next_time (pin_of (number_of word))
+    else if bytes_eq name (codes "lastat") then operand_asked Last (begun_at (address_of word) (Some 0))
+    else if bytes_eq name (codes "lastwrite") then operand_asked Last (word_of (address_of word))
+    else if bytes_eq name (codes "lastpin") then operand_asked Last (pin_of (number_of word))
     else Bad
 
 abbrev pub with_two : List ℕ → List ℕ → List ℕ → Command
@@ -161,8 +161,8 @@ with_two name first second =
     else if bytes_eq name (codes "pio") then pio_of (number_of first) (number_of second)
     else if bytes_eq name (codes "next") then each_of Until (number_of first) (number_of second)
     else if bytes_eq name (codes "prev") then each_of Before (number_of first) (number_of second)
-    else if bytes_eq name (codes "until") then asked next_time (begun_at (address_of first) (number_of second))
-    else if bytes_eq name (codes "lastat") then asked Last (begun_at (address_of first) (number_of second))
+    else if bytes_eq name (codes "until") then operand_asked next_time (begun_at (address_of first) (number_of second))
+    else if bytes_eq name (codes "lastat") then operand_asked Last (begun_at (address_of first) (number_of second))
     else Bad
 
 unfoldable pub command_by : List (List ℕ) → Command

@@ -2,7 +2,7 @@
 use Rattle.std.specs.Prelude.{ℕ, Bool, false, ◌==◌, ◌||◌, if◌then◌else◌, List, [], ◌∷◌, ◌++◌}
 use Rattle.std.specs.Str.Lines.{strip_carriage_return}
 
--- the line of the bytes before an LF
+-- bytes without the one CR at their end: before an LF, the line
 abbrev pub without_cr : List ℕ → List ℕ
 without_cr bytes = strip_carriage_return bytes
 

@@ -110,7 +110,7 @@ pub record StaysFor (w : Setting) (old new : Standing) : Type 0 where
   pub closer : new.near.spacing ≡ old.near.spacing
   pub reached : new.reached ≡ max old.reached new.now.cycle
 
--- The session has gone forward, with the same near stretch.
+-- The session has gone forward, with the same near stretch, and a step was counted for each cycle.
 pub record Goes (w : Setting) (old new : Standing) (before after : ℕ) : Type 0 where
   pub stays : StaysFor w old new
   pub forward : old.now.cycle ≤ new.now.cycle
@@ -177,8 +177,8 @@ pub record FindsNear (near : Snapshots) (count cycle found : ℕ) : Type 0 where
   pub ends : IsIn near found
   pub begins : 1 < count → IsIn near cycle
 
--- A search for a cycle took at most so many steps by the spacing of one ring, and at most as many by that of the other one where it finds
--- a cycle of its stretch.
+-- A search took at most so many steps by the spacing of the ring of the whole run, and at most as many by the near spacing where it
+-- finds near.
 pub record Spends (ring near : Snapshots) (count cycle before after : ℕ) (found : Option ℕ) : Type 0 where
   pub forward : before ≤ after
   pub steps : after ≤ before + search_cost ring.spacing count cycle found

@@ -10,13 +10,14 @@ use Rattle.reverse_debug.specs.Talk.{Talk, text_from, cycle_after, cost_from, He
 
 -- The replies to these lines were sent, no put failed, and who answers stands behind them; or the sink failed, and a part of the replies
 -- was sent.
-pub record Tells {T : Type 0} (t : Talk) (cycle : ℕ) (lines : List (List ℕ)) (old new : Option (List ℕ)) (before now steps steps' at : ℕ) (result : Result T SinkFault) : Type 0 where
+pub record AnswersLines {T : Type 0} (t : Talk) (cycle : ℕ) (lines : List (List ℕ)) (old new : Option (List ℕ)) (before now steps steps' at : ℕ) (result : Result T SinkFault) : Type 0 where
   pub sends : Sends old new before now (text_from t cycle lines) result
   pub stands : OnOk result (at ≡ cycle_after t cycle lines)
   pub forward : steps ≤ steps'
   pub most : steps' ≤ steps + cost_from t cycle lines
 
--- so it was with one line, where a last one has no reply and leaves who answers; and at Ok it is told whether it is no last one
+-- So it was with one line: a last one has no reply, costs nothing, and who answers stays at the cycle; behind another one it stands at
+-- the next cycle, also where the sink failed. At Ok it is told whether the line was no last one.
 pub record Replies (last : Bool) (reply : List ℕ) (cycle next cost : ℕ) (old new : Option (List ℕ)) (before now steps steps' at : ℕ) (result : Result Bool SinkFault) : Type 0 where
   pub sends : Sends old new before now (if last then [] else reply) result
   pub stands : at ≡ (if last then cycle else next)
@@ -24,6 +25,7 @@ pub record Replies (last : Bool) (reply : List ℕ) (cycle next cost : ℕ) (old
   pub most : steps' ≤ steps + (if last then 0 else cost)
   pub more : IfOk result (λ m. last ≡ not m)
 
+-- so it was with this line at a cycle of the talk
 abbrev pub RepliesTo : Talk → ℕ → List ℕ → Option (List ℕ) → Option (List ℕ) → ℕ → ℕ → ℕ → ℕ → ℕ → Result Bool SinkFault → Type 0
 RepliesTo t cycle line old new before now steps steps' at result =
     Replies (t.last line) (t.reply cycle line) cycle (t.next cycle line) (t.cost cycle line) old new before now steps steps' at result
@@ -37,7 +39,7 @@ pub record Taking (t : Talk) (cycle limit : ℕ) (left left' : Option (List ℕ)
   pub steady : lost' ≡ lost
   pub none : closes t.last bytes ≡ false
   pub whole : open_line bytes ≡ []
-  pub tells : Tells {T = Bool} t cycle (complete_lines bytes) old new before now steps steps' at (Ok false)
+  pub tells : AnswersLines {T = Bool} t cycle (complete_lines bytes) old new before now steps steps' at (Ok false)
 
 -- what came of the next line: it was answered, and fewer bytes stand in no line yet; or the hearing has ended
 abbrev pub IsAfterLine : Talk → ℕ → ℕ → Option (List ℕ) → Option (List ℕ) → ℕ → ℕ → Option (List ℕ) → Option (List ℕ) → ℕ → ℕ → ℕ → ℕ → ℕ → Ahead → ℕ → Result (Option Way) SinkFault → Type 0

@@ -2,7 +2,7 @@
 
 ghost use Rattle.std.specs.Prelude.{◌≡◌, not, IfSome};
 ghost use Rattle.std.specs.Option.{option_map};
-ghost use Rattle.reverse_debug.specs.Command.{is_quit, command_of, bare_command, with_one, with_two, mem_of, word_of, pin_of, begun_at, each_of, asked, next_time, peek_of, pio_of};
+ghost use Rattle.reverse_debug.specs.Command.{is_quit, command_of, bare_command, with_one, with_two, mem_of, word_of, pin_of, begun_at, each_of, operand_asked, next_time, peek_of, pio_of};
 ghost use Rattle.reverse_debug.specs.Command.Command.{Until, Before, Last};
 ghost use Rattle.reverse_debug.specs.Reading.{meant, sought, Fits, IsThere};
 
@@ -94,7 +94,7 @@ fn prev_of(count: Option<u64>, core: Option<u64>) -> Command
 /// A move to the next time of what is watched.
 fn until_of(watched: Option<Watched>) -> Command
     requires { IfSome watched IsThere }
-    ensures meaning { meant result ≡ asked next_time (option_map sought watched) }
+    ensures meaning { meant result ≡ operand_asked next_time (option_map sought watched) }
     ensures fits { Fits result }
 {
     match watched {
@@ -106,7 +106,7 @@ fn until_of(watched: Option<Watched>) -> Command
 /// A question for the last time of what is watched.
 fn last_of(watched: Option<Watched>) -> Command
     requires { IfSome watched IsThere }
-    ensures meaning { meant result ≡ asked Last (option_map sought watched) }
+    ensures meaning { meant result ≡ operand_asked Last (option_map sought watched) }
     ensures fits { Fits result }
 {
     match watched {

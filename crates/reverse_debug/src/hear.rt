@@ -1,14 +1,13 @@
 //! Lines from a source for the debugger: each is answered before more is taken.
 
 ghost use Rattle.std.specs.Prelude.{◌≡◌, ◌≤◌, ℕ, List, Option, take};
-ghost use Rattle.std.specs.Str.Lines.{strip_carriage_return};
 ghost use Rattle.outer_lane.specs.Setting.{setting};
 ghost use Rattle.reverse_debug.specs.Session.{first_of, StandsFor};
 ghost use Rattle.reverse_debug.specs.Debugger.{talk_with};
 ghost use Rattle.reverse_debug.specs.Lines.{without_cr, unless_empty, until};
 ghost use Rattle.reverse_debug.specs.NextLine.{behind, given_bytes};
 ghost use Rattle.reverse_debug.specs.Talk.{Hears};
-ghost use Rattle.reverse_debug.specs.Way.{Tells, RepliesTo, Taking, IsAfterLine};
+ghost use Rattle.reverse_debug.specs.Way.{AnswersLines, RepliesTo, Taking, IsAfterLine};
 
 use crate::Session;
 use crate::reader::{LINE, LineReader, Next};
@@ -26,7 +25,7 @@ const REPLY: usize = 1024;
 
 /// A line without the CR at its end.
 fn without_return(line: &[u8]) -> &[u8]
-    ensures { result.now ≡ strip_carriage_return line.now }
+    ensures { result.now ≡ without_cr line.now }
 {
     if !line.is_empty() && line[line.len() - 1] == b'\r' {
         &line[..line.len() - 1]
@@ -82,7 +81,7 @@ fn hear_line<X: Device, O: Sink, L: Ledger>(
     answer(session, world, without_return(given), writer, steps)
 }
 
-/// Answers the open line at the end of an input, of which the first bytes are given, unless it is empty.
+/// Answers the open line at the end of an input, of which the first bytes are given, unless it is empty. What it answers at Ok tells nothing.
 fn hear_end<X: Device, O: Sink, L: Ledger>(
     session: &mut Session,
     world: &World<'_, X>,
@@ -95,7 +94,7 @@ fn hear_end<X: Device, O: Sink, L: Ledger>(
     ensures first { first_of session.new ≡ first_of session.old }
     ensures same_sink { writer.new.out.ghost_name ≡ writer.old.out.ghost_name }
     ensures tells { let t = talk_with (setting X.meaning world.now) session.old in (whole : List ℕ) →
-        given.now ≡ take given_bytes whole → Tells t session.old.now.cycle (until t.last
+        given.now ≡ take given_bytes whole → AnswersLines t session.old.now.cycle (until t.last
         (unless_empty whole)) (O.written writer.old.out.now) (O.written writer.new.out.now)
         (O.faults writer.old.out.now) (O.faults writer.new.out.now) steps.old steps.new
         session.new.now.cycle result }

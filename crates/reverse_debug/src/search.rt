@@ -96,8 +96,8 @@ fn restore_of(ring: &Ring, near: &Ring, cycle: u64, machine: &mut Machine)
 }
 
 /// The n-th cycle below another one in which what is watched happens; it itself where n is 0. The stretches between the states
-/// that are kept in either ring are searched from behind, so that what is near is found soon; the one that has a cycle that is not its last is gone over
-/// once more. The machine is set to states of the run.
+/// that are kept in either ring are searched from behind, so that what is near is found soon; the one that has a cycle that is
+/// not its last is gone over once more. The machine is set to states of the run.
 pub(crate) fn nth_before<X: Device, L: Ledger>(
     ring: &Ring,
     near: &Ring,

@@ -87,7 +87,6 @@ impl Session {
     ghost use Rattle.std.specs.Prelude.{◌≡◌, ◌≤◌, ◌<◌, ◌+◌, ◌&&◌, nat_lt, true, false, IfOk, IfNone, not, []};
     ghost use Rattle.outer_lane.specs.Setting.{Setting, setting};
     ghost use Rattle.rp_base.specs.Alias.{or_zero};
-    ghost use Rattle.reverse_debug.specs.Command.{are_words};
     ghost use Rattle.reverse_debug.specs.Reading.{meant, sought, Fits, IsThere};
     ghost use Rattle.reverse_debug.specs.Reply.{heard, answer, cost, command_cost, moved_to, moved_back, move_cost, search_cost, before_nth, behind_next, at_or_last, at_or_start};
     ghost use Rattle.reverse_debug.specs.Command.{command_of};

@@ -2,7 +2,7 @@
 use Rattle.std.proofs.Common.{◌≡◌, ℕ, ◌+◌, ◌*◌, ◌^◌, List, [], ◌∷◌, ◌++◌, length, refl, arith}
 use Rattle.pio_machine.specs.declared.machine.Machine1.{Machine1}
 use Rattle.pio_block.specs.Words.{pacing_of}
-use Rattle.pio_block.specs.Told as pio
+use Rattle.pio_block.specs.Beside as pio
 use Rattle.dma_engine.specs.Pace.{packed_counts}
 
 -- eight counts, and those that follow

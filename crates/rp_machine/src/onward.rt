@@ -102,7 +102,7 @@ impl Machine {
         true
     }
 
-    /// A cycle in which core 0 begins an instruction, where it wants nothing, as of most, and no access lasts. False where it is other;
+    /// A cycle in which core 0 begins an instruction, where it wants nothing, as in most such cycles, and no access lasts. False elsewhere;
     /// then nothing changes.
     #[inline(always)]
     pub fn short_onward(&mut self, lines: u32) -> bool
@@ -143,7 +143,7 @@ impl Machine {
 
     /// The same, where core 0 has not begun its cycle, and its interrupt lines are these.
     #[inline(always)]
-    pub(crate) fn cycle_onward(&mut self, lines: u32, core0: &mut Doing, marks: &mut Marks) -> bool
+    fn cycle_onward(&mut self, lines: u32, core0: &mut Doing, marks: &mut Marks) -> bool
         requires number { self.old.cycle < 2 ^ 64 - 1 }
         requires lines { lines ≡ lines_of 0 self.old }
         ensures inward { result ≡ true → goes_inward self.old ≡ true }

@@ -49,7 +49,7 @@ impl Timer {
         requires { self.now.paused ≡ false }
         ensures { (n : ℕ) → n ≤ result → after_cycles cycle n self.now ≡ passed cycle n self.now }
     {
-        fits(self.time, self.armed);
+        fact_fits(self.time, self.armed);
         if self.armed == 0 {
             return u64::MAX;
         }
@@ -81,7 +81,7 @@ impl Timer {
 }
 
 /// A time fits 64 bits, and a set of alarms 32. It costs nothing.
-fn fits(_time: u64, _alarms: u32)
+fn fact_fits(_time: u64, _alarms: u32)
     ensures time { _time < 2 ^ 64 }
     ensures alarms { _alarms < 2 ^ 32 }
 {}

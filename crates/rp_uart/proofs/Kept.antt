@@ -84,7 +84,7 @@ abbrev pub Hears : State → State → Type 0
 Hears s t =
     t ≡ record s { receiver = t.receiver; received = t.received; waited = t.waited; lost = t.lost; overrun = t.overrun; raw = t.raw }
 
--- a byte is stored, whether or not that is told
+-- a byte is stored, before the interrupt of the count
 abbrev pub entered : ℕ → Errors → State → State
 entered byte e s = raised (error_interrupts e) (record s {
   received = s.received ++ record { byte = byte; errors = with_overrun s.lost e } ∷ [];

@@ -1,4 +1,4 @@
--- The greatest of some cycles, among the states of two lists.
+-- The greatest kept cycle that is not above another one: of one state, and of two lists by those of each.
 use Rattle.std.proofs.Common.{◌≡◌, ◌≤◌, ◌<◌, ℕ, ◌==◌, max, true, false, ◌||◌, List, [], ◌∷◌, ◌++◌, ◌∙◌, sym, refl, arith, subst, inl, inr, Option, Some, None}
 use Rattle.std.proofs.lemmas.Bool.{or_cases, or_left, or_right, eqb-true, eq-eqb, cases_lt}
 use Rattle.std.proofs.lemmas.List.Folds.{list_any-append}
@@ -14,7 +14,7 @@ kept_first c a b h = kept_both c a b ∙ or_left (is_kept c a) (is_kept c b) h
 pub kept_second : (c : ℕ) (a b : List State) → is_kept c b ≡ true → is_kept c (a ++ b) ≡ true
 kept_second c a b h = kept_both c a b ∙ or_right (is_kept c a) (is_kept c b) h
 
--- of one state alone
+-- one state alone
 pub kept_only : (c : ℕ) (s : State) → is_kept c (s ∷ []) ≡ true → s.cycle ≡ c
 kept_only c s h = elim (or_cases (s.cycle == c) false h) as (λ _. s.cycle ≡ c) [
   | inl is ↦ eqb-true s.cycle c is

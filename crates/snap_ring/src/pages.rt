@@ -10,7 +10,7 @@ use ram_banks::{PAGES, Ram};
 use rp_machine::Machine;
 
 /// SRAM has all its words.
-fn whole(ram: &Ram)
+fn fact_is_whole(ram: &Ram)
     ensures { length ram.now ≡ 67584 }
 {
     let _ = ram.read(0);
@@ -84,7 +84,7 @@ pub(crate) fn store(
     ensures count { length pages.new.items
         ≡ length pages.old.items + stored_anew 264 pages.old.items in_force ram.now }
 {
-    whole(ram);
+    fact_is_whole(ram);
     let mut numbers = [0; 264];
     for page in 0..PAGES {
         let before = number_in(&in_force, page);

@@ -1,4 +1,5 @@
--- The first cycles of a window, as long as core 0 alone is at work in SRAM beside lanes that are quiet. The project's own.
+-- The first cycles of a window, as long as nobody has anything to do, or core 0 alone is at work in SRAM beside lanes that are quiet. The
+-- project's own.
 use Rattle.std.specs.Prelude.{◌≡◌, ℕ, zero, suc, ◌<◌, true, false, List, [], ◌∷◌, ◌++◌}
 use Rattle.lane_look.specs.declared.lane.Want.{Want}
 use Rattle.lane_look.specs.declared.lane.Want.TheVariants as want

@@ -1,4 +1,4 @@
-//! The jobs of the six lanes, made once.
+//! The jobs of the six lanes, made once, or room for a run without them.
 
 ghost use Rattle.std.specs.Prelude.{◌≡◌, ◌≤◌, true, IfOk};
 ghost use Rattle.window_merge.specs.Kinds.{is_run_of};

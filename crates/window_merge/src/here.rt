@@ -19,11 +19,12 @@ use crate::start::Start;
 use lane_look::{Device, Marks};
 use outer_lane::World;
 use rp_machine::begun::Begun;
+use rp_machine::wanted::all_wanted;
 use rp_machine::{Machine, Steps};
 use std::sync::ledger::Ledger;
 
-/// Begins a window of at most so many cycles, the first of which goes: it goes over them as long as core 0 alone is at work in SRAM beside
-/// lanes that are quiet, and else does one. Gives how many it has gone over. `lanes` has what the lanes begin in the first one.
+/// Begins a window of at most so many cycles, the first of which goes: it goes over them as long as nobody has anything to do, or core 0
+/// alone is at work in SRAM beside lanes that are quiet, and else does one. Gives how many it has gone over. `lanes` has what the lanes begin in the first one.
 #[inline(never)]
 fn begin<X: Device, L: Ledger>(
     machine: &mut Machine,
@@ -57,7 +58,7 @@ fn begin<X: Device, L: Ledger>(
     if done > 0 {
         return done;
     }
-    step_noted(machine, world, notes, lanes, marks);
+    step_noted(machine, world, notes, lanes, &all_wanted(lanes), marks);
     steps.tick();
     1
 }
@@ -133,7 +134,7 @@ pub fn window<X: Device, L: Ledger>(
     if is_launching(&machine.core1) {
         return 0;
     }
-    if !goes_by(lanes) {
+    if !goes_by(lanes, &all_wanted(lanes)) {
         return 0;
     }
     go(machine, world, notes, lanes, most, marks, steps)

@@ -1,12 +1,10 @@
 //! The first cycles of a window, as long as core 0 alone is at work in SRAM beside lanes that are quiet, which lie behind and are brought
 //! up once, or nobody has anything to do.
 
-ghost use Rattle.std.specs.Prelude.{◌≡◌, ◌+◌, ◌-◌, ◌^◌, ◌<◌, ◌≤◌, ◌++◌, ◌∷◌, [], None, false, true, length};
+ghost use Rattle.std.specs.Prelude.{◌≡◌, ◌+◌, ◌-◌, ◌^◌, ◌<◌, ◌≤◌, ◌∷◌, [], None, false, true};
 ghost use Rattle.lane_look.specs.Alone.{ends_want};
 ghost use Rattle.outer_lane.specs.Setting.{setting};
-ghost use Rattle.bus_fabric.specs.State.{has_hold};
 ghost use Rattle.rp_machine.specs.Answers.{lines_of};
-ghost use Rattle.rp_machine.specs.Cycle.{begun};
 ghost use Rattle.rp_machine.specs.Inward.{core0_want, goes_inward, inward_cycle, inward_after, StaysInward};
 ghost use Rattle.rp_machine.specs.Run.{states};
 ghost use Rattle.window_merge.specs.Inward.{noted_in, noted_core0, noted_inward, same_marks, GoesAsAlone, KeepsInward};

@@ -38,24 +38,26 @@ fn ends_wanted(wants: &[Wanted; 4]) -> bool
         || ends_want(&write.want)
 }
 
-/// No run alone ends before a cycle in which this was begun, and no two of its accesses name one port.
-#[inline(never)]
-pub(crate) fn goes_by(lanes: &Begun) -> bool
+/// No run alone ends before a cycle in which the lanes have begun this and want that, and no two of its accesses name one port.
+#[inline(always)]
+pub(crate) fn goes_by(lanes: &Begun, wants: &[Wanted; 4]) -> bool
+    requires { wants.now ≡ wanted lanes.now }
     ensures { result ≡ goes_by lanes.now }
 {
-    let wants = all_wanted(lanes);
-    !ends_wanted(&wants) && !clash(lanes, &wants)
+    !ends_wanted(wants) && !clash(lanes, wants)
 }
 
-/// Does a cycle in which the lanes begin this, and notes first what the masters write.
+/// Does a cycle in which the lanes begin this and want that, and notes first what the masters write.
 #[inline(always)]
 pub(crate) fn step_noted<X: Device>(
     machine: &mut Machine,
     world: &World<'_, X>,
     notes: &mut Notes,
     lanes: &Begun,
+    wants: &[Wanted; 4],
     marks: &mut Marks,
 )
+    requires wants { wants.now ≡ wanted lanes.now }
     requires number { machine.old.cycle < 2 ^ 64 - 1 }
     requires marks { length marks.old < 256 }
     requires room { HasRoom notes.old 3 }
@@ -65,7 +67,7 @@ pub(crate) fn step_noted<X: Device>(
         lanes.now.outer ∷ [] }
     ensures notes { notes.new ≡ noted_by (wanted lanes.now) machine.old.sram notes.old }
 {
-    notes.note(&machine.ram, &all_wanted(lanes));
+    notes.note(&machine.ram, wants);
     machine.step(world, lanes, marks);
 }
 
@@ -99,9 +101,10 @@ pub(crate) fn try_later<X: Device>(
     if !same {
         return false;
     }
-    if !goes_by(lanes) {
+    let wants = all_wanted(lanes);
+    if !goes_by(lanes, &wants) {
         return false;
     }
-    step_noted(machine, world, notes, lanes, marks);
+    step_noted(machine, world, notes, lanes, &wants, marks);
     true
 }

@@ -15,7 +15,7 @@ use crate::copies::half_of;
 use crate::notes::Notes;
 use dma_engine::BegunTransfer;
 use lane_look::{Ask, Device, Lane, Look};
-use m0_core::{Core, Doing};
+use m0_core::{Act, Core, Doing};
 use outer_lane::{SeenOutputs, World};
 use rp_base::map::{Spot, place};
 use rp_machine::Machine;
@@ -265,6 +265,25 @@ pub(crate) fn begin_core0(
     begin_core(&machine.core0, 0, machine, start, notes, core0, same);
 }
 
+/// Begins the cycle of core 1 so. While it sleeps it asks nothing.
+#[inline(always)]
+#[tactic(auto, unfolding(rp_machine::specs::Cycle::begun, m0_core::specs::Fetch::asks))]
+fn begin_core1(machine: &Machine, start: &Start, notes: &Notes, core1: &mut Doing, same: &mut bool)
+    ensures begun { core1.new ≡ (begun machine.now).core1 }
+    ensures same { same.new ≡ (same.old && not (differs
+        (answer_of 1 machine.now)
+        (asked (guess 1 start.now (seen_of 1 notes.now machine.now.sram))
+        (asks machine.now.core1 machine.now.cycle)))) }
+{
+    if machine.core1.is_asleep() {
+        core1.act = Act::Asleep;
+        core1.lines = 0;
+        core1.cycle = machine.at;
+    } else {
+        begin_core(&machine.core1, 1, machine, start, notes, core1, same);
+    }
+}
+
 /// Begins the cycle of the peripherals so.
 #[inline(always)]
 #[tactic(auto, unfolding(rp_machine::specs::Cycle::begun))]
@@ -306,15 +325,7 @@ pub(crate) fn begin_later<X: Device>(
     ensures same { same.new ≡ (same.old && not (differs_from start.now notes.now machine.now)) }
 {
     begin_core0(machine, start, notes, &mut lanes.core0, same);
-    begin_core(
-        &machine.core1,
-        1,
-        machine,
-        start,
-        notes,
-        &mut lanes.core1,
-        same,
-    );
+    begin_core1(machine, start, notes, &mut lanes.core1, same);
     begin_dma(machine, start, notes, &mut lanes.dma, same);
     lanes.pio0 = begin_by(&machine.pio0.block, &(), 3, machine, start, notes, same);
     lanes.pio1 = begin_by(&machine.pio1.block, &(), 4, machine, start, notes, same);

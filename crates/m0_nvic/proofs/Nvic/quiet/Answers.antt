@@ -4,7 +4,7 @@ use Rattle.m0_nvic.proofs.Nvic.quiet.Goals as goal
 
 pub returns-then-is_settled : goal.returns-then-is_settled
 returns-then-is_settled c =
-    settled_quiet c.args.lines c.args.self.now c.args.cycle c.cycles_left.result c.ranges.lines.fits (rw (← c.self.view_is) c.fits.ensures.set) (sym c.if-is_settled.ensures)
+    settled_quiet c.args.lines c.args.self.now c.args.cycle c.cycles_left.result c.ranges.lines.fits (rw (← c.self.view_is) c.fact_fits.ensures.set) (sym c.if-is_settled.ensures)
     (rw (← c.self.view_is) c.cycles_left.ensures)
 
 pub returns-else-is_settled : goal.returns-else-is_settled

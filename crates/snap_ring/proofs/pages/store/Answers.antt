@@ -34,7 +34,7 @@ number_of-requires-clause-small c =
 pub loop-page-preserved : goal.loop-page-preserved
 loop-page-preserved c = record {
   stores = stores_step c.loop-page.page c.args.in_force c.args.pages.now.items c.loop-page.pages.items c.number_of.new.pages.items c.args.ram.now
-      c.loop-page.numbers c.number_of.result c.number_in-before.result c.loop-page-test.true c.whole.ensures c.loop-page.invariant.long c.requires.stored
+      c.loop-page.numbers c.number_of.result c.number_in-before.result c.loop-page-test.true c.fact_is_whole.ensures c.loop-page.invariant.long c.requires.stored
       c.requires.whole c.loop-page.invariant.stores c.number_in-before.ensures c.number_of.ensures.items c.number_of.ensures.stored c.number_of.ensures.words;
   long = length-set c.loop-page.numbers c.loop-page.page c.number_of.result ∙ c.loop-page.invariant.long;
   room = omega (arith, c.loop-page.invariant.room, c.number_of.ensures.room);
@@ -51,5 +51,5 @@ returns-clause-stored c =
 
 pub returns-clause-sram : goal.returns-clause-sram
 returns-clause-sram c =
-    all_sram c.args.in_force c.args.pages.now.items c.loop-page.pages.items c.args.ram.now c.loop-page.numbers c.loop-page.invariant.long c.whole.ensures
+    all_sram c.args.in_force c.args.pages.now.items c.loop-page.pages.items c.args.ram.now c.loop-page.numbers c.loop-page.invariant.long c.fact_is_whole.ensures
     (at_end c)

@@ -6,5 +6,5 @@ use Rattle.pio_block.proofs.block.PioBlock.quiet.Goals as goal
 
 pub returns-else-self : goal.returns-else-self
 returns-else-self c =
-    idle_quiet c.args.self.now _ (subst HasWords c.self.view_is c.has_words.ensures)
+    idle_quiet c.args.self.now _ (subst HasWords c.self.view_is c.fact_has_words.ensures)
     (sym (ap is_busy c.self.view_is) ∙ (sym c.self.invariant.of_work ∙ c.if-self.false))

@@ -8,7 +8,7 @@ abbrev pub packed_counts : List ℕ → ℕ
 packed_counts [] = 0
 packed_counts (count ∷ counts) = count + packed_counts counts * 2 ^ 6
 
-pub record AreTold (busy silent : Bool) (counts : ℕ) (s : State) : Type 0 where
+pub record StandBeside (busy silent : Bool) (counts : ℕ) (s : State) : Type 0 where
   pub of_work : busy ≡ is_busy s
   pub of_silence : silent ≡ is_silent s
   pub of_counts : busy ≡ false → counts ≡ packed_counts (pacing_of s.machines)
