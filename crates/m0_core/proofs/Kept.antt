@@ -14,19 +14,19 @@ use Rattle.m0_core.specs.Kept.{IsKept}
 use Rattle.m0_core.specs.State.{State}
 
 -- what the core asks is the access
-pub kept_begins : (op : Op) (s : State) (held : Request) → slice_get (beats_of op s.regs) s.beats_done ≡ Some (Access held)
-    → asks_work (works.Instruction op) s ≡ at_spot (works.Instruction op) held s (place_of held.address)
+pub kept_begins : (op : Op) (s : State) (kept : Request) → slice_get (beats_of op s.regs) s.beats_done ≡ Some (Access kept)
+    → asks_work (works.Instruction op) s ≡ at_spot (works.Instruction op) kept s (place_of kept.address)
 unfolding asks_beat beat_of
-kept_begins op s held e = ap (λ beat. in_beat (works.Instruction op) s (unwrap_or beat Inner)) e
+kept_begins op s kept e = ap (λ beat. in_beat (works.Instruction op) s (unwrap_or beat Inner)) e
 
 -- so it is where the core keeps one
-pub kept_in : {t s : State} (k : Bool) (held : Request) (work : Work) (op : Op) → t ≡ s → s.work ≡ Some work → work ≡ works.Instruction op → k ≡ true
-    → IsKept t.work k held t.regs t.beats_done → asks_work work s ≡ at_spot work held s (place_of held.address)
-kept_in {s = s} k held work op same at is q h =
-    let here = subst (λ (u : State). IsKept u.work k held u.regs u.beats_done) same h in
-    let instruction = subst (λ w. IsKept w k held s.regs s.beats_done) (at ∙ ap Some is) here in
-    let next = subst (λ b. IsKept (Some (works.Instruction op)) b held s.regs s.beats_done) q instruction in
-    subst (λ w. asks_work w s ≡ at_spot w held s (place_of held.address)) (sym is) (kept_begins op s held next)
+pub kept_in : {t s : State} (k : Bool) (kept : Request) (work : Work) (op : Op) → t ≡ s → s.work ≡ Some work → work ≡ works.Instruction op → k ≡ true
+    → IsKept t.work k kept t.regs t.beats_done → asks_work work s ≡ at_spot work kept s (place_of kept.address)
+kept_in {s = s} k kept work op same at is q h =
+    let here = subst (λ (u : State). IsKept u.work k kept u.regs u.beats_done) same h in
+    let instruction = subst (λ w. IsKept w k kept s.regs s.beats_done) (at ∙ ap Some is) here in
+    let next = subst (λ b. IsKept (Some (works.Instruction op)) b kept s.regs s.beats_done) q instruction in
+    subst (λ w. asks_work w s ≡ at_spot w kept s (place_of kept.address)) (sym is) (kept_begins op s kept next)
 
 -- what is in progress goes on
 pub goes_on_at : (work : Work) (s : State) → s.work ≡ Some work → s ≡ waiting work s

@@ -38,11 +38,11 @@ asked_one o s h =
     rw (k.breakpoint, k.undefined, k.call, or-false (is_unaligned_of o s.regs)) refl
 
 -- by its shape: an inner beat and the access behind it
-pub held : (shape : Shape) (o : Op) (s : State) → is_one_access o ≡ true → beats_of_shape shape s.regs ≡ beats_of o s.regs → s.beats_done ≡ 0
+pub kept : (shape : Shape) (o : Op) (s : State) → is_one_access o ≡ true → beats_of_shape shape s.regs ≡ beats_of o s.regs → s.beats_done ≡ 0
     → list_any is_unaligned_beat (beats_of_shape shape s.regs) ≡ false → slice_get (beats_of_shape shape s.regs) 0 ≡ Some Inner
     → s.regs.t ≡ true → asks_decoded o s ≡ Ready (act.Inner (works.Instruction o))
 unfolding asks_beat beat_of
-held shape o s h e zero aligned first t =
+kept shape o s h e zero aligned first t =
     let same = unaligned_shape shape o s.regs e in
     asked_one o s h
     ∙ ap (λ faulty. if faulty then asks_fault s else asks_beat (works.Instruction o) s) (ap (λ x. not x || is_unaligned_of o s.regs) t ∙ sym same ∙ aligned)

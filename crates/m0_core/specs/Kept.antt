@@ -16,6 +16,6 @@ beats_in (works.Return value) r = []
 
 -- where something is in progress and an access is kept, it is that of the beat that is next
 abbrev pub IsKept : Option Work → Bool → Request → Regs → ℕ → Type 0
-IsKept None is_held held r done = Unit {0}
-IsKept (Some work) false held r done = Unit {0}
-IsKept (Some work) true held r done = slice_get (beats_in work r) done ≡ Some (Access held)
+IsKept None is_kept kept r done = Unit {0}
+IsKept (Some work) false kept r done = Unit {0}
+IsKept (Some work) true kept r done = slice_get (beats_in work r) done ≡ Some (Access kept)

@@ -324,7 +324,7 @@ impl Core {
         match work {
             Work::Instruction(op) if is_branch(op) => *act = Act::Inner(*work),
             Work::Instruction(op) if is_pause(op) => *act = Act::Inner(*work),
-            Work::Instruction(_) if self.is_held => self.begin_placed(work, &self.held, look, act),
+            Work::Instruction(_) if self.is_kept => self.begin_placed(work, &self.kept, look, act),
             Work::Instruction(_) | Work::Entry(_) => self.begin_beat(work, look, act),
             Work::Return(value) => self.begin_return(*value, look, act),
         }

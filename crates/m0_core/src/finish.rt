@@ -130,7 +130,7 @@ impl Core {
     {
         if !self.is_at(work) {
             self.work = Some(*work);
-            self.is_held = false;
+            self.is_kept = false;
         }
     }
 
@@ -141,7 +141,7 @@ impl Core {
     {
         self.work = Some(work);
         self.beats_done += 1;
-        self.is_held = false;
+        self.is_kept = false;
     }
 
     /// Keeps a value that was read.
@@ -228,7 +228,7 @@ impl Core {
         }
         let op = decode(first, 0);
         let passes = if is_one_access(&op) {
-            self.hold(&op)
+            self.keep_access(&op)
         } else {
             is_plain(&op) && self.pass_plain(&Work::Instruction(op))
         };
@@ -266,7 +266,7 @@ impl Core {
         self.event = self.event && !awaits_event(op);
         self.work = returning(value);
         self.beats_done = 0;
-        self.is_held = false;
+        self.is_kept = false;
         self.read.clear();
     }
 
@@ -279,7 +279,7 @@ impl Core {
         if has_more(op, &self.regs, self.beats_done) {
             self.work = Some(Work::Instruction(*op));
             self.beats_done += 1;
-            self.is_held = false;
+            self.is_kept = false;
         } else {
             self.end(op);
         }
@@ -288,8 +288,8 @@ impl Core {
     /// Ends the first beat of a load or a store of one register, where it is inside the core and the access comes next; the core keeps
     /// that access. False elsewhere, as where the instruction faults; then nothing changes.
     #[inline(never)]
-    #[tactic(auto, unfolding(crate::specs::Cycle::passed_instruction), using(crate::proofs::OneAccess::held))]
-    fn hold(&mut self, op: &Op) -> bool
+    #[tactic(auto, unfolding(crate::specs::Cycle::passed_instruction), using(crate::proofs::OneAccess::kept))]
+    fn keep_access(&mut self, op: &Op) -> bool
         requires { is_one_access op.now ≡ true }
         ensures begun { result ≡ true → self.old.regs.t ≡ true
             → asks_decoded op.now self.old ≡ Ready (Act.Inner (Work.Instruction op.now)) }
@@ -306,8 +306,8 @@ impl Core {
             (Some(Beat::Inner), Some(Beat::Access(request))) => {
                 self.work = Some(Work::Instruction(*op));
                 self.beats_done = 1;
-                self.is_held = true;
-                self.held = Placed::new(request);
+                self.is_kept = true;
+                self.kept = Placed::new(request);
                 true
             }
             _ => false,
@@ -323,7 +323,7 @@ impl Core {
     {
         if self.beats_done != 0 {
             self.end_plain(op);
-        } else if !self.hold(op) {
+        } else if !self.keep_access(op) {
             self.pass_instruction(op);
         }
     }

@@ -25,9 +25,9 @@ pub struct Core {
     pub(crate) beats_done: usize,
     pub(crate) read: ArrayVec<u32, 16>,
     /// The access of the beat that is next was found, where something is in progress.
-    pub(crate) is_held: bool,
+    pub(crate) is_kept: bool,
     /// That access, where it was found.
-    pub(crate) held: Placed,
+    pub(crate) kept: Placed,
 }
 
 impl Model for Core {
@@ -48,7 +48,7 @@ impl Model for Core {
       read = c.read.items;
     } };
 
-    ghost invariant = { λ c. IsKept c.work c.is_held c.held c.regs c.beats_done };
+    ghost invariant = { λ c. IsKept c.work c.is_kept c.kept c.regs c.beats_done };
 }
 
 /// Registers and flags that are 0, but for MSP, LR, PC and T.
@@ -100,8 +100,8 @@ impl Core {
             work: None,
             beats_done: 0,
             read: ArrayVec::new(),
-            is_held: false,
-            held: Placed::new(Request {
+            is_kept: false,
+            kept: Placed::new(Request {
                 address: 0,
                 size: Size::Word,
                 write: None,
@@ -196,7 +196,7 @@ impl Core {
         self.offer = other.offer;
         self.work = other.work;
         self.beats_done = other.beats_done;
-        self.is_held = false;
+        self.is_kept = false;
         self.read.clear();
         let _ = self.read.try_extend_from_slice(other.read.as_slice());
     }
