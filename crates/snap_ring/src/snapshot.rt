@@ -69,7 +69,10 @@ pub fn is_among(snapshots: &[Snapshot], cycle: u64) -> bool
 pub fn first_numbers(snapshots: &[Snapshot]) -> Option<[u32; 264]>
     ensures { result ≡ first_numbers snapshots.now }
 {
-    snapshots.first().map(|snapshot| snapshot.numbers)
+    match snapshots.first() {
+        Some(snapshot) => Some(snapshot.numbers),
+        None => None,
+    }
 }
 
 /// The greater of two cycles, of which each may be none.
