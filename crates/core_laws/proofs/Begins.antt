@@ -1,26 +1,11 @@
 -- The first halfword that a core asks for is that of the instruction that it begins.
 use Rattle.std.proofs.Common.{◌≡◌, ℕ, Bool, true, false, cond, refl, Some, None}
-use Rattle.std.specs.Prelude.{Option, ◌%◌, ◌^◌}
-use Rattle.rp_base.specs.declared.Request.{Request}
-use Rattle.rp_base.specs.declared.map.Spot.{Spot}
+use Rattle.core_laws.proofs.Shared.{Option, ◌%◌, ◌^◌, Request, Spot, place_of, is_allowed, word_written, Beat, Inner, Access, Ask, Lines, Half, Asking, Ready, Question, Act, Work, in_ram, at_spot, in_beat, beat_of_work, asks_beat, is_locked, asks_fault, locks_last, asks_return, is_ram, asks_second, asks_first, taken_of, asks_taken, asks_boundary, asks_work, asks_next, asks_awake, asks, carried, State}
 use Rattle.rp_base.specs.declared.map.Spot.TheVariants as spot
-use Rattle.rp_base.specs.Map.{place_of}
-use Rattle.m0_nvic.specs.Words.{is_allowed}
-use Rattle.rp_base.specs.Access.{word_written}
-use Rattle.m0_beats.specs.declared.timing.Beat.{Beat}
-use Rattle.m0_beats.specs.declared.timing.Beat.TheVariants.{Inner, Access}
-use Rattle.lane_look.specs.declared.lane.Ask.{Ask}
-use Rattle.lane_look.specs.declared.lane.Ask.TheVariants.{Lines, Half}
-use Rattle.lane_look.specs.Asking.{Asking}
-use Rattle.lane_look.specs.Asking.Asking.{Ready, Question}
-use Rattle.m0_core.specs.declared.doing.Act.{Act}
 use Rattle.m0_core.specs.declared.doing.Doing.{Doing}
-use Rattle.m0_core.specs.declared.doing.Work.{Work}
 use Rattle.m0_core.specs.declared.doing.Work.TheVariants as works
-use Rattle.m0_core.specs.Fetch.{in_ram, at_spot, in_beat, beat_of_work, asks_beat, is_locked, asks_fault, locks_last, asks_return, is_ram, asks_second, asks_first, taken_of, asks_taken, asks_boundary, asks_work, asks_next, asks_awake, asks, carried}
 use Rattle.m0_core.specs.Begins.{begins, begins_untaken, begins_between}
 use Rattle.core_laws.specs.Begins.{first_half, WhatBeginsIsFetchedFirst}
-use Rattle.m0_core.specs.State.{State}
 
 -- nothing that is asked is a halfword
 abbrev NoHalf : (Ask → ℕ) → Asking Act → Type 0

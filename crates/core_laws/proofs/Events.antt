@@ -1,27 +1,12 @@
 -- When WFE moves on, and where a return faults.
 use Rattle.std.proofs.Common.{◌≡◌, ℕ, ◌+◌, ◌^◌, ◌%◌, ◌==◌, ◌&&◌, ◌||◌, not, Bool, true, false, cond, List, length, refl, sym, ap, ap₂, subst, ◌∙◌, true≢false, Some, None}
-use Rattle.std.specs.Prelude.{slice_get, slice_index, nat_lt}
+use Rattle.core_laws.proofs.Shared.{slice_get, slice_index, nat_lt, Why, Regs, Inner, beats_of, return_of, wakes_of, Lines, answered, Ready, Work, stopped, asks_awake, asks_next, asks_fault, asks_beat, asks_return, locks_last, ends_with, is_locked, want_of, waiting, followed, ended, passed, passed_instruction, after_inner, closed, returning, OnlyPendsHardFault, is_bad, is_misfit, State, Given, lines_in, wanted_in, after_cycle}
 use Rattle.rp_base.specs.declared.op.Op.TheVariants as op
-use Rattle.rp_base.specs.declared.Why.{Why}
 use Rattle.rp_base.specs.declared.Why.TheVariants as why
-use Rattle.m0_beats.specs.declared.registers.Regs.{Regs}
-use Rattle.m0_beats.specs.declared.timing.Beat.TheVariants.{Inner}
-use Rattle.m0_beats.specs.Instructions.{beats_of, return_of}
-use Rattle.m0_nvic.specs.Priority.{wakes_of}
 use Rattle.m0_nvic.specs.Cycle as nvic
-use Rattle.lane_look.specs.declared.lane.Ask.TheVariants.{Lines}
 use Rattle.lane_look.specs.declared.lane.Want.TheVariants as want
-use Rattle.lane_look.specs.Asking.{answered}
-use Rattle.lane_look.specs.Asking.Asking.{Ready}
 use Rattle.m0_core.specs.declared.doing.Act.TheVariants as act
-use Rattle.m0_core.specs.declared.doing.Work.{Work}
 use Rattle.m0_core.specs.declared.doing.Work.TheVariants as works
-use Rattle.m0_core.specs.Fetch.{stopped, asks_awake, asks_next, asks_fault, asks_beat, asks_return, locks_last, ends_with, is_locked}
-use Rattle.m0_core.specs.Cycle.{want_of, waiting, followed, ended, passed, passed_instruction, after_inner, closed, returning}
-use Rattle.core_laws.specs.ExceptionLaws.{OnlyPendsHardFault}
-use Rattle.m0_core.specs.Return.{is_bad, is_misfit}
-use Rattle.m0_core.specs.State.{State}
-use Rattle.core_laws.specs.Laws.{Given, lines_in, wanted_in, after_cycle}
 use Rattle.core_laws.specs.EventLaws.{IsInWfe, StaysInWfe, LeavesWfe, AWfeMovesOnAtAnEvent, AReturnFaults}
 use Rattle.core_laws.proofs.TakesBeats.{begins_on, begun_awake, begun_beat, after_begun}
 use Rattle.core_laws.proofs.Taken.{fault_leaves}

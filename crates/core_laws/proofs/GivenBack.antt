@@ -1,40 +1,12 @@
 -- A return gives back what an entry found.
 use Rattle.std.proofs.Common.{◌≡◌, ℕ, zero, suc, ◌+◌, ◌-◌, ◌*◌, ◌/◌, ◌%◌, ◌^◌, ◌<◌, ◌≤◌, ◌≢◌, ◌==◌, ◌&&◌, ◌||◌, ◌⊎◌, not, Bool, true, false, cond, List, [], ◌∷◌, length, refl, sym, ap, ap₂, subst, ◌∙◌, inl, inr, arith, true≢false, lt-ltb}
-use Rattle.std.specs.Prelude.{Option, Some, None, map, max, slice_index, slice_set, bit_and, bit_or, int_lt}
-use Rattle.std.specs.Int.{bit_at}
+use Rattle.core_laws.proofs.Shared.{Option, Some, None, map, max, slice_index, slice_set, bit_and, bit_or, int_lt, bit_at, pow-lt, ltb-true, ne_eqb, nat_tests, get_or-set_same, get_or-set_other, length-set, and-not, and_comm, and_le_l, or_mod, or_disjoint, or_lt, bit_at_or, bit_at-lt, bit_at-pow_same, bit_at-pow_other, and_pow, same_from_bits_below, has_bit, bit_number, Regs, Beat, Inner, is_thread, sp_of, xpsr_of, Exceptions, numbers_from, is_number, is_member, minus, entered, left, rank_of, priority_of, after_cycles, Want, access, is_ram, taken_of, entry_frame, stacked_xpsr, stacked, vector_address, stacking, link_of, entry_beat, with_entry, is_to_process, is_alone, return_frame, is_bad, is_misfit, stacked_number, stack_after, with_five, with_frame, with_return, State, Served, after_all_served, candidates, lines_in, last_lines, ends_in, left_of, want_in, wants_through, lines_of, Stays, entry_beats, HandlerBegins, BeginsReturn, HasFrame, after_leaving, IsBack, IsThere, written, AreThere, IsGivenBack, KeepsTheRest, AReturnGivesBackWhatAnEntryFound, active_before}
 use Rattle.std.specs.Int.Bits.{or_zero_r}
-use Rattle.std.proofs.Math.Pow.{pow-lt}
-use Rattle.std.proofs.lemmas.Bool.{ltb-true, ne_eqb}
-use Rattle.std.proofs.lemmas.Bool.Decides.{nat_tests}
 use Rattle.std.proofs.lemmas.Grind.{same_number_lists}
-use Rattle.std.proofs.lemmas.List.{get_or-set_same, get_or-set_other, length-set}
-use Rattle.std.proofs.lemmas.Nat.{and-not, and_comm, and_le_l, or_mod, or_disjoint, or_lt}
-use Rattle.std.proofs.lemmas.Nat.Bits.{bit_at_or, bit_at-lt, bit_at-pow_same, bit_at-pow_other, and_pow, same_from_bits_below}
-use Rattle.rp_base.specs.Word.{has_bit, bit_number}
-use Rattle.m0_beats.specs.declared.registers.Regs.{Regs}
-use Rattle.m0_beats.specs.declared.timing.Beat.{Beat}
-use Rattle.m0_beats.specs.declared.timing.Beat.TheVariants.{Inner}
-use Rattle.m0_beats.specs.Registers.{is_thread, sp_of, xpsr_of}
-use Rattle.m0_nvic.specs.State.{State as Exceptions}
-use Rattle.m0_nvic.specs.Numbers.{numbers_from, is_number, is_member, minus}
-use Rattle.m0_nvic.specs.Changes.{entered, left}
 use Rattle.m0_nvic.specs.Cycle as nvic
-use Rattle.m0_nvic.specs.Priority.{rank_of, priority_of}
-use Rattle.m0_nvic.specs.Laws.{after_cycles}
 use Rattle.m0_nvic.proofs.Held.{minus_at, pends_behind}
 use Rattle.m0_nvic.proofs.InForce.{the_priority_is_the_least}
-use Rattle.lane_look.specs.declared.lane.Want.{Want}
 use Rattle.rp_base.specs.declared.Size.TheVariants as sizes
-use Rattle.m0_beats.specs.Beats.{access}
-use Rattle.m0_core.specs.Fetch.{is_ram, taken_of}
-use Rattle.m0_core.specs.Entry.{entry_frame, stacked_xpsr, stacked, vector_address, stacking, link_of, entry_beat, with_entry}
-use Rattle.m0_core.specs.Return.{is_to_process, is_alone, return_frame, is_bad, is_misfit, stacked_number, stack_after, with_five, with_frame, with_return}
-use Rattle.m0_core.specs.State.{State}
-use Rattle.core_laws.specs.Waiting.{Served, after_all_served}
-use Rattle.core_laws.specs.ExceptionLaws.{candidates}
-use Rattle.core_laws.specs.Laws.{lines_in}
-use Rattle.core_laws.specs.Handlers.{last_lines, ends_in, left_of, want_in, wants_through, lines_of, Stays, entry_beats, HandlerBegins, BeginsReturn, HasFrame, after_leaving, IsBack, IsThere, written, AreThere, IsGivenBack, KeepsTheRest, AReturnGivesBackWhatAnEntryFound}
-use Rattle.core_laws.specs.Sound.{active_before}
 use Rattle.core_laws.proofs.Taken.{what_is_taken_is_the_least}
 use Rattle.core_laws.proofs.Handlers.{active_cycle, an_entry_takes_its_beats, a_return_takes_its_beats}
 

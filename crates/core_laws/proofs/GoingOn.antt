@@ -1,30 +1,12 @@
 -- An instruction none of whose beats the private bus refuses stops in none of its cycles, and so takes its beats.
 use Rattle.std.proofs.Common.{◌≡◌, ℕ, ◌+◌, ◌≤◌, ◌||◌, not, Bool, true, false, cond, List, [], ◌∷◌, ◌++◌, length, refl, sym, ap, ap₂, subst, ◌∙◌, arith, append_assoc, length-append, true≢false}
-use Rattle.std.specs.Prelude.{Option, Some, None, option_to_list, slice_get}
+use Rattle.core_laws.proofs.Shared.{Option, Some, None, option_to_list, slice_get, Request, Spot, Op, master_of, word_written, place_of, Regs, Beat, Inner, Access, beats_of, is_allowed, answered, Ready, awaits_event, awaits_interrupt, is_signal, stopped, in_beat, in_ram, at_spot, want_of, want_of_act, with_value, State, Given, wanted_in, after_cycle, is_stop, GoesOn, read_in, is_refused_at, is_refused, IsAtBoundary, IsFetched, IsPlain, IsGranted, AnInstructionTakesItsBeats, Served, after_served, GoesOnServed, is_over, left_after, AnInstructionTakesItsBeatsAndWaits}
 use Rattle.std.specs.List.{list_any}
-use Rattle.rp_base.specs.declared.Request.{Request}
-use Rattle.rp_base.specs.declared.map.Spot.{Spot}
 use Rattle.rp_base.specs.declared.map.Spot.TheVariants as spot
-use Rattle.rp_base.specs.declared.op.Op.{Op}
 use Rattle.rp_base.specs.declared.Why.TheVariants as why
-use Rattle.rp_base.specs.Access.{master_of, word_written}
-use Rattle.rp_base.specs.Map.{place_of}
-use Rattle.m0_beats.specs.declared.registers.Regs.{Regs}
-use Rattle.m0_beats.specs.declared.timing.Beat.{Beat}
-use Rattle.m0_beats.specs.declared.timing.Beat.TheVariants.{Inner, Access}
-use Rattle.m0_beats.specs.Instructions.{beats_of}
-use Rattle.m0_nvic.specs.Words.{is_allowed}
 use Rattle.lane_look.specs.declared.lane.Want.TheVariants as want
-use Rattle.lane_look.specs.Asking.{answered}
-use Rattle.lane_look.specs.Asking.Asking.{Ready}
 use Rattle.m0_core.specs.declared.doing.Act.TheVariants as act
 use Rattle.m0_core.specs.declared.doing.Work.TheVariants as works
-use Rattle.m0_core.specs.Kinds.{awaits_event, awaits_interrupt, is_signal}
-use Rattle.m0_core.specs.Fetch.{stopped, in_beat, in_ram, at_spot}
-use Rattle.m0_core.specs.Cycle.{want_of, want_of_act, with_value}
-use Rattle.m0_core.specs.State.{State}
-use Rattle.core_laws.specs.Laws.{Given, wanted_in, after_cycle, is_stop, GoesOn, read_in, is_refused_at, is_refused, IsAtBoundary, IsFetched, IsPlain, IsGranted, AnInstructionTakesItsBeats}
-use Rattle.core_laws.specs.Waiting.{Served, after_served, GoesOnServed, is_over, left_after, AnInstructionTakesItsBeatsAndWaits}
 use Rattle.core_laws.proofs.ReadCount.{reading, reading-le}
 use Rattle.core_laws.proofs.TakesBeats.{Stands, Begins, Comes, begins_on, begins_boundary, begun_beat, lands_standing, value_kept, reads_beat, at_index, long_as, comes_where_it_goes}
 use Rattle.core_laws.proofs.Waits.{ComesServed, waited, landed, past, served_where_it_goes}

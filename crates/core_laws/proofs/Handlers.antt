@@ -1,31 +1,10 @@
 -- An entry takes its beats, and so does a return.
 use Rattle.std.proofs.Common.{◌≡◌, ℕ, ◌+◌, ◌-◌, ◌*◌, ◌%◌, ◌^◌, ◌<◌, ◌≤◌, ◌≢◌, ◌==◌, ◌&&◌, ◌⊎◌, Bool, true, false, cond, List, [], ◌∷◌, ◌++◌, length, refl, sym, ap, ap₂, subst, ◌∙◌, inl, inr, arith, true≢false, lt-ltb, le-ltb}
-use Rattle.std.specs.Prelude.{Option, Some, None, map, nat_lt, slice_index, take, bit_or}
-use Rattle.std.proofs.lemmas.Bool.{ltb-true, ne_eqb}
-use Rattle.std.proofs.lemmas.List.{take_more, take_all, length-take-le}
+use Rattle.core_laws.proofs.Shared.{Option, Some, None, map, nat_lt, slice_index, take, bit_or, ltb-true, ne_eqb, take_more, take_all, length-take-le, Regs, Beat, Inner, access, Exceptions, numbers_from, is_number, minus, entered, left, pended, with_pending, after_cycles, Word, Want, answered, Work, vector_address, stacking, entry_beat, with_entry, entry_ended, taken_first, return_frame, unstacking, return_beat, is_bad, is_misfit, with_return, after_return, return_ended, is_locked, stopped, asks_awake, asks_next, asks_boundary, asks_taken, asks_return, asks_fault, asks_beat, in_beat, with_value, waiting, followed, with_read, passed, passed_entry, passed_return, closed, State, Given, lines_in, Served, after_served, after_all_served, left_of, lines_of, Stays, Takes, HasRoom, AnEntryTakesItsBeats, BeginsReturn, HasFrame, after_leaving, AReturnTakesItsBeats}
 use Rattle.rp_base.specs.declared.Size.TheVariants as sizes
-use Rattle.m0_beats.specs.declared.registers.Regs.{Regs}
-use Rattle.m0_beats.specs.declared.timing.Beat.{Beat}
-use Rattle.m0_beats.specs.declared.timing.Beat.TheVariants.{Inner}
-use Rattle.m0_beats.specs.Beats.{access}
-use Rattle.m0_nvic.specs.State.{State as Exceptions}
-use Rattle.m0_nvic.specs.Numbers.{numbers_from, is_number, minus}
-use Rattle.m0_nvic.specs.Changes.{entered, left, pended, with_pending}
 use Rattle.m0_nvic.specs.Cycle as nvic
-use Rattle.m0_nvic.specs.Laws.{after_cycles}
-use Rattle.lane_look.specs.declared.lane.Ask.TheVariants.{Word}
-use Rattle.lane_look.specs.declared.lane.Want.{Want}
-use Rattle.lane_look.specs.Asking.{answered}
-use Rattle.m0_core.specs.declared.doing.Work.{Work}
 use Rattle.m0_core.specs.declared.doing.Work.TheVariants as works
-use Rattle.m0_core.specs.Entry.{vector_address, stacking, entry_beat, with_entry, entry_ended, taken_first}
-use Rattle.m0_core.specs.Return.{return_frame, unstacking, return_beat, is_bad, is_misfit, with_return, after_return, return_ended}
-use Rattle.m0_core.specs.Fetch.{is_locked, stopped, asks_awake, asks_next, asks_boundary, asks_taken, asks_return, asks_fault, asks_beat, in_beat}
-use Rattle.m0_core.specs.Cycle.{with_value, waiting, followed, with_read, passed, passed_entry, passed_return, closed}
-use Rattle.m0_core.specs.State.{State}
-use Rattle.core_laws.specs.Laws.{Given, lines_in}
-use Rattle.core_laws.specs.Waiting.{Served, after_served, after_all_served}
-use Rattle.core_laws.specs.Handlers.{left_of, lines_of, Stays, Takes, HasRoom, IsBetween, AnEntryTakesItsBeats, BeginsReturn, HasFrame, after_leaving, AReturnTakesItsBeats}
+use Rattle.core_laws.specs.Handlers.{IsBetween}
 use Rattle.rp_base.specs.declared.Why.TheVariants as why
 use Rattle.core_laws.proofs.Walk.{IsInRam, value_in, BeginsBeat, cycle_over, cycle_wants, closed_nvic, after_last, Plan, AllGiven, walk, counted}
 

@@ -1,17 +1,9 @@
 -- What every instruction keeps of the registers.
 use Rattle.std.proofs.Common.{◌≡◌, ◌∙◌, ℕ, ◌+◌, ◌*◌, ◌/◌, ◌==◌, ◌&&◌, Bool, true, false, cond, List, [], ◌∷◌, length, refl, sym, ap, arith, true≢false, nat_lt}
-use Rattle.std.specs.Prelude.{◌^◌, slice_index, slice_set}
-use Rattle.std.proofs.lemmas.List.{length-set}
-use Rattle.rp_base.specs.Word.{bit_number, has_bit}
-use Rattle.rp_base.specs.declared.op.Op.{Op}
+use Rattle.core_laws.proofs.Shared.{◌^◌, slice_index, slice_set, length-set, bit_number, has_bit, Op, Regs, is_thread, with_sp, with_pc, with_register, moved_on, condition_holds, is_exception_return, registers_of, effect_of}
 use Rattle.rp_base.specs.declared.op.Op.TheVariants as op
-use Rattle.m0_beats.specs.declared.registers.Regs.{Regs}
-use Rattle.m0_beats.specs.Registers.{is_thread, with_sp, with_pc, with_register, moved_on}
 use Rattle.m0_beats.specs.Special.{with_special}
-use Rattle.m0_beats.specs.Conditions.{condition_holds, is_exception_return}
-use Rattle.m0_beats.specs.Beats.{registers_of}
 use Rattle.m0_beats.specs.Effects.{branched, exchanged, with_loaded, with_all_loaded}
-use Rattle.m0_beats.specs.Instructions.{effect_of}
 
 -- stack pointers stay multiples of 4 and PC even; the mode stays, and SPSEL in Handler mode
 pub record Keeps (r t : Regs) : Type 0 where

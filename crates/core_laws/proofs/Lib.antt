@@ -6,6 +6,7 @@ mod Handlers
 mod Keeping
 mod ReadCount
 mod Sets
+mod Shared
 mod Sound
 mod Stops
 mod Taken

@@ -1,17 +1,7 @@
 -- No instruction reads more than 16 values.
 use Rattle.std.proofs.Common.{◌≡◌, ℕ, suc, ◌+◌, ◌≤◌, ◌*◌, ◌==◌, ◌/◌, ◌%◌, ◌^◌, Bool, true, false, cond, nat_le, List, [], ◌∷◌, ◌++◌, length, refl, ap, arith}
-use Rattle.std.specs.Prelude.{Option, Some, None, map, filter}
-use Rattle.rp_base.specs.Word.{bit_number, has_bit}
-use Rattle.rp_base.specs.declared.Request.{Request}
-use Rattle.rp_base.specs.declared.op.Op.{Op}
+use Rattle.core_laws.proofs.Shared.{Option, Some, None, map, filter, bit_number, has_bit, Request, Op, Regs, Beat, Inner, Access, condition_holds, registers_of, accesses, single, pop_end, beats_of, register_of, sp_of}
 use Rattle.rp_base.specs.declared.op.Op.TheVariants as op
-use Rattle.m0_beats.specs.declared.registers.Regs.{Regs}
-use Rattle.m0_beats.specs.declared.timing.Beat.{Beat}
-use Rattle.m0_beats.specs.declared.timing.Beat.TheVariants.{Inner, Access}
-use Rattle.m0_beats.specs.Conditions.{condition_holds}
-use Rattle.m0_beats.specs.Beats.{registers_of, accesses, single, pop_end}
-use Rattle.m0_beats.specs.Instructions.{beats_of}
-use Rattle.m0_beats.specs.Registers.{register_of, sp_of}
 
 -- how many of these beats read
 abbrev pub is_read : Option ℕ → ℕ

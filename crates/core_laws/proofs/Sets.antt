@@ -1,21 +1,9 @@
 -- Numbers, and sets of exceptions as numbers.
 use Rattle.std.proofs.Common.{◌≡◌, ◌∙◌, ℕ, zero, suc, ◌-◌, ◌*◌, ◌^◌, ◌≤◌, ◌==◌, ◌&&◌, Bool, true, false, cond, refl, sym, ap, ap₂, arith, true≢false}
-use Rattle.std.specs.Prelude.{Option, max, bit_or}
-use Rattle.std.specs.Int.{bit_at}
-use Rattle.std.proofs.lemmas.Bool.{ne_eqb}
-use Rattle.std.proofs.lemmas.Nat.Bits.{bit_at_and, bit_at_or, bit_at-lt}
-use Rattle.rp_base.specs.declared.op.Op.{Op}
-use Rattle.rp_base.specs.Word.{has_bit}
+use Rattle.core_laws.proofs.Shared.{Option, max, bit_or, bit_at, ne_eqb, bit_at_and, bit_at_or, bit_at-lt, Op, has_bit, SVCALL, Exceptions, is_number, is_member, minus, of_interrupts, with_pending, without_pending, pended, pended_if, cleared_if, is_call, called}
 use Rattle.rp_base.proofs.Rows.{Kept, keeps}
-use Rattle.m0_nvic.specs.Exceptions.{SVCALL}
-use Rattle.m0_nvic.specs.State.{State as Exceptions}
-use Rattle.m0_nvic.specs.Numbers.{is_number, is_member, minus, of_interrupts}
-use Rattle.m0_nvic.specs.Changes.{with_pending, without_pending, pended}
 use Rattle.m0_nvic.specs.Cycle as nvic
 use Rattle.m0_nvic.specs.Words as words
-use Rattle.m0_nvic.specs.Words.{pended_if, cleared_if}
-use Rattle.m0_core.specs.Kinds.{is_call}
-use Rattle.m0_core.specs.Cycle.{called}
 use Rattle.core_laws.proofs.GivenBack.{bit_clear}
 use Rattle.core_laws.proofs.Handlers.{active_cycle}
 

@@ -1,54 +1,16 @@
 -- A core stays sound.
 use Rattle.std.proofs.Common.{◌≡◌, ◌∙◌, ℕ, zero, suc, ◌+◌, ◌-◌, ◌*◌, ◌/◌, ◌%◌, ◌^◌, ◌<◌, ◌≤◌, ◌==◌, ◌&&◌, ◌||◌, ◌⊎◌, not, Bool, true, false, cond, List, length, refl, sym, ap, ap₂, subst, inl, inr, arith, true≢false, lt-ltb, ltb-true, ltb-false, nat_lt}
-use Rattle.std.specs.Prelude.{Option, Some, None, bit_and, bit_or, slice_get, slice_index}
-use Rattle.std.specs.Int.{bit_at}
-use Rattle.std.proofs.lemmas.Bool.{eqb-true}
-use Rattle.std.proofs.lemmas.Nat.{and_le_l, or_mod, or_lt}
-use Rattle.std.proofs.lemmas.Nat.Bits.{bit_at_and, bit_at_or, bit_at-lt, bit_at-zero, bit_at-pow_same}
-use Rattle.std.proofs.Math.Pow.{pow-lt}
-use Rattle.rp_base.specs.declared.Request.{Request}
+use Rattle.core_laws.proofs.Shared.{Option, Some, None, bit_and, bit_or, slice_get, slice_index, bit_at, eqb-true, and_le_l, or_mod, or_lt, bit_at_and, bit_at_or, bit_at-lt, bit_at-zero, bit_at-pow_same, pow-lt, Request, Spot, Op, master_of, word_written, place_of, has_bit, begins_long, operation_of, Regs, Beat, Inner, Access, is_thread, access, beats_of, effect_of, return_of, HARDFAULT, Exceptions, is_number, is_member, minus, pended, entered, left, Ask, Lines, Half, Asking, answered, Ready, Question, Act, Work, is_breakpoint, entry_frame, stacked, vector_address, stacking, entry_beat, entry_ended, taken_first, is_to_handler, is_to_process, is_to_thread, is_alone, is_bad, is_misfit, stacked_number, return_frame, unstacking, return_beat, stack_after, with_frame, with_return, after_return, return_ended, private_value, stopped, is_locked, is_ram, is_faulty, in_beat, in_ram, at_spot, asks_beat, asks_fault, locks_last, asks_return, asks_decoded, asks_half, asks_second, asks_first, taken_of, asks_taken, asks_boundary, asks_next, asks_awake, asks, ends_with, carried, with_read, waiting, followed, returning, called, ended, passed, passed_instruction, passed_entry, passed_return, is_paused, after_inner, faulted, done_word, value_of, after_access, after_outward, after_private, closed, next, State, begun_from, AreRegisters, IsUnderWay, IsFormed, active_before, Agrees, FrameFits, KeepsSound, ACoreStaysSound, candidates}
 use Rattle.rp_base.specs.declared.Size.{Size}
 use Rattle.rp_base.specs.declared.Size.TheVariants as sizes
-use Rattle.rp_base.specs.declared.map.Spot.{Spot}
 use Rattle.rp_base.specs.declared.map.Spot.TheVariants as spot
-use Rattle.rp_base.specs.declared.op.Op.{Op}
 use Rattle.rp_base.specs.declared.Why.TheVariants as why
-use Rattle.rp_base.specs.Access.{master_of, word_written}
-use Rattle.rp_base.specs.Map.{place_of}
-use Rattle.rp_base.specs.Word.{has_bit}
-use Rattle.thumb_rows.specs.Rows.{begins_long, operation_of}
-use Rattle.m0_beats.specs.declared.registers.Regs.{Regs}
-use Rattle.m0_beats.specs.declared.timing.Beat.{Beat}
-use Rattle.m0_beats.specs.declared.timing.Beat.TheVariants.{Inner, Access}
-use Rattle.m0_beats.specs.Registers.{is_thread}
-use Rattle.m0_beats.specs.Beats.{access}
-use Rattle.m0_beats.specs.Instructions.{beats_of, effect_of, return_of}
-use Rattle.m0_nvic.specs.Exceptions.{HARDFAULT}
-use Rattle.m0_nvic.specs.State.{State as Exceptions}
-use Rattle.m0_nvic.specs.Numbers.{is_number, is_member, minus}
-use Rattle.m0_nvic.specs.Changes.{pended, entered, left}
 use Rattle.m0_nvic.specs.Cycle as nvic
 use Rattle.m0_nvic.specs.Words as words
-use Rattle.lane_look.specs.declared.lane.Ask.{Ask}
-use Rattle.lane_look.specs.declared.lane.Ask.TheVariants.{Lines, Half}
 use Rattle.lane_look.specs.declared.lane.Turn.{Turn}
-use Rattle.lane_look.specs.Asking.{Asking, answered}
-use Rattle.lane_look.specs.Asking.Asking.{Ready, Question}
-use Rattle.m0_core.specs.declared.doing.Act.{Act}
 use Rattle.m0_core.specs.declared.doing.Act.TheVariants as act
-use Rattle.m0_core.specs.declared.doing.Work.{Work}
 use Rattle.m0_core.specs.declared.doing.Work.TheVariants as works
 use Rattle.m0_core.specs.ExcReturn.{TO_HANDLER, TO_PROCESS}
-use Rattle.m0_core.specs.Kinds.{is_breakpoint}
-use Rattle.m0_core.specs.Entry.{entry_frame, stacked, vector_address, stacking, entry_beat, entry_ended, taken_first}
-use Rattle.m0_core.specs.Return.{is_to_handler, is_to_process, is_to_thread, is_alone, is_bad, is_misfit, stacked_number, return_frame, unstacking, return_beat, stack_after, with_frame, with_return, after_return, return_ended}
-use Rattle.m0_core.specs.Private.{private_value}
-use Rattle.m0_core.specs.Fetch.{stopped, is_locked, is_ram, is_faulty, in_beat, in_ram, at_spot, asks_beat, asks_fault, locks_last, asks_return, asks_decoded, asks_half, asks_second, asks_first, taken_of, asks_taken, asks_boundary, asks_next, asks_awake, asks, ends_with, carried}
-use Rattle.m0_core.specs.Cycle.{with_read, waiting, followed, returning, called, ended, passed, passed_instruction, passed_entry, passed_return, is_paused, after_inner, faulted, done_word, value_of, after_access, after_outward, after_private, closed, next}
-use Rattle.m0_core.specs.State.{State}
-use Rattle.m0_core.proofs.Carrying.{begun_from}
-use Rattle.core_laws.specs.Sound.{AreRegisters, IsUnderWay, IsFormed, active_before, Agrees, FrameFits, KeepsSound, ACoreStaysSound}
-use Rattle.core_laws.specs.ExceptionLaws.{candidates}
 use Rattle.core_laws.proofs.Keeping.{Keeps, keeps_effect, quarters, halves, sp_set}
 use Rattle.core_laws.proofs.Sets.{positive_by, not_zero, both_right, Leaves, leaves_either, leaves_self, leaves_pended, leaves_called, leaves_cycle, clear_of, leaves_effect}
 use Rattle.core_laws.proofs.Taken.{what_is_taken_is_the_least}

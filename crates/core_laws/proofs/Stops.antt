@@ -1,35 +1,11 @@
 -- A core stops at its causes, and where it stops there is one.
 use Rattle.std.proofs.Common.{◌≡◌, ℕ, ◌+◌, ◌-◌, ◌%◌, ◌^◌, ◌==◌, ◌&&◌, Bool, true, false, cond, refl, sym, ap, ap₂, subst, ◌∙◌, true≢false, Option, Some, None, arith}
-use Rattle.std.specs.Prelude.{slice_index, nat_lt}
-use Rattle.std.proofs.lemmas.Bool.Decides.{nat_tests}
-use Rattle.rp_base.specs.declared.Request.{Request}
-use Rattle.rp_base.specs.declared.Why.{Why}
+use Rattle.core_laws.proofs.Shared.{slice_index, nat_lt, nat_tests, Request, Why, Spot, Op, master_of, word_written, place_of, begins_long, operation_of, Beat, Inner, Access, is_allowed, Ask, Lines, Half, Want, Asking, answered, Ready, Question, Act, Work, is_breakpoint, stopped, asks, asks_awake, asks_next, asks_boundary, asks_taken, asks_first, asks_half, asks_second, asks_decoded, asks_fault, asks_beat, asks_return, asks_work, beat_of_work, in_beat, in_ram, at_spot, locks_last, carried, ends_with, is_ram, is_faulty, is_locked, taken_of, signals, want_of, want_of_act, is_bad, is_misfit, return_beat, unstacking, State, Given, wanted_in, is_stop, half_at, IsEncoded}
 use Rattle.rp_base.specs.declared.Why.TheVariants as why
-use Rattle.rp_base.specs.declared.map.Spot.{Spot}
 use Rattle.rp_base.specs.declared.map.Spot.TheVariants as spot
-use Rattle.rp_base.specs.declared.op.Op.{Op}
-use Rattle.rp_base.specs.Access.{master_of, word_written}
-use Rattle.rp_base.specs.Map.{place_of}
-use Rattle.thumb_rows.specs.Rows.{begins_long, operation_of}
-use Rattle.m0_beats.specs.declared.timing.Beat.{Beat}
-use Rattle.m0_beats.specs.declared.timing.Beat.TheVariants.{Inner, Access}
-use Rattle.m0_nvic.specs.Words.{is_allowed}
-use Rattle.lane_look.specs.declared.lane.Ask.{Ask}
-use Rattle.lane_look.specs.declared.lane.Ask.TheVariants.{Lines, Half}
-use Rattle.lane_look.specs.declared.lane.Want.{Want}
 use Rattle.lane_look.specs.declared.lane.Want.TheVariants as want
-use Rattle.lane_look.specs.Asking.{Asking, answered}
-use Rattle.lane_look.specs.Asking.Asking.{Ready, Question}
-use Rattle.m0_core.specs.declared.doing.Act.{Act}
 use Rattle.m0_core.specs.declared.doing.Act.TheVariants as act
-use Rattle.m0_core.specs.declared.doing.Work.{Work}
 use Rattle.m0_core.specs.declared.doing.Work.TheVariants as works
-use Rattle.m0_core.specs.Kinds.{is_breakpoint}
-use Rattle.m0_core.specs.Fetch.{stopped, asks, asks_awake, asks_next, asks_boundary, asks_taken, asks_first, asks_half, asks_second, asks_decoded, asks_fault, asks_beat, asks_return, asks_work, beat_of_work, in_beat, in_ram, at_spot, locks_last, carried, ends_with, is_ram, is_faulty, is_locked, taken_of}
-use Rattle.m0_core.specs.Cycle.{signals, want_of, want_of_act}
-use Rattle.m0_core.specs.Return.{is_bad, is_misfit, return_beat, unstacking}
-use Rattle.m0_core.specs.State.{State}
-use Rattle.core_laws.specs.Laws.{Given, wanted_in, is_stop, half_at, IsEncoded}
 use Rattle.core_laws.specs.Stops.{IsBetween, IsDecoded, HasBeat, HasAccess, StopsBy, ACoreStopsAtItsCauses}
 use Rattle.core_laws.specs.Stops.HasBeat.{begins, enters, goes_on}
 use Rattle.core_laws.specs.Stops.StopsBy.{breakpoint, fault, bad_return, misfit_return, fetch, second_fetch, refused}

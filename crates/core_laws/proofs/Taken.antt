@@ -1,34 +1,14 @@
 -- What is taken, what a fault leaves, and when WFI moves on.
 use Rattle.std.proofs.Common.{◌≡◌, ℕ, ◌+◌, ◌^◌, ◌==◌, ◌&&◌, ◌||◌, not, Bool, true, false, cond, List, [], ◌∷◌, length, refl, sym, ap, ap₂, subst, ◌<◌, ◌∙◌, inl, inr, ◌⊎◌, ℤ, pos, negsuc, arith, true≢false, Option, Some, None}
-use Rattle.std.specs.Prelude.{slice_get, slice_index, int_lt, bit_and, bit_or, nat_lt, max, min}
-use Rattle.std.specs.Int.{bit_at, int_min}
+use Rattle.core_laws.proofs.Shared.{slice_get, slice_index, int_lt, bit_and, bit_or, nat_lt, max, min, bit_at, int_min, bit_at_or, bit_at_and, bit_at-lt, nat_tests, Op, has_bit, Regs, Inner, beats_of, return_of, Exceptions, is_member, members, pended, with_pending, rank_of, precedes, nearer, least, least_of, IsLeast, best_of, rank_or_none, active_priority, priority_of, comes_before, wakes_of, answered, Ready, Work, stopped, asks_awake, asks_next, asks_boundary, asks_taken, asks_decoded, asks_fault, asks_beat, ends_with, is_faulty, is_locked, taken_of, waiting, followed, ended, passed, passed_instruction, after_inner, faulted, closed, returning, State, Given, lines_in, after_cycle, IsAtBoundary, IsFetched, candidates, comes_in, WhatIsTakenIsTheLeast, Faults, OnlyPendsHardFault, AFaultPendsHardFaultAlone, IsInWfi, StaysInWfi, LeavesWfi, AWfiMovesOnWhereAnExceptionWakes}
 use Rattle.std.specs.Ordering.{int_eq}
 use Rattle.std.proofs.lemmas.Int.{ints}
-use Rattle.std.proofs.lemmas.Nat.Bits.{bit_at_or, bit_at_and, bit_at-lt}
-use Rattle.std.proofs.lemmas.Bool.Decides.{nat_tests}
-use Rattle.rp_base.specs.declared.op.Op.{Op}
 use Rattle.rp_base.specs.declared.op.Op.TheVariants as op
 use Rattle.rp_base.specs.declared.Why.TheVariants as why
-use Rattle.rp_base.specs.Word.{has_bit}
-use Rattle.m0_beats.specs.declared.registers.Regs.{Regs}
-use Rattle.m0_beats.specs.declared.timing.Beat.TheVariants.{Inner}
-use Rattle.m0_beats.specs.Instructions.{beats_of, return_of}
-use Rattle.m0_nvic.specs.State.{State as Exceptions}
-use Rattle.m0_nvic.specs.Numbers.{is_member, members}
-use Rattle.m0_nvic.specs.Changes.{pended, with_pending}
-use Rattle.m0_nvic.specs.Priority.{rank_of, precedes, nearer, least, least_of, IsLeast, best_of, rank_or_none, active_priority, priority_of, comes_before, wakes_of}
 use Rattle.m0_nvic.specs.Cycle as nvic
 use Rattle.m0_nvic.proofs.Least.{least_of-is}
-use Rattle.lane_look.specs.Asking.{answered}
-use Rattle.lane_look.specs.Asking.Asking.{Ready}
 use Rattle.m0_core.specs.declared.doing.Act.TheVariants as act
-use Rattle.m0_core.specs.declared.doing.Work.{Work}
 use Rattle.m0_core.specs.declared.doing.Work.TheVariants as works
-use Rattle.m0_core.specs.Fetch.{stopped, asks_awake, asks_next, asks_boundary, asks_taken, asks_decoded, asks_fault, asks_beat, ends_with, is_faulty, is_locked, taken_of}
-use Rattle.m0_core.specs.Cycle.{waiting, followed, ended, passed, passed_instruction, after_inner, faulted, closed, returning}
-use Rattle.m0_core.specs.State.{State}
-use Rattle.core_laws.specs.Laws.{Given, lines_in, after_cycle, IsAtBoundary, IsFetched}
-use Rattle.core_laws.specs.ExceptionLaws.{candidates, comes_in, WhatIsTakenIsTheLeast, Faults, OnlyPendsHardFault, AFaultPendsHardFaultAlone, IsInWfi, StaysInWfi, LeavesWfi, AWfiMovesOnWhereAnExceptionWakes}
 use Rattle.core_laws.proofs.TakesBeats.{begins_on, begins_first, begun_awake, begun_beat, after_begun}
 
 -- ---- what is taken

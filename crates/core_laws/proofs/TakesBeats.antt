@@ -1,39 +1,15 @@
 -- An instruction takes its beats: one cycle, then all of them.
 use Rattle.std.proofs.Common.{◌≡◌, ℕ, ◌+◌, ◌%◌, ◌^◌, ◌<◌, ◌≤◌, ◌==◌, ◌&&◌, ◌||◌, not, Bool, true, false, cond, List, [], ◌∷◌, ◌++◌, length, refl, sym, ap, ap₂, subst, ◌∙◌, arith, append_assoc, append-nil, length-append, true≢false, lt-ltb, le-ltb}
-use Rattle.std.specs.Prelude.{Option, Some, None, option_to_list, map, slice_get, unwrap_or, nat_lt}
+use Rattle.core_laws.proofs.Shared.{Option, Some, None, option_to_list, map, slice_get, unwrap_or, nat_lt, Request, Spot, Op, place_of, begins_long, operation_of, Regs, Beat, Inner, Access, beats_of, effect_of, return_of, Exceptions, wakes_of, is_allowed, Lines, Half, answered, Ready, Question, Act, Work, awaits_event, awaits_interrupt, master_of, word_written, private_value, accessed, stopped, asks_awake, asks_next, asks_boundary, asks_taken, asks_first, asks_half, asks_second, asks_decoded, asks_fault, asks_beat, beat_of, in_beat, in_ram, at_spot, ends_with, is_faulty, signals, want_of, want_of_act, with_value, waiting, followed, with_read, returning, called, ended, passed_instruction, passed, is_paused_op, after_inner, done_word, value_of, after_private, after, closed, is_idle, next, State, begun_from, Given, turn_of, lines_in, touched_at, touched_by, changed_by, exceptions_in, event_in, begun_in, wanted_in, after_cycle, is_stop, GoesOn, want_at, want_of_beat, wants_in, read_at, read_in, reads_in, IsAtBoundary, half_at, IsEncoded, IsFetched, IsPlain, LastsOn, accessing, is_access, AnAccessLastsUntilItIsDone}
 use Rattle.std.proofs.Math.Bool.{and-true}
-use Rattle.rp_base.specs.declared.Request.{Request}
-use Rattle.rp_base.specs.declared.map.Spot.{Spot}
 use Rattle.rp_base.specs.declared.map.Spot.TheVariants as spot
-use Rattle.rp_base.specs.declared.op.Op.{Op}
 use Rattle.rp_base.specs.declared.Why.TheVariants as why
-use Rattle.rp_base.specs.Map.{place_of}
-use Rattle.thumb_rows.specs.Rows.{begins_long, operation_of}
-use Rattle.m0_beats.specs.declared.registers.Regs.{Regs}
-use Rattle.m0_beats.specs.declared.timing.Beat.{Beat}
-use Rattle.m0_beats.specs.declared.timing.Beat.TheVariants.{Inner, Access}
-use Rattle.m0_beats.specs.Instructions.{beats_of, effect_of, return_of}
-use Rattle.m0_nvic.specs.State.{State as Exceptions}
 use Rattle.m0_nvic.specs.Cycle as nvic
-use Rattle.m0_nvic.specs.Priority.{wakes_of}
-use Rattle.m0_nvic.specs.Words.{is_allowed}
-use Rattle.lane_look.specs.declared.lane.Ask.TheVariants.{Lines, Half}
 use Rattle.lane_look.specs.declared.lane.Turn.TheVariants as turn
 use Rattle.lane_look.specs.declared.lane.Want.TheVariants as want
-use Rattle.lane_look.specs.Asking.{answered}
-use Rattle.lane_look.specs.Asking.Asking.{Ready, Question}
-use Rattle.m0_core.specs.declared.doing.Act.{Act}
 use Rattle.m0_core.specs.declared.doing.Act.TheVariants as act
-use Rattle.m0_core.specs.declared.doing.Work.{Work}
 use Rattle.m0_core.specs.declared.doing.Work.TheVariants as works
-use Rattle.m0_core.specs.Kinds.{awaits_event, awaits_interrupt}
-use Rattle.rp_base.specs.Access.{master_of, word_written}
-use Rattle.m0_core.specs.Private.{private_value, accessed}
-use Rattle.m0_core.specs.Fetch.{stopped, asks_awake, asks_next, asks_boundary, asks_taken, asks_first, asks_half, asks_second, asks_decoded, asks_fault, asks_beat, beat_of, in_beat, in_ram, at_spot, ends_with, is_faulty}
-use Rattle.m0_core.specs.Cycle.{signals, want_of, want_of_act, with_value, waiting, followed, with_read, returning, called, ended, passed_instruction, passed, is_paused_op, after_inner, done_word, value_of, after_private, after, closed, is_idle, next}
-use Rattle.m0_core.specs.State.{State}
-use Rattle.m0_core.proofs.Carrying.{begun_from}
-use Rattle.core_laws.specs.Laws.{Given, turn_of, lines_in, touched_at, touched_by, changed_by, exceptions_in, event_in, begun_in, wanted_in, after_cycle, after_cycles, is_stop, GoesOn, want_at, want_of_beat, wants_in, read_at, read_in, reads_in, IsAtBoundary, half_at, IsEncoded, IsFetched, IsPlain, LastsOn, accessing, is_access, AnAccessLastsUntilItIsDone}
+use Rattle.core_laws.specs.Laws.{after_cycles}
 use Rattle.core_laws.proofs.ReadCount.{reads_one, is_read, reading, reading-le}
 
 -- ---- states in the middle of an instruction

@@ -1,28 +1,11 @@
 -- An instruction takes its beats also where its accesses wait.
 use Rattle.std.proofs.Common.{◌≡◌, ℕ, ◌+◌, ◌%◌, ◌^◌, ◌≤◌, Bool, true, false, ◌||◌, cond, List, [], ◌∷◌, ◌++◌, length, refl, sym, ap, ap₂, subst, ◌∙◌, arith, append_assoc, append-nil, length-append, true≢false}
-use Rattle.std.specs.Prelude.{Option, Some, None, option_to_list, slice_get}
-use Rattle.rp_base.specs.declared.Request.{Request}
-use Rattle.rp_base.specs.declared.map.Spot.{Spot}
+use Rattle.core_laws.proofs.Shared.{Option, Some, None, option_to_list, slice_get, Request, Spot, Op, place_of, Regs, Beat, Inner, Access, beats_of, Lines, Want, answered, is_signal, awaits_event, awaits_interrupt, in_beat, in_ram, at_spot, ends_with, closed, next, State, Given, turn_of, lines_in, changed_by, begun_in, wanted_in, after_cycle, is_stop, is_access, read_in, want_at, want_of_beat, IsAtBoundary, IsFetched, IsPlain, Served, wait_of, turn_served, after_served, after_all_served, GoesOnServed, wants_served, wants_of_beats, exceptions_served, event_served, is_over, left_after, reads_served}
 use Rattle.rp_base.specs.declared.map.Spot.TheVariants as spot
-use Rattle.rp_base.specs.declared.op.Op.{Op}
-use Rattle.rp_base.specs.Map.{place_of}
-use Rattle.m0_beats.specs.declared.registers.Regs.{Regs}
-use Rattle.m0_beats.specs.declared.timing.Beat.{Beat}
-use Rattle.m0_beats.specs.declared.timing.Beat.TheVariants.{Inner, Access}
-use Rattle.m0_beats.specs.Instructions.{beats_of}
 use Rattle.m0_nvic.specs.Cycle as nvic
-use Rattle.lane_look.specs.declared.lane.Ask.TheVariants.{Lines}
-use Rattle.lane_look.specs.declared.lane.Want.{Want}
 use Rattle.lane_look.specs.declared.lane.Want.TheVariants as want
 use Rattle.lane_look.specs.declared.lane.Turn.TheVariants as turn
-use Rattle.lane_look.specs.Asking.{answered}
 use Rattle.m0_core.specs.declared.doing.Work.TheVariants as works
-use Rattle.m0_core.specs.Kinds.{is_signal, awaits_event, awaits_interrupt}
-use Rattle.m0_core.specs.Fetch.{in_beat, in_ram, at_spot, ends_with}
-use Rattle.m0_core.specs.Cycle.{closed, next}
-use Rattle.m0_core.specs.State.{State}
-use Rattle.core_laws.specs.Laws.{Given, turn_of, lines_in, changed_by, begun_in, wanted_in, after_cycle, is_stop, is_access, read_in, want_at, want_of_beat, IsAtBoundary, IsFetched, IsPlain}
-use Rattle.core_laws.specs.Waiting.{Served, wait_of, turn_served, after_served, after_all_served, GoesOnServed, wants_served, wants_of_beats, exceptions_served, event_served, is_over, left_after, reads_served}
 use Rattle.core_laws.proofs.ReadCount.{reading, reading-le}
 use Rattle.core_laws.proofs.TakesBeats.{Stands, Ends, Lands, Begins, Changes, changes_standing, lands_standing, wants_standing, begun_beat, begins_on, begins_boundary, value_kept, reads_beat, at_index, long_as, lasts_inner}
 

@@ -1,31 +1,11 @@
 -- Whatever has beats takes them, cycle by cycle, where its accesses go to SRAM.
 use Rattle.std.proofs.Common.{◌≡◌, ℕ, zero, suc, ◌+◌, ◌%◌, ◌^◌, ◌<◌, Bool, true, false, cond, List, [], ◌∷◌, length, refl, sym, ap, ap₂, subst, ◌∙◌, arith, true≢false}
-use Rattle.std.specs.Prelude.{Option, Some, None, map, slice_get}
-use Rattle.rp_base.specs.declared.Request.{Request}
-use Rattle.rp_base.specs.declared.map.Spot.{Spot}
+use Rattle.core_laws.proofs.Shared.{Option, Some, None, map, slice_get, Request, Spot, place_of, lanes_of, Beat, Inner, Access, Exceptions, numbers_from, after_cycles, Word, Want, answered, Act, Work, is_ram, is_ram_spot, asks_awake, in_beat, in_ram, at_spot, ends_with, signals, want_of, want_of_act, waiting, passed, is_paused, after_inner, after_access, done_word, closed, next, State, Given, lines_in, begun_in, wanted_in, Served, turn_served, after_served, after_all_served, wants_served, ends_in, left_of, want_in, wants_through, AllDone, lines_of}
 use Rattle.rp_base.specs.declared.map.Spot.TheVariants as spot
-use Rattle.rp_base.specs.Map.{place_of}
-use Rattle.rp_base.specs.Access.{lanes_of}
-use Rattle.m0_beats.specs.declared.timing.Beat.{Beat}
-use Rattle.m0_beats.specs.declared.timing.Beat.TheVariants.{Inner, Access}
-use Rattle.m0_nvic.specs.State.{State as Exceptions}
-use Rattle.m0_nvic.specs.Numbers.{numbers_from}
 use Rattle.m0_nvic.specs.Cycle as nvic
-use Rattle.m0_nvic.specs.Laws.{after_cycles}
-use Rattle.lane_look.specs.declared.lane.Ask.TheVariants.{Word}
-use Rattle.lane_look.specs.declared.lane.Want.{Want}
 use Rattle.lane_look.specs.declared.lane.Want.TheVariants as want
 use Rattle.lane_look.specs.declared.lane.Turn.TheVariants as turn
-use Rattle.lane_look.specs.Asking.{answered}
-use Rattle.m0_core.specs.declared.doing.Act.{Act}
 use Rattle.m0_core.specs.declared.doing.Act.TheVariants as act
-use Rattle.m0_core.specs.declared.doing.Work.{Work}
-use Rattle.m0_core.specs.Fetch.{is_ram, is_ram_spot, asks_awake, in_beat, in_ram, at_spot, ends_with}
-use Rattle.m0_core.specs.Cycle.{signals, want_of, want_of_act, waiting, passed, is_paused, after_inner, after_access, done_word, closed, next}
-use Rattle.m0_core.specs.State.{State}
-use Rattle.core_laws.specs.Laws.{Given, lines_in, begun_in, wanted_in}
-use Rattle.core_laws.specs.Waiting.{Served, turn_served, after_served, after_all_served, wants_served}
-use Rattle.core_laws.specs.Handlers.{ends_in, left_of, want_in, wants_through, AllDone, lines_of}
 use Rattle.core_laws.proofs.TakesBeats.{begun_awake}
 
 -- ---- a beat
