@@ -1,6 +1,6 @@
 -- When WFE moves on, and where a return faults.
-use Rattle.std.proofs.Common.{◌≡◌, ℕ, ◌+◌, ◌^◌, ◌%◌, ◌==◌, ◌&&◌, ◌||◌, not, Bool, true, false, cond, List, length, refl, sym, ap, ap₂, subst, ◌∙◌, true≢false, Some, None}
-use Rattle.core_laws.proofs.Shared.{slice_get, slice_index, nat_lt, Why, Regs, Inner, beats_of, return_of, wakes_of, Lines, answered, Ready, Work, stopped, asks_awake, asks_next, asks_fault, asks_beat, asks_return, locks_last, ends_with, is_locked, want_of, waiting, followed, ended, passed, passed_instruction, after_inner, closed, returning, OnlyPendsHardFault, is_bad, is_misfit, State, Given, lines_in, wanted_in, after_cycle}
+use Rattle.std.proofs.Common.{◌≡◌, ℕ, ◌^◌, ◌%◌, ◌==◌, ◌&&◌, ◌||◌, not, Bool, true, false, cond, List, [], ◌∷◌, refl, sym, ap, ap₂, subst, ◌∙◌, true≢false, Some, None}
+use Rattle.core_laws.proofs.Shared.{slice_index, Why, Regs, Inner, beats_of, return_of, wakes_of, Lines, answered, Ready, Work, stopped, asks_awake, asks_next, asks_fault, asks_beat, asks_return, locks_last, ends_with, is_locked, want_of, waiting, ended, passed, after_inner, closed, returning, OnlyPendsHardFault, is_bad, is_misfit, State, Given, lines_in, wanted_in}
 use Rattle.rp_base.specs.declared.op.Op.TheVariants as op
 use Rattle.rp_base.specs.declared.Why.TheVariants as why
 use Rattle.m0_nvic.specs.Cycle as nvic
@@ -8,30 +8,21 @@ use Rattle.lane_look.specs.declared.lane.Want.TheVariants as want
 use Rattle.m0_core.specs.declared.doing.Act.TheVariants as act
 use Rattle.m0_core.specs.declared.doing.Work.TheVariants as works
 use Rattle.core_laws.specs.EventLaws.{IsInWfe, StaysInWfe, LeavesWfe, AWfeMovesOnAtAnEvent, AReturnFaults}
-use Rattle.core_laws.proofs.TakesBeats.{begins_on, begun_awake, begun_beat, after_begun}
-use Rattle.core_laws.proofs.Taken.{fault_leaves}
+use Rattle.core_laws.proofs.Cycles.{begun_awake, after_begun}
+use Rattle.core_laws.proofs.Taken.{fault_leaves, cycle_in_second, passed_second}
 
 -- ---- WFE
 
 abbrev wfe : Work
 wfe = works.Instruction op.Wfe
 
-second_beat : (r : Regs) → slice_get (beats_of op.Wfe r) 1 ≡ Some Inner
+wfe_beats : (r : Regs) → beats_of op.Wfe r ≡ Inner ∷ Inner ∷ []
 unfolding beats_of
-second_beat r = refl
-
-two_beats : (r : Regs) → length (beats_of op.Wfe r) ≡ 2
-unfolding beats_of
-two_beats r = refl
+wfe_beats r = refl
 
 no_return : (r : Regs) (read : List ℕ) → return_of op.Wfe r read ≡ None
 unfolding return_of
 no_return r read = refl
-
-cycle_in_wfe : (g : Given) (cycle : ℕ) (s : State) → IsInWfe s → after_cycle cycle g s ≡ closed (lines_in g) cycle (after_inner wfe s)
-cycle_in_wfe g cycle s in_wfe =
-    let at : slice_get (beats_of op.Wfe s.regs) s.beats_done ≡ Some Inner = ap (slice_get (beats_of op.Wfe s.regs)) in_wfe.second ∙ second_beat s.regs in
-    after_begun g cycle s (act.Inner wfe) (begun_beat op.Wfe g cycle s Inner in_wfe.awake (begins_on op.Wfe g s in_wfe.waits) at)
 
 neither : (event woken : Bool) → (not event && not woken) ≡ not (event || woken)
 neither true woken = refl
@@ -42,11 +33,6 @@ unfolding after_inner
 paused_by s b in_wfe e =
     ap (λ (k : ℕ). cond ((k == 1) && (not s.event && not (wakes_of s.nvic))) (waiting wfe s) (passed wfe None s)) in_wfe.second
     ∙ ap (λ p. cond p (waiting wfe s) (passed wfe None s)) (neither s.event (wakes_of s.nvic) ∙ ap not e)
-
-passed_wfe : (s : State) → IsInWfe s → passed wfe None s ≡ ended op.Wfe s
-unfolding passed passed_instruction
-passed_wfe s in_wfe =
-    ap₂ (λ (k n : ℕ). cond (nat_lt (k + 1) n) (followed wfe s) (ended op.Wfe s)) in_wfe.second (two_beats s.regs)
 
 cleared : (b c : Bool) → ((b && false) || c) ≡ c
 cleared true c = refl
@@ -79,9 +65,9 @@ stays g cycle s in_wfe clear = record {
 
 pub a_wfe_moves_on_at_an_event : AWfeMovesOnAtAnEvent
 a_wfe_moves_on_at_an_event s cycle g in_wfe =
-    let path = cycle_in_wfe g cycle s in_wfe in (
+    let path = cycle_in_second op.Wfe wfe_beats g cycle s in_wfe.awake in_wfe.waits in_wfe.second in (
       λ woken. subst (λ t. LeavesWfe cycle g s t)
-          (sym (path ∙ ap (closed (lines_in g) cycle) (paused_by s true in_wfe woken ∙ passed_wfe s in_wfe))) (leaves g cycle s in_wfe),
+          (sym (path ∙ ap (closed (lines_in g) cycle) (paused_by s true in_wfe woken ∙ passed_second op.Wfe wfe_beats s in_wfe.second))) (leaves g cycle s in_wfe),
       λ none. subst (λ t. StaysInWfe cycle g s t)
           (sym (path ∙ ap (closed (lines_in g) cycle) (paused_by s false in_wfe none))) (stays g cycle s in_wfe (left_one s.event (wakes_of s.nvic) none)),
     )

@@ -6,7 +6,8 @@ use Rattle.m0_nvic.specs.Cycle as nvic
 use Rattle.m0_core.specs.declared.doing.Work.TheVariants as works
 use Rattle.core_laws.specs.Handlers.{IsBetween}
 use Rattle.rp_base.specs.declared.Why.TheVariants as why
-use Rattle.core_laws.proofs.Walk.{IsInRam, value_in, BeginsBeat, cycle_over, cycle_wants, closed_nvic, after_last, Plan, AllGiven, walk, counted}
+use Rattle.core_laws.proofs.Cycles.{BeginsBeat}
+use Rattle.core_laws.proofs.Walk.{IsInRam, value_in, serves_walk, closed_nvic, after_last, Plan, AllGiven, walk, counted}
 
 -- ---- numbers
 
@@ -247,7 +248,7 @@ entry_passes_first n s e =
 
 entry_second : (n vector : ℕ) (cycle : ℕ) (x : Served) (s : State) → Takes n s → after_served cycle x s ≡ closed (lines_in x.given) cycle (followed (works.Entry n) (record s { nvic = entered n s.nvic }))
 entry_second n vector cycle x s at =
-    cycle_over (works.Entry n) Inner cycle x s at.awake tt (entry_first n x.given s at) refl refl
+    (serves_walk (works.Entry n) Inner cycle x s refl at.awake tt (entry_first n x.given s at)).passes refl refl
     ∙ ap (closed (lines_in x.given) cycle) (entry_passes_first n s at.first)
 
 entry_stands : (n vector lines cycle : ℕ) (s : State) → Takes n s → EntryAt n vector s 1 (closed lines cycle (followed (works.Entry n) (record s { nvic = entered n s.nvic })))
@@ -288,7 +289,7 @@ an_entry_takes_its_beats n vector s cycle x xs at room =
             registers = m.0.registers;
             exceptions = m.1 ∙ after_last_none (cycle + 1) (lines_of xs) u.nvic ∙ ap (after_cycles (cycle + 1) (lines_of xs)) nv;
           };
-      wants = λ bs q. ap₂ (λ (w : Want) (ws : List Want). w ∷ ws) (cycle_wants (works.Entry n) Inner cycle x.given s at.awake tt (entry_first n x.given s at) refl) (all.wants bs q);
+      wants = λ bs q. ap₂ (λ (w : Want) (ws : List Want). w ∷ ws) ((serves_walk (works.Entry n) Inner cycle x s refl at.awake tt (entry_first n x.given s at)).wants) (all.wants bs q);
       count = λ done long. subst (λ (k : ℕ). left_of (map (entry_at n s) (numbers_from 0 k)) (x ∷ xs) ≡ Some []) long (counted (entry_at n s) (x ∷ xs) 0 done);
     }
 
@@ -490,7 +491,7 @@ return_first value g s at =
 
 return_second : (value cycle : ℕ) (x : Served) (s : State) → BeginsReturn value s → after_served cycle x s ≡ closed (lines_in x.given) cycle (followed (works.Return value) s)
 return_second value cycle x s at =
-    cycle_over (works.Return value) Inner cycle x s at.awake tt (return_first value x.given s at) refl refl
+    (serves_walk (works.Return value) Inner cycle x s refl at.awake tt (return_first value x.given s at)).passes refl refl
     ∙ ap (closed (lines_in x.given) cycle) (return_passes value None s ∙ ap (λ (i : ℕ). cond (nat_lt (i + 1) 13) (followed (works.Return value) s) (return_ended value s)) at.first)
 
 return_stands : (value : ℕ) (words : List ℕ) (lines cycle : ℕ) (s : State) → BeginsReturn value s → ReturnAt value words s 1 (closed lines cycle (followed (works.Return value) s))
@@ -550,6 +551,6 @@ a_return_takes_its_beats value words s cycle x xs at room =
             exceptions = some_later (return_at value s 1) (map (return_at value s) (numbers_from 2 11)) xs q
                 (λ y ys e. later_last s.regs.ipsr (lines_in x.given) cycle s.nvic u.nvic (after_all_served (cycle + 1) xs u).nvic xs y ys e nv m.1);
           };
-      wants = λ bs q. ap₂ (λ (w : Want) (ws : List Want). w ∷ ws) (cycle_wants (works.Return value) Inner cycle x.given s at.awake tt (return_first value x.given s at) refl) (all.wants bs q);
+      wants = λ bs q. ap₂ (λ (w : Want) (ws : List Want). w ∷ ws) ((serves_walk (works.Return value) Inner cycle x s refl at.awake tt (return_first value x.given s at)).wants) (all.wants bs q);
       count = λ done long. subst (λ (k : ℕ). left_of (map (return_at value s) (numbers_from 0 k)) (x ∷ xs) ≡ Some []) long (counted (return_at value s) (x ∷ xs) 0 done);
     }

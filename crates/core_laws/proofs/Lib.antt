@@ -1,7 +1,7 @@
 mod Begins
+mod Cycles
 mod Events
 mod GivenBack
-mod GoingOn
 mod Handlers
 mod Keeping
 mod ReadCount
@@ -11,5 +11,4 @@ mod Sound
 mod Stops
 mod Taken
 mod TakesBeats
-mod Waits
 mod Walk

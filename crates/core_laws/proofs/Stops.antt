@@ -9,7 +9,8 @@ use Rattle.m0_core.specs.declared.doing.Work.TheVariants as works
 use Rattle.core_laws.specs.Stops.{IsBetween, IsDecoded, HasBeat, HasAccess, StopsBy, ACoreStopsAtItsCauses}
 use Rattle.core_laws.specs.Stops.HasBeat.{begins, enters, goes_on}
 use Rattle.core_laws.specs.Stops.StopsBy.{breakpoint, fault, bad_return, misfit_return, fetch, second_fetch, refused}
-use Rattle.core_laws.proofs.TakesBeats.{begun_awake, begins_first}
+use Rattle.core_laws.proofs.Cycles.{begun_awake}
+use Rattle.core_laws.proofs.TakesBeats.{begins_first}
 
 -- what a tree of questions comes to, where these are the answers
 abbrev wants : (Ask → ℕ) → Asking Act → Want

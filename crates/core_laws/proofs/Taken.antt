@@ -1,6 +1,6 @@
 -- What is taken, what a fault leaves, and when WFI moves on.
 use Rattle.std.proofs.Common.{◌≡◌, ℕ, ◌+◌, ◌^◌, ◌==◌, ◌&&◌, ◌||◌, not, Bool, true, false, cond, List, [], ◌∷◌, length, refl, sym, ap, ap₂, subst, ◌<◌, ◌∙◌, inl, inr, ◌⊎◌, ℤ, pos, negsuc, arith, true≢false, Option, Some, None}
-use Rattle.core_laws.proofs.Shared.{slice_get, slice_index, int_lt, bit_and, bit_or, nat_lt, max, min, bit_at, int_min, bit_at_or, bit_at_and, bit_at-lt, nat_tests, Op, has_bit, Regs, Inner, beats_of, return_of, Exceptions, is_member, members, pended, with_pending, rank_of, precedes, nearer, least, least_of, IsLeast, best_of, rank_or_none, active_priority, priority_of, comes_before, wakes_of, answered, Ready, Work, stopped, asks_awake, asks_next, asks_boundary, asks_taken, asks_decoded, asks_fault, asks_beat, ends_with, is_faulty, is_locked, taken_of, waiting, followed, ended, passed, passed_instruction, after_inner, faulted, closed, returning, State, Given, lines_in, after_cycle, IsAtBoundary, IsFetched, candidates, comes_in, WhatIsTakenIsTheLeast, Faults, OnlyPendsHardFault, AFaultPendsHardFaultAlone, IsInWfi, StaysInWfi, LeavesWfi, AWfiMovesOnWhereAnExceptionWakes}
+use Rattle.core_laws.proofs.Shared.{Beat, slice_get, slice_index, int_lt, bit_and, bit_or, nat_lt, max, min, bit_at, int_min, bit_at_or, bit_at_and, bit_at-lt, nat_tests, Op, has_bit, Regs, Inner, beats_of, return_of, Exceptions, is_member, members, pended, with_pending, rank_of, precedes, nearer, least, least_of, IsLeast, best_of, rank_or_none, active_priority, priority_of, comes_before, wakes_of, answered, Ready, Work, stopped, asks_awake, asks_next, asks_boundary, asks_taken, asks_decoded, asks_fault, asks_beat, ends_with, is_faulty, is_locked, taken_of, waiting, followed, ended, passed, passed_instruction, after_inner, faulted, closed, returning, State, Given, lines_in, after_cycle, IsAtBoundary, IsFetched, candidates, comes_in, WhatIsTakenIsTheLeast, Faults, OnlyPendsHardFault, AFaultPendsHardFaultAlone, IsInWfi, StaysInWfi, LeavesWfi, AWfiMovesOnWhereAnExceptionWakes}
 use Rattle.std.specs.Ordering.{int_eq}
 use Rattle.std.proofs.lemmas.Int.{ints}
 use Rattle.rp_base.specs.declared.op.Op.TheVariants as op
@@ -9,7 +9,8 @@ use Rattle.m0_nvic.specs.Cycle as nvic
 use Rattle.m0_nvic.proofs.Least.{least_of-is}
 use Rattle.m0_core.specs.declared.doing.Act.TheVariants as act
 use Rattle.m0_core.specs.declared.doing.Work.TheVariants as works
-use Rattle.core_laws.proofs.TakesBeats.{begins_on, begins_first, begun_awake, begun_beat, after_begun}
+use Rattle.core_laws.proofs.Cycles.{begun_awake, begun_beat, after_begun}
+use Rattle.core_laws.proofs.TakesBeats.{begins_on, begins_at, begins_first}
 
 -- ---- what is taken
 
@@ -241,32 +242,31 @@ a_fault_pends_hardfault_alone op s cycle g at fetched f =
 abbrev wfi : Work
 wfi = works.Instruction op.Wfi
 
-second_beat : (r : Regs) → slice_get (beats_of op.Wfi r) 1 ≡ Some Inner
-unfolding beats_of
-second_beat r = refl
+-- an instruction of two inner beats, in the second one
+module _ (o : Op) (two : (r : Regs) → beats_of o r ≡ Inner ∷ Inner ∷ []) where
+  pub cycle_in_second : (g : Given) (cycle : ℕ) (s : State) → s.asleep ≡ false → s.work ≡ Some (works.Instruction o) → s.beats_done ≡ 1
+      → after_cycle cycle g s ≡ closed (lines_in g) cycle (after_inner (works.Instruction o) s)
+  cycle_in_second g cycle s awake waits second =
+      let at : slice_get (beats_of o s.regs) s.beats_done ≡ Some Inner = ap₂ (λ bs (k : ℕ). slice_get bs k) (two s.regs) second in
+      after_begun g cycle s (act.Inner (works.Instruction o)) (begun_beat (works.Instruction o) Inner g cycle s awake (begins_at o g s Inner (begins_on o g s waits) at))
 
-two_beats : (r : Regs) → length (beats_of op.Wfi r) ≡ 2
+  pub passed_second : (s : State) → s.beats_done ≡ 1 → passed (works.Instruction o) None s ≡ ended o s
+  unfolding passed passed_instruction
+  passed_second s second =
+      ap₂ (λ (k : ℕ) (bs : List Beat). cond (nat_lt (k + 1) (length bs)) (followed (works.Instruction o) s) (ended o s)) second (two s.regs)
+
+wfi_beats : (r : Regs) → beats_of op.Wfi r ≡ Inner ∷ Inner ∷ []
 unfolding beats_of
-two_beats r = refl
+wfi_beats r = refl
 
 no_return : (r : Regs) (read : List ℕ) → return_of op.Wfi r read ≡ None
 unfolding return_of
 no_return r read = refl
 
-cycle_in_wfi : (g : Given) (cycle : ℕ) (s : State) → IsInWfi s → after_cycle cycle g s ≡ closed (lines_in g) cycle (after_inner wfi s)
-cycle_in_wfi g cycle s in_wfi =
-    let at : slice_get (beats_of op.Wfi s.regs) s.beats_done ≡ Some Inner = ap (slice_get (beats_of op.Wfi s.regs)) in_wfi.second ∙ second_beat s.regs in
-    after_begun g cycle s (act.Inner wfi) (begun_beat op.Wfi g cycle s Inner in_wfi.awake (begins_on op.Wfi g s in_wfi.waits) at)
-
 paused_by : (s : State) (woken : Bool) → IsInWfi s → wakes_of s.nvic ≡ woken → after_inner wfi s ≡ cond (not woken) (waiting wfi s) (passed wfi None s)
 unfolding after_inner
 paused_by s woken in_wfi e =
     ap₂ (λ (k : ℕ) w. cond ((k == 1) && not w) (waiting wfi s) (passed wfi None s)) in_wfi.second e
-
-passed_wfi : (s : State) → IsInWfi s → passed wfi None s ≡ ended op.Wfi s
-unfolding passed passed_instruction
-passed_wfi s in_wfi =
-    ap₂ (λ (k n : ℕ). cond (nat_lt (k + 1) n) (followed wfi s) (ended op.Wfi s)) in_wfi.second (two_beats s.regs)
 
 leaves : (g : Given) (cycle : ℕ) (s : State) → IsInWfi s → LeavesWfi cycle g s (closed (lines_in g) cycle (ended op.Wfi s))
 unfolding closed ended
@@ -289,9 +289,9 @@ stays g cycle s in_wfi = record {
 
 pub a_wfi_moves_on_where_an_exception_wakes : AWfiMovesOnWhereAnExceptionWakes
 a_wfi_moves_on_where_an_exception_wakes s cycle g in_wfi =
-    let path = cycle_in_wfi g cycle s in_wfi in (
+    let path = cycle_in_second op.Wfi wfi_beats g cycle s in_wfi.awake in_wfi.waits in_wfi.second in (
       λ woken. subst (λ t. LeavesWfi cycle g s t)
-          (sym (path ∙ ap (closed (lines_in g) cycle) (paused_by s true in_wfi woken ∙ passed_wfi s in_wfi))) (leaves g cycle s in_wfi),
+          (sym (path ∙ ap (closed (lines_in g) cycle) (paused_by s true in_wfi woken ∙ passed_second op.Wfi wfi_beats s in_wfi.second))) (leaves g cycle s in_wfi),
       λ asleep. subst (λ t. StaysInWfi cycle g s t)
           (sym (path ∙ ap (closed (lines_in g) cycle) (paused_by s false in_wfi asleep))) (stays g cycle s in_wfi),
     )

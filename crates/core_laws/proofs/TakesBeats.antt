@@ -1,153 +1,16 @@
--- An instruction takes its beats: one cycle, then all of them.
-use Rattle.std.proofs.Common.{◌≡◌, ℕ, ◌+◌, ◌%◌, ◌^◌, ◌<◌, ◌≤◌, ◌==◌, ◌&&◌, ◌||◌, not, Bool, true, false, cond, List, [], ◌∷◌, ◌++◌, length, refl, sym, ap, ap₂, subst, ◌∙◌, arith, append_assoc, append-nil, length-append, true≢false, lt-ltb, le-ltb}
-use Rattle.core_laws.proofs.Shared.{Option, Some, None, option_to_list, map, slice_get, unwrap_or, nat_lt, Request, Spot, Op, place_of, begins_long, operation_of, Regs, Beat, Inner, Access, beats_of, effect_of, return_of, Exceptions, wakes_of, is_allowed, Lines, Half, answered, Ready, Question, Act, Work, awaits_event, awaits_interrupt, master_of, word_written, private_value, accessed, stopped, asks_awake, asks_next, asks_boundary, asks_taken, asks_first, asks_half, asks_second, asks_decoded, asks_fault, asks_beat, beat_of, in_beat, in_ram, at_spot, ends_with, is_faulty, signals, want_of, want_of_act, with_value, waiting, followed, with_read, returning, called, ended, passed_instruction, passed, is_paused_op, after_inner, done_word, value_of, after_private, after, closed, is_idle, next, State, begun_from, Given, turn_of, lines_in, touched_at, touched_by, changed_by, exceptions_in, event_in, begun_in, wanted_in, after_cycle, is_stop, GoesOn, want_at, want_of_beat, wants_in, read_at, read_in, reads_in, IsAtBoundary, half_at, IsEncoded, IsFetched, IsPlain, LastsOn, accessing, is_access, AnAccessLastsUntilItIsDone}
-use Rattle.std.proofs.Math.Bool.{and-true}
+-- An instruction takes its beats: one cycle, then all of them, also where its accesses wait.
+use Rattle.std.proofs.Common.{◌≡◌, ℕ, zero, suc, ◌+◌, ◌%◌, ◌^◌, ◌<◌, ◌≤◌, ◌==◌, ◌&&◌, ◌||◌, ◌⊎◌, inl, inr, not, Bool, true, false, cond, List, [], ◌∷◌, ◌++◌, length, refl, sym, ap, ap₂, subst, ◌∙◌, arith, append_assoc, append-nil, length-append, true≢false, lt-ltb, le-ltb}
+use Rattle.core_laws.proofs.Shared.{Option, Some, None, option_to_list, map, slice_get, unwrap_or, nat_lt, Request, Spot, Op, place_of, begins_long, operation_of, Regs, Beat, Inner, Access, beats_of, effect_of, return_of, Exceptions, wakes_of, Half, answered, Question, awaits_event, awaits_interrupt, master_of, stopped, asks_awake, asks_next, asks_boundary, asks_taken, asks_first, asks_half, asks_second, asks_decoded, asks_fault, asks_beat, beat_of, in_beat, is_faulty, with_value, waiting, returning, called, ended, passed_instruction, passed, is_paused_op, closed, State, Given, lines_in, touched_by, changed_by, exceptions_in, event_in, wanted_in, after_cycle, is_stop, GoesOn, want_at, want_of_beat, wants_in, read_at, read_in, reads_in, IsAtBoundary, half_at, IsEncoded, IsFetched, IsPlain, is_access, and-true, and-false, drop_all, drop, list_any, is_signal, Served, after_served, after_all_served, GoesOnServed, wants_served, wants_of_beats, exceptions_served, event_served, is_over, left_after, reads_served, IsInProgress, IsOver, is_refused, AnInstructionTakesItsBeats, AnInstructionTakesItsBeatsAndWaits}
 use Rattle.rp_base.specs.declared.map.Spot.TheVariants as spot
 use Rattle.rp_base.specs.declared.Why.TheVariants as why
 use Rattle.m0_nvic.specs.Cycle as nvic
-use Rattle.lane_look.specs.declared.lane.Turn.TheVariants as turn
 use Rattle.lane_look.specs.declared.lane.Want.TheVariants as want
-use Rattle.m0_core.specs.declared.doing.Act.TheVariants as act
 use Rattle.m0_core.specs.declared.doing.Work.TheVariants as works
 use Rattle.core_laws.specs.Laws.{after_cycles}
 use Rattle.core_laws.proofs.ReadCount.{reads_one, is_read, reading, reading-le}
-
--- ---- states in the middle of an instruction
-
--- so many beats are over, and these values were read
-pub record Stands (regs : Regs) (index : ℕ) (read : List ℕ) (s : State) : Type 0 where
-  pub awake : s.asleep ≡ false
-  pub kept : s.regs ≡ regs
-  pub so_far : s.beats_done ≡ index
-  pub values : s.read ≡ read
-
--- the instruction is over
-pub record Ends (op : Op) (regs : Regs) (read : List ℕ) (s : State) : Type 0 where
-  pub awake : s.asleep ≡ false
-  pub effect : s.regs ≡ effect_of op regs read
-  pub then_returns : s.work ≡ returning (return_of op regs read)
-  pub first : s.beats_done ≡ 0
-  pub fresh : s.read ≡ []
-
--- after the beat of that index
-pub record Lands (op : Op) (regs : Regs) (index : ℕ) (read : List ℕ) (s : State) : Type 0 where
-  pub goes_on : index + 1 < length (beats_of op regs) → Stands regs (index + 1) read s × (s.work ≡ Some (works.Instruction op))
-  pub ends : length (beats_of op regs) ≤ index + 1 → Ends op regs read s
-
-stands_followed : (op : Op) (value : Option ℕ) (t : State) → t.asleep ≡ false → Stands t.regs (t.beats_done + 1) (with_value t.read value) (followed (works.Instruction op) (with_read value t))
-stands_followed op value t awake = record { awake = awake; kept = refl; so_far = refl; values = refl }
-
-ends_ended : (op : Op) (value : Option ℕ) (t : State) → t.asleep ≡ false → Ends op t.regs (with_value t.read value) (ended op (with_read value t))
-unfolding ended
-ends_ended op value t awake = record { awake = awake; effect = refl; then_returns = refl; first = refl; fresh = refl }
-
--- a beat is over
-lands_passed : (op : Op) (value : Option ℕ) (t : State) → t.asleep ≡ false → Lands op t.regs t.beats_done (with_value t.read value) (passed (works.Instruction op) value t)
-unfolding passed passed_instruction
-lands_passed op value t awake =
-    let u = with_read value t in
-    let n = length (beats_of op t.regs) in
-    record {
-      goes_on = λ h. subst (λ b. Stands t.regs (t.beats_done + 1) (with_value t.read value) (cond b (followed (works.Instruction op) u) (ended op u)) × ((cond b (followed (works.Instruction op) u) (ended op u)).work ≡ Some (works.Instruction op)))
-          (sym (lt-ltb (t.beats_done + 1) n h)) (stands_followed op value t awake, refl);
-      ends = λ h. subst (λ b. Ends op t.regs (with_value t.read value) (cond b (followed (works.Instruction op) u) (ended op u)))
-          (sym (le-ltb (t.beats_done + 1) n h)) (ends_ended op value t awake);
-    }
-
--- the end of the cycle changes only the exceptions and the event register
-lands_closed : (op : Op) (regs : Regs) (index : ℕ) (read : List ℕ) (s : State) (lines cycle : ℕ) → Lands op regs index read s → Lands op regs index read (closed lines cycle s)
-unfolding closed
-lands_closed op regs index read s lines cycle h = record {
-  goes_on = λ lt. let x = h.goes_on lt in (record { awake = x.0.awake; kept = x.0.kept; so_far = x.0.so_far; values = x.0.values }, x.1);
-  ends = λ le. let x = h.ends le in record { awake = x.awake; effect = x.effect; then_returns = x.then_returns; first = x.first; fresh = x.fresh };
-}
-
--- ---- the end of a cycle, by what it began
-
-abbrev pub step_by : ℕ → ℕ → ℕ → State → Act → State
-step_by lines cycle word s a =
-    cond (is_idle a) s (closed lines cycle (after a (done_word (slice_get (turn_of (want_of_act a) word ∷ turn.Nothing ∷ []) 0)) s))
-
-step_next : (lines cycle word : ℕ) (s : State) (a : Act) → next s (ends_with lines cycle a) (turn_of (want_of (ends_with lines cycle a)) word ∷ turn.Nothing ∷ []) ≡ step_by lines cycle word s a
-unfolding next
-step_next lines cycle word s a = refl
-
-and_false : (b : Bool) → (b && false) ≡ false
-and_false true = refl
-and_false false = refl
-
-is_not_held : (op : Op) (s : State) → awaits_event op ≡ false → awaits_interrupt op ≡ false → is_paused_op op s ≡ false
-is_not_held op s e i =
-    ap₂ (λ x y. (s.beats_done == 1) && ((x || y && not s.event) && not (wakes_of s.nvic))) i e ∙ and_false (s.beats_done == 1)
-
-lands_inner : (op : Op) (s : State) → s.asleep ≡ false → awaits_event op ≡ false → awaits_interrupt op ≡ false → Lands op s.regs s.beats_done s.read (after_inner (works.Instruction op) s)
-unfolding after_inner
-lands_inner op s awake e i =
-    subst (λ b. Lands op s.regs s.beats_done s.read (cond b (waiting (works.Instruction op) s) (passed (works.Instruction op) None s)))
-    (sym (is_not_held op s e i)) (lands_passed op None s awake)
-
--- ---- accesses
-
-lands_outward : (op : Op) (s : State) (lines cycle word : ℕ) (request : Request) (v : Option ℕ) → s.asleep ≡ false → value_of request request.write word ≡ v
-    → Lands op s.regs s.beats_done (with_value s.read v) (step_by lines cycle word s (act.Outward (works.Instruction op) request))
-lands_outward op s lines cycle word request v awake e =
-    subst (λ x. Lands op s.regs s.beats_done (with_value s.read x) (step_by lines cycle word s (act.Outward (works.Instruction op) request))) e
-    (lands_closed op s.regs s.beats_done (with_value s.read (value_of request request.write word)) _ lines cycle (lands_passed op (value_of request request.write word) s awake))
-
-lands_ram : (op : Op) (g : Given) (s : State) (lines cycle index bank : ℕ) (request : Request) (w : Option ℕ) → s.asleep ≡ false
-    → Lands op s.regs s.beats_done (with_value s.read (read_at (spot.Ram index bank) request w g s)) (step_by lines cycle g.word s (answered g.answers (in_ram (works.Instruction op) request w)))
-lands_ram op g s lines cycle index bank request None awake = lands_closed op s.regs s.beats_done _ _ lines cycle (lands_passed op _ s awake)
-lands_ram op g s lines cycle index bank request (Some write) awake = lands_closed op s.regs s.beats_done _ _ lines cycle (lands_passed op None s awake)
-
-private_read : (request : Request) (w : Option ℕ) (offset : ℕ) (g : Given) (s : State) → private_value request w offset s ≡ read_at (spot.Ppb offset) request w g s
-private_read request None offset g s = refl
-private_read request (Some write) offset g s = refl
-
-lands_private : (op : Op) (g : Given) (s : State) (lines cycle offset : ℕ) (request : Request) → s.asleep ≡ false
-    → Lands op s.regs s.beats_done (with_value s.read (read_at (spot.Ppb offset) request request.write g s)) (step_by lines cycle g.word s (act.Private (works.Instruction op) request offset))
-unfolding after_private
-lands_private op g s lines cycle offset request awake =
-    subst (λ x. Lands op s.regs s.beats_done (with_value s.read x) (step_by lines cycle g.word s (act.Private (works.Instruction op) request offset)))
-    (private_read request request.write offset g s)
-    (lands_closed op s.regs s.beats_done _ _ lines cycle (lands_passed op (private_value request request.write offset s) (accessed request offset s) awake))
-
-private_allowed : (op : Op) (g : Given) (s : State) (lines cycle offset : ℕ) (request : Request) (b : Bool) → s.asleep ≡ false
-    → is_stop (want_of_act (answered g.answers (cond b (Ready (act.Private (works.Instruction op) request offset)) (stopped (why.Outside (master_of s.number) request.address))))) ≡ false
-    → Lands op s.regs s.beats_done (with_value s.read (read_at (spot.Ppb offset) request request.write g s)) (step_by lines cycle g.word s (answered g.answers (cond b (Ready (act.Private (works.Instruction op) request offset)) (stopped (why.Outside (master_of s.number) request.address)))))
-private_allowed op g s lines cycle offset request true awake goes = lands_private op g s lines cycle offset request awake
-private_allowed op g s lines cycle offset request false awake goes = absurd (true≢false goes)
-
-outward_read : (request : Request) (w : Option ℕ) (g : Given) (s : State) → value_of request w g.word ≡ read_at spot.Outside request w g s
-outward_read request None g s = refl
-outward_read request (Some write) g s = refl
-
-sio_read : (offset : ℕ) (request : Request) (w : Option ℕ) (g : Given) (s : State) → value_of request w g.word ≡ read_at (spot.Sio offset) request w g s
-sio_read offset request None g s = refl
-sio_read offset request (Some write) g s = refl
-
-lands_at : (op : Op) (g : Given) (s : State) (lines cycle : ℕ) (request : Request) (spot : Spot) → s.asleep ≡ false
-    → is_stop (want_of_act (answered g.answers (at_spot (works.Instruction op) request s spot))) ≡ false
-    → Lands op s.regs s.beats_done (with_value s.read (read_at spot request request.write g s)) (step_by lines cycle g.word s (answered g.answers (at_spot (works.Instruction op) request s spot)))
-lands_at op g s lines cycle request (spot.Ram index bank) awake goes = lands_ram op g s lines cycle index bank request request.write awake
-lands_at op g s lines cycle request (spot.Ppb offset) awake goes = private_allowed op g s lines cycle offset request (is_allowed offset (word_written request.size request.write)) awake goes
-lands_at op g s lines cycle request (spot.Sio offset) awake goes = lands_outward op s lines cycle g.word request _ awake (sio_read offset request request.write g s)
-lands_at op g s lines cycle request (spot.Reg block offset alias) awake goes = lands_outward op s lines cycle g.word request _ awake (go request.write)
-  where
-    go : (w : Option ℕ) → value_of request w g.word ≡ read_at (spot.Reg block offset alias) request w g s
-    go None = refl
-    go (Some write) = refl
-lands_at op g s lines cycle request spot.Outside awake goes = lands_outward op s lines cycle g.word request _ awake (outward_read request request.write g s)
-
-lands_beat : (op : Op) (g : Given) (s : State) (lines cycle : ℕ) (b : Beat) → s.asleep ≡ false → awaits_event op ≡ false → awaits_interrupt op ≡ false
-    → is_stop (want_of_act (answered g.answers (in_beat (works.Instruction op) s b))) ≡ false
-    → Lands op s.regs s.beats_done (with_value s.read (read_in b g s)) (step_by lines cycle g.word s (answered g.answers (in_beat (works.Instruction op) s b)))
-lands_beat op g s lines cycle Inner awake e i goes = lands_closed op s.regs s.beats_done s.read _ lines cycle (lands_inner op s awake e i)
-lands_beat op g s lines cycle (Access request) awake e i goes = lands_at op g s lines cycle request (place_of request.address) awake goes
+use Rattle.core_laws.proofs.Cycles.{BeginsBeat, serves_beat}
 
 -- ---- what a cycle begins
-
-pub begun_awake : (g : Given) (cycle : ℕ) (s : State) → s.asleep ≡ false → begun_in cycle g s ≡ ends_with (g.answers Lines % 2 ^ 32) cycle (answered g.answers (asks_awake s))
-begun_awake g cycle s awake = begun_from g.answers cycle s awake
 
 -- the cycle begins the next beat of the instruction
 abbrev pub Begins : Op → Given → State → Type 0
@@ -191,48 +54,13 @@ begins_boundary op g s at fetched plain =
     ∙ begins_first op g s fetched
     ∙ begins_decoded op g s plain
 
--- ---- one cycle
+pub begins_at : (op : Op) (g : Given) (s : State) (b : Beat) → Begins op g s → slice_get (beats_of op s.regs) s.beats_done ≡ Some b → BeginsBeat (works.Instruction op) b g s
+unfolding asks_beat beat_of
+begins_at op g s b begins at = begins ∙ ap (λ o. answered g.answers (in_beat (works.Instruction op) s (unwrap_or o Inner))) at
 
-pub after_begun : (g : Given) (cycle : ℕ) (s : State) (a : Act) → begun_in cycle g s ≡ ends_with (g.answers Lines % 2 ^ 32) cycle a → after_cycle cycle g s ≡ step_by (g.answers Lines % 2 ^ 32) cycle g.word s a
-after_begun g cycle s a e =
-    ap (λ d. next s d (turn_of (want_of d) g.word ∷ turn.Nothing ∷ [])) e ∙ step_next (g.answers Lines % 2 ^ 32) cycle g.word s a
+-- ---- lists
 
-asks_beat_in : (op : Op) (s : State) (b : Beat) → beat_of op s ≡ b → asks_beat (works.Instruction op) s ≡ in_beat (works.Instruction op) s b
-unfolding asks_beat
-asks_beat_in op s b e = ap (in_beat (works.Instruction op) s) e
-
-beat_at : (op : Op) (s : State) (b : Beat) → slice_get (beats_of op s.regs) s.beats_done ≡ Some b → beat_of op s ≡ b
-unfolding beat_of
-beat_at op s b e = ap (λ o. unwrap_or o Inner) e
-
-pub begun_beat : (op : Op) (g : Given) (cycle : ℕ) (s : State) (b : Beat) → s.asleep ≡ false → Begins op g s → slice_get (beats_of op s.regs) s.beats_done ≡ Some b
-    → begun_in cycle g s ≡ ends_with (g.answers Lines % 2 ^ 32) cycle (answered g.answers (in_beat (works.Instruction op) s b))
-begun_beat op g cycle s b awake begins at =
-    begun_awake g cycle s awake
-    ∙ ap (ends_with (g.answers Lines % 2 ^ 32) cycle) (begins ∙ ap (answered g.answers) (asks_beat_in op s b (beat_at op s b at)))
-
-lands_cycle : (op : Op) (g : Given) (cycle : ℕ) (s : State) (b : Beat) → s.asleep ≡ false → awaits_event op ≡ false → awaits_interrupt op ≡ false → Begins op g s
-    → slice_get (beats_of op s.regs) s.beats_done ≡ Some b → is_stop (wanted_in cycle g s) ≡ false → Lands op s.regs s.beats_done (with_value s.read (read_in b g s)) (after_cycle cycle g s)
-lands_cycle op g cycle s b awake e i begins at goes =
-    let a = answered g.answers (in_beat (works.Instruction op) s b) in
-    let begun = begun_beat op g cycle s b awake begins at in
-    subst (λ u. Lands op s.regs s.beats_done (with_value s.read (read_in b g s)) u) (sym (after_begun g cycle s a begun))
-    (lands_beat op g s (g.answers Lines % 2 ^ 32) cycle b awake e i (sym (ap (λ d. is_stop (want_of d)) begun) ∙ goes))
-
--- at the index where the instruction stands
-pub lands_standing : (op : Op) (regs : Regs) (index : ℕ) (read next_read : List ℕ) (g : Given) (cycle : ℕ) (s : State) (b : Beat) → Stands regs index read s → awaits_event op ≡ false → awaits_interrupt op ≡ false → Begins op g s
-    → slice_get (beats_of op regs) index ≡ Some b → is_stop (wanted_in cycle g s) ≡ false → with_value read (read_in b g s) ≡ next_read → Lands op regs index next_read (after_cycle cycle g s)
-lands_standing op regs index read next_read g cycle s b stands e i begins at goes reads =
-    let here : slice_get (beats_of op s.regs) s.beats_done ≡ Some b = ap₂ (λ (r : Regs) (k : ℕ). slice_get (beats_of op r) k) stands.kept stands.so_far ∙ at in
-    let values : with_value s.read (read_in b g s) ≡ next_read = ap (λ xs. with_value xs (read_in b g s)) stands.values ∙ reads in
-    subst (λ xs. Lands op regs index xs (after_cycle cycle g s)) values
-    (subst (λ k. Lands op regs k (with_value s.read (read_in b g s)) (after_cycle cycle g s)) stands.so_far
-    (subst (λ r. Lands op r s.beats_done (with_value s.read (read_in b g s)) (after_cycle cycle g s)) stands.kept
-    (lands_cycle op g cycle s b stands.awake e i begins here goes)))
-
--- ---- the values that are read
-
-pub value_kept : (read : List ℕ) (v : Option ℕ) → length read + length (option_to_list v) ≤ 16 → with_value read v ≡ read ++ option_to_list v
+value_kept : (read : List ℕ) (v : Option ℕ) → length read + length (option_to_list v) ≤ 16 → with_value read v ≡ read ++ option_to_list v
 value_kept read None h = sym (append-nil read)
 value_kept read (Some x) h = ap (λ b. cond b (read ++ x ∷ []) read) (lt-ltb (length read) 16 (omega arith))
 
@@ -240,263 +68,281 @@ reads_access : (spot : Spot) (request : Request) (w : Option ℕ) (g : Given) (s
 reads_access spot request None g s = refl
 reads_access spot request (Some write) g s = refl
 
-pub reads_beat : (b : Beat) (g : Given) (s : State) → length (option_to_list (read_in b g s)) ≡ reads_one b
+reads_beat : (b : Beat) (g : Given) (s : State) → length (option_to_list (read_in b g s)) ≡ reads_one b
 reads_beat Inner g s = refl
 reads_beat (Access request) g s = reads_access (place_of request.address) request request.write g s
 
--- ---- indices in a list
-
-pub at_index : (xs : List Beat) (b : Beat) (ys : List Beat) → slice_get (xs ++ b ∷ ys) (length xs) ≡ Some b
+at_index : (xs : List Beat) (b : Beat) (ys : List Beat) → slice_get (xs ++ b ∷ ys) (length xs) ≡ Some b
 at_index [] b ys = refl
 at_index (x ∷ xs) b ys = at_index xs b ys
 
-pub long_as : (beats done rest : List Beat) → beats ≡ done ++ rest → length beats ≡ length done + length rest
-long_as beats done rest e = ap length e ∙ length-append done rest
+head_of : (a b : Bool) → (a || b) ≡ false → a ≡ false
+head_of true b h = h
+head_of false b h = refl
 
--- ---- what a beat wants
+tail_of : (a b : Bool) → (a || b) ≡ false → b ≡ false
+tail_of true b h = absurd (true≢false h)
+tail_of false b h = h
 
-wants_ram : (op : Op) (g : Given) (request : Request) (w : Option ℕ) → want_of_act (answered g.answers (in_ram (works.Instruction op) request w)) ≡ want.Ram request
-wants_ram op g request None = refl
-wants_ram op g request (Some write) = refl
+over_or_not : (b : Bool) → (b ≡ true) ⊎ (b ≡ false)
+over_or_not true = inl refl
+over_or_not false = inr refl
 
-wants_private : (op : Op) (g : Given) (s : State) (offset : ℕ) (request : Request) (b : Bool)
-    → is_stop (want_of_act (answered g.answers (cond b (Ready (act.Private (works.Instruction op) request offset)) (stopped (why.Outside (master_of s.number) request.address))))) ≡ false
-    → want_of_act (answered g.answers (cond b (Ready (act.Private (works.Instruction op) request offset)) (stopped (why.Outside (master_of s.number) request.address)))) ≡ want.Nothing
-wants_private op g s offset request true goes = refl
-wants_private op g s offset request false goes = absurd (true≢false goes)
+-- ---- an instruction that began in a state
 
-wants_place : (op : Op) (g : Given) (s : State) (request : Request) (spot : Spot)
-    → is_stop (want_of_act (answered g.answers (at_spot (works.Instruction op) request s spot))) ≡ false
-    → want_of_act (answered g.answers (at_spot (works.Instruction op) request s spot)) ≡ want_at spot request
-wants_place op g s request (spot.Ram index bank) goes = wants_ram op g request request.write
-wants_place op g s request (spot.Ppb offset) goes = wants_private op g s offset request (is_allowed offset (word_written request.size request.write)) goes
-wants_place op g s request (spot.Sio offset) goes = refl
-wants_place op g s request (spot.Reg block offset alias) goes = refl
-wants_place op g s request spot.Outside goes = refl
+module _ (op : Op) (s : State) (no_event : awaits_event op ≡ false) (no_interrupt : awaits_interrupt op ≡ false) where
+  -- so many beats are over, and these values were read
+  record Stands (index : ℕ) (read : List ℕ) (t : State) : Type 0 where
+    awake : t.asleep ≡ false
+    kept : t.regs ≡ s.regs
+    so_far : t.beats_done ≡ index
+    values : t.read ≡ read
 
-pub wants_beat : (op : Op) (g : Given) (s : State) (b : Beat)
-    → is_stop (want_of_act (answered g.answers (in_beat (works.Instruction op) s b))) ≡ false
-    → want_of_act (answered g.answers (in_beat (works.Instruction op) s b)) ≡ want_of_beat op b
-wants_beat op g s Inner goes = refl
-wants_beat op g s (Access request) goes = wants_place op g s request (place_of request.address) goes
+  -- the same in the middle of it, and its end where no beats are left
+  abbrev At : ℕ → List ℕ → List Beat → State → Type 0
+  At index read [] t = IsOver op read s t
+  At index read (b ∷ rest) t = Stands index read t × (t.work ≡ Some (works.Instruction op))
 
-wants_cycle : (op : Op) (g : Given) (cycle : ℕ) (s : State) (b : Beat) → s.asleep ≡ false → Begins op g s
-    → slice_get (beats_of op s.regs) s.beats_done ≡ Some b → is_stop (wanted_in cycle g s) ≡ false → wanted_in cycle g s ≡ want_of_beat op b
-wants_cycle op g cycle s b awake begins at goes =
-    let e = ap want_of (begun_beat op g cycle s b awake begins at) in
-    e ∙ wants_beat op g s b (sym (ap is_stop e) ∙ goes)
+  -- the cycle makes this of the exceptions, and then the timer and the lines have their turn
+  record Changes (lines cycle : ℕ) (e : Exceptions) (event : Bool) (t : State) : Type 0 where
+    exceptions : t.nvic ≡ nvic.after_cycle lines cycle e
+    event_after : t.event ≡ (event || nvic.is_event lines cycle e)
 
-pub wants_standing : (op : Op) (regs : Regs) (index : ℕ) (read : List ℕ) (g : Given) (cycle : ℕ) (s : State) (b : Beat) → Stands regs index read s → Begins op g s
-    → slice_get (beats_of op regs) index ≡ Some b → is_stop (wanted_in cycle g s) ≡ false → wanted_in cycle g s ≡ want_of_beat op b
-wants_standing op regs index read g cycle s b stands begins at goes =
-    wants_cycle op g cycle s b stands.awake begins (ap₂ (λ (r : Regs) (k : ℕ). slice_get (beats_of op r) k) stands.kept stands.so_far ∙ at) goes
+  -- a beat is over: the last one, or another one follows
+  passed_beat : (done rest : List Beat) (b : Beat) (read next_read : List ℕ) (v : Option ℕ) (lines cycle : ℕ) (t : State) → beats_of op s.regs ≡ done ++ b ∷ rest
+      → Stands (length done) read t → with_value read v ≡ next_read
+      → let u = closed lines cycle (passed (works.Instruction op) v (record t { nvic = touched_by b t.nvic })) in
+      At (length done + 1) next_read rest u × Changes lines cycle (changed_by op b rest t.nvic) t.event u
+  unfolding passed passed_instruction closed ended
+  passed_beat done [] b read next_read v lines cycle t split stands reads =
+      let last : nat_lt (t.beats_done + 1) (length (beats_of op t.regs)) ≡ false =
+      ap₂ (λ (i : ℕ) (r : Regs). nat_lt (i + 1) (length (beats_of op r))) stands.so_far stands.kept
+      ∙ le-ltb (length done + 1) (length (beats_of op s.regs)) (omega (arith, ap length split ∙ length-append done (b ∷ []))) in
+      let values : with_value t.read v ≡ next_read = ap (λ xs. with_value xs v) stands.values ∙ reads in
+      rw last (
+        record {
+          awake = stands.awake;
+          effect = ap₂ (λ r xs. effect_of op r xs) stands.kept values;
+          then_returns = ap₂ (λ r xs. returning (return_of op r xs)) stands.kept values;
+          first = refl;
+          fresh = refl;
+        },
+        record {
+          exceptions = refl;
+          event_after = ap (λ x. (t.event && not x) || nvic.is_event lines cycle (called op (touched_by b t.nvic))) no_event
+              ∙ ap (λ x. x || nvic.is_event lines cycle (called op (touched_by b t.nvic))) (and-true t.event);
+        },
+      )
+  passed_beat done (c ∷ rest) b read next_read v lines cycle t split stands reads =
+      let more : nat_lt (t.beats_done + 1) (length (beats_of op t.regs)) ≡ true =
+      ap₂ (λ (i : ℕ) (r : Regs). nat_lt (i + 1) (length (beats_of op r))) stands.so_far stands.kept
+      ∙ lt-ltb (length done + 1) (length (beats_of op s.regs)) (omega (arith, ap length split ∙ length-append done (b ∷ c ∷ rest))) in
+      rw more (
+        (record { awake = stands.awake; kept = stands.kept; so_far = ap (λ (i : ℕ). i + 1) stands.so_far; values = ap (λ xs. with_value xs v) stands.values ∙ reads }, refl),
+        record { exceptions = refl; event_after = refl },
+      )
 
--- ---- exceptions and the event register
+  waiting_beat : (index : ℕ) (read : List ℕ) (rest : List Beat) (b : Beat) (lines cycle : ℕ) (t : State) → Stands index read t
+      → At index read (b ∷ rest) (closed lines cycle (waiting (works.Instruction op) t)) × Changes lines cycle t.nvic t.event (closed lines cycle (waiting (works.Instruction op) t))
+  unfolding closed
+  waiting_beat index read rest b lines cycle t stands =
+      ((record { awake = stands.awake; kept = stands.kept; so_far = stands.so_far; values = stands.values }, refl), record { exceptions = refl; event_after = refl })
 
--- after a beat of that index: it was the last one, or another one follows
-abbrev last_at : Op → Regs → ℕ → Exceptions → Exceptions
-last_at op regs index e = cond (nat_lt (index + 1) (length (beats_of op regs))) e (called op e)
+  unpaused : (t : State) → is_paused_op op t ≡ false
+  unpaused t =
+      ap₂ (λ x y. (t.beats_done == 1) && ((x || y && not t.event) && not (wakes_of t.nvic))) no_interrupt no_event ∙ and-false (t.beats_done == 1)
 
--- the cycle makes this of the exceptions, and then the timer and the lines have their turn
-pub record Changes (lines cycle : ℕ) (e : Exceptions) (event : Bool) (t : State) : Type 0 where
-  pub exceptions : t.nvic ≡ nvic.after_cycle lines cycle e
-  pub event_after : t.event ≡ (event || nvic.is_event lines cycle e)
+  -- what the cycles come to while beats are left, or none
+  record Comes (rest : List Beat) (xs : List Served) (read : List ℕ) (cycle : ℕ) (t : State) : Type 0 where
+    goes_on : (bs : List Beat) → left_after op rest xs ≡ Some bs → GoesOnServed cycle xs t
+    in_progress : (b : Beat) (bs : List Beat) → left_after op rest xs ≡ Some (b ∷ bs) → IsInProgress op s (after_all_served cycle xs t)
+    wants : (bs : List Beat) → left_after op rest xs ≡ Some bs → wants_served cycle xs t ≡ wants_of_beats op rest xs
+    exceptions : (bs : List Beat) → left_after op rest xs ≡ Some bs → (after_all_served cycle xs t).nvic ≡ exceptions_served op cycle rest xs t.nvic
+    event : (bs : List Beat) → left_after op rest xs ≡ Some bs → (after_all_served cycle xs t).event ≡ event_served op cycle rest xs t.nvic t.event
+    over : left_after op rest xs ≡ Some [] → IsOver op (read ++ reads_served op cycle rest xs t) s (after_all_served cycle xs t)
 
-passed_exceptions : (op : Op) (value : Option ℕ) (t : State) → (passed (works.Instruction op) value t).nvic ≡ last_at op t.regs t.beats_done t.nvic
-unfolding passed passed_instruction ended
-passed_exceptions op value t = go (nat_lt (t.beats_done + 1) (length (beats_of op t.regs)))
+  -- one cycle, and what the others come to
+  comes_by : (b : Beat) (rest done : List Beat) (read : List ℕ) (x : Served) (xs : List Served) (cycle : ℕ) (t : State)
+      → beats_of op s.regs ≡ done ++ b ∷ rest → Stands (length done) read t → length read + reading (b ∷ rest) ≤ 16 → list_any is_refused (b ∷ rest) ≡ false → Begins op x.given t
+      → ((rest' done' : List Beat) (read' : List ℕ) → beats_of op s.regs ≡ done' ++ rest' → At (length done') read' rest' (after_served cycle x t) → length read' + reading rest' ≤ 16
+      → list_any is_refused rest' ≡ false → Comes rest' xs read' (cycle + 1) (after_served cycle x t))
+      → Comes (b ∷ rest) (x ∷ xs) read cycle t
+  comes_by b rest done read x xs cycle t split stands count granted begins then =
+      let v = read_in b x.given t in
+      let u = after_served cycle x t in
+      let here : slice_get (beats_of op t.regs) t.beats_done ≡ Some b =
+      ap₂ (λ (r : Regs) (k : ℕ). slice_get (beats_of op r) k) stands.kept stands.so_far ∙ ap (λ bs. slice_get bs (length done)) split ∙ at_index done b rest in
+      let serves = serves_beat op b cycle x t stands.awake (head_of (is_refused b) (list_any is_refused rest) granted) (begins_at op x.given t b begins here) in
+      let unstopped : is_stop (wanted_in cycle x.given t) ≡ false = ap is_stop serves.wants ∙ goes b in
+      elim (over_or_not (is_over op b x)) [
+        | inl o ↦
+            let both = subst (λ z. At (length done + 1) (read ++ option_to_list v) rest z × Changes (lines_in x.given) cycle (changed_by op b rest t.nvic) t.event z) (sym (serves.passes (unpaused t) o))
+            (passed_beat done rest b read (read ++ option_to_list v) v (lines_in x.given) cycle t split stands (value_kept read v (omega (arith, reads_beat b x.given t, count)))) in
+            let c = both.1 in
+            let h = then rest (done ++ b ∷ []) (read ++ option_to_list v) (split ∙ sym (append_assoc done (b ∷ []) rest))
+            (subst (λ k. At k (read ++ option_to_list v) rest u) (sym (length-append done (b ∷ []))) both.0)
+            (omega (arith, length-append read (option_to_list v), reads_beat b x.given t, count)) (tail_of (is_refused b) (list_any is_refused rest) granted) in
+            let cut : (m : Option (List Beat)) → left_after op (b ∷ rest) (x ∷ xs) ≡ m → left_after op rest xs ≡ m =
+            λ m q. ap (λ z. cond z (left_after op rest xs) (left_after op (b ∷ rest) xs)) (sym o) ∙ q in
+            record {
+              goes_on = λ bs q. (unstopped, h.goes_on bs (cut (Some bs) q));
+              in_progress = λ c cs q. h.in_progress c cs (cut (Some (c ∷ cs)) q);
+              wants = λ bs q. rw o (ap₂ (λ w ws. w ∷ ws) serves.wants (h.wants bs (cut (Some bs) q)));
+              exceptions = λ bs q. rw o (h.exceptions bs (cut (Some bs) q) ∙ ap (λ y. exceptions_served op (cycle + 1) rest xs y) c.exceptions);
+              event = λ bs q. rw o (h.event bs (cut (Some bs) q) ∙ ap₂ (λ y (z : Bool). event_served op (cycle + 1) rest xs y z) c.exceptions c.event_after);
+              over = λ q. rw o (subst (λ ys. IsOver op ys s (after_all_served (cycle + 1) xs u)) (append_assoc read (option_to_list v) (reads_served op (cycle + 1) rest xs u)) (h.over (cut (Some []) q)));
+            }
+        | inr o ↦
+            let both = subst (λ z. At (length done) read (b ∷ rest) z × Changes (lines_in x.given) cycle t.nvic t.event z) (sym (serves.waits o))
+            (waiting_beat (length done) read rest b (lines_in x.given) cycle t stands) in
+            let c = both.1 in
+            let h = then (b ∷ rest) done read split both.0 count granted in
+            let cut : (m : Option (List Beat)) → left_after op (b ∷ rest) (x ∷ xs) ≡ m → left_after op (b ∷ rest) xs ≡ m =
+            λ m q. ap (λ z. cond z (left_after op rest xs) (left_after op (b ∷ rest) xs)) (sym o) ∙ q in
+            record {
+              goes_on = λ bs q. (unstopped, h.goes_on bs (cut (Some bs) q));
+              in_progress = λ c cs q. h.in_progress c cs (cut (Some (c ∷ cs)) q);
+              wants = λ bs q. rw o (ap₂ (λ w ws. w ∷ ws) serves.wants (h.wants bs (cut (Some bs) q)));
+              exceptions = λ bs q. rw o (h.exceptions bs (cut (Some bs) q) ∙ ap (λ y. exceptions_served op (cycle + 1) (b ∷ rest) xs y) c.exceptions);
+              event = λ bs q. rw o (h.event bs (cut (Some bs) q) ∙ ap₂ (λ y (z : Bool). event_served op (cycle + 1) (b ∷ rest) xs y z) c.exceptions c.event_after);
+              over = λ q. rw o (h.over (cut (Some []) q));
+            }
+      ]
+    where
+      at_spot_goes : (request : Request) (p : Spot) → is_stop (want_at p request) ≡ false
+      at_spot_goes request (spot.Ram index bank) = refl
+      at_spot_goes request (spot.Ppb offset) = refl
+      at_spot_goes request (spot.Sio offset) = refl
+      at_spot_goes request (spot.Reg block offset alias) = refl
+      at_spot_goes request spot.Outside = refl
+
+      signal_goes : (b : Bool) → is_stop (cond b want.Signal want.Nothing) ≡ false
+      signal_goes true = refl
+      signal_goes false = refl
+
+      goes : (b : Beat) → is_stop (want_of_beat op b) ≡ false
+      goes Inner = signal_goes (is_signal op)
+      goes (Access request) = at_spot_goes request (place_of request.address)
+
+  past : (xs : List Served) (read : List ℕ) (x : Served) (cycle : ℕ) (t : State) → Comes [] (x ∷ xs) read cycle t
+  past xs read x cycle t = record {
+    goes_on = λ bs q. absurd (cc);
+    in_progress = λ b bs q. absurd (cc);
+    wants = λ bs q. absurd (cc);
+    exceptions = λ bs q. absurd (cc);
+    event = λ bs q. absurd (cc);
+    over = λ q. absurd (cc);
+  }
+
+  comes : (xs : List Served) (cycle : ℕ) (t : State) (rest done : List Beat) (read : List ℕ) → beats_of op s.regs ≡ done ++ rest → At (length done) read rest t
+      → length read + reading rest ≤ 16 → list_any is_refused rest ≡ false → Comes rest xs read cycle t
+  comes [] cycle t [] done read split at count granted = record {
+    goes_on = λ bs q. tt;
+    in_progress = λ b bs q. absurd (cc);
+    wants = λ bs q. refl;
+    exceptions = λ bs q. refl;
+    event = λ bs q. refl;
+    over = λ q. subst (λ ys. IsOver op ys s t) (sym (append-nil read)) at;
+  }
+  comes [] cycle t (b ∷ rest) done read split at count granted = record {
+    goes_on = λ bs q. tt;
+    in_progress = λ b bs q. (at.0.kept, at.1);
+    wants = λ bs q. refl;
+    exceptions = λ bs q. refl;
+    event = λ bs q. refl;
+    over = λ q. absurd (cc);
+  }
+  comes (x ∷ xs) cycle t [] done read split at count granted = past xs read x cycle t
+  comes (x ∷ xs) cycle t (b ∷ rest) done read split at count granted =
+      comes_by b rest done read x xs cycle t split at.0 count granted (begins_on op x.given t at.1) (λ rest' done' read'. comes xs (cycle + 1) (after_served cycle x t) rest' done' read')
+
+  comes_all : (beats : List Beat) (x : Served) (xs : List Served) (cycle : ℕ) → beats_of op s.regs ≡ beats → IsAtBoundary s → reading beats ≤ 16 → list_any is_refused beats ≡ false
+      → Begins op x.given s → Comes beats (x ∷ xs) [] cycle s
+  comes_all [] x xs cycle split at count granted begins = past xs [] x cycle s
+  comes_all (b ∷ rest) x xs cycle split at count granted begins =
+      comes_by b rest [] [] x xs cycle s split (record { awake = at.awake; kept = refl; so_far = at.first; values = at.fresh }) (omega (arith, count)) granted begins
+      (λ rest' done' read'. comes xs (cycle + 1) (after_served cycle x s) rest' done' read')
+
+pub an_instruction_takes_its_beats_and_waits : AnInstructionTakesItsBeatsAndWaits
+an_instruction_takes_its_beats_and_waits op s cycle x xs at fetched plain granted =
+    let all = comes_all op s plain.no_event plain.no_interrupt (beats_of op s.regs) x xs cycle refl at (reading-le op s.regs) granted (begins_boundary op x.given s at fetched plain) in
+    record { goes_on = all.goes_on; in_progress = all.in_progress; wants = all.wants; exceptions = all.exceptions; event = all.event; over = all.over }
+
+-- ---- where each access is done at once
+
+abbrev at_once : Given → Served
+at_once g = record { given = g; done = true }
+
+met : (b : Bool) → cond b true true ≡ true
+met true = refl
+met false = refl
+
+-- the cycles of the one law are some of the other's
+record Agrees (op : Op) (beats : List Beat) (gs : List Given) (cycle : ℕ) (s : State) : Type 0 where
+  goes_on : GoesOnServed cycle (map at_once gs) s → GoesOn cycle gs s
+  after : after_all_served cycle (map at_once gs) s ≡ after_cycles cycle gs s
+  wants : wants_served cycle (map at_once gs) s ≡ wants_in cycle gs s
+  reads : reads_served op cycle beats (map at_once gs) s ≡ reads_in cycle beats gs s
+  left : length gs ≤ length beats → left_after op beats (map at_once gs) ≡ Some (drop (length gs) beats)
+  wanted : length gs ≡ length beats → wants_of_beats op beats (map at_once gs) ≡ map (want_of_beat op) beats
+  exceptions : (e : Exceptions) → exceptions_served op cycle beats (map at_once gs) e ≡ exceptions_in op cycle beats gs e
+  event : (e : Exceptions) (v : Bool) → event_served op cycle beats (map at_once gs) e v ≡ event_in op cycle beats gs e v
+
+agree : (op : Op) (beats : List Beat) (gs : List Given) (cycle : ℕ) (s : State) → Agrees op beats gs cycle s
+agree op [] [] cycle s = record { goes_on = λ h. h; after = refl; wants = refl; reads = refl; left = λ h. refl; wanted = λ h. refl; exceptions = λ e. refl; event = λ e v. refl }
+agree op (b ∷ rest) [] cycle s = record {
+  goes_on = λ h. h;
+  after = refl;
+  wants = refl;
+  reads = refl;
+  left = λ h. refl;
+  wanted = λ h. absurd (omega (arith, h));
+  exceptions = λ e. refl;
+  event = λ e v. refl;
+}
+agree op [] (g ∷ gs) cycle s =
+    let h = agree op [] gs (cycle + 1) (after_cycle cycle g s) in
+    record {
+      goes_on = λ k. (k.0, h.goes_on k.1);
+      after = h.after;
+      wants = ap (λ ws. wanted_in cycle g s ∷ ws) h.wants;
+      reads = refl;
+      left = λ k. absurd (omega (arith, k));
+      wanted = λ k. refl;
+      exceptions = λ e. refl;
+      event = λ e v. refl;
+    }
+agree op (b ∷ rest) (g ∷ gs) cycle s =
+    let h = agree op rest gs (cycle + 1) (after_cycle cycle g s) in
+    let e = met (is_access (want_of_beat op b)) in
+    record {
+      goes_on = λ k. (k.0, h.goes_on k.1);
+      after = h.after;
+      wants = ap (λ ws. wanted_in cycle g s ∷ ws) h.wants;
+      reads = rw e (ap (λ vs. option_to_list (read_in b g s) ++ vs) h.reads);
+      left = λ k. rw e (h.left (omega (arith, k)));
+      wanted = λ k. rw e (ap (λ ws. want_of_beat op b ∷ ws) (h.wanted (omega (arith, k))));
+      exceptions = λ y. rw e (h.exceptions _);
+      event = λ y v. rw e (h.event _ _);
+    }
+
+pub an_instruction_takes_its_beats : AnInstructionTakesItsBeats
+an_instruction_takes_its_beats op s cycle g gs at fetched plain granted =
+    let all = an_instruction_takes_its_beats_and_waits op s cycle (at_once g) (map at_once gs) at fetched plain granted in
+    let beats = beats_of op s.regs in
+    let same = agree op beats (g ∷ gs) cycle s in
+    let none : length (g ∷ gs) ≡ length beats → left_after op beats (map at_once (g ∷ gs)) ≡ Some [] =
+    λ h. same.left (omega (arith, h)) ∙ ap Some (drop_all (length (g ∷ gs)) beats (omega (arith, h))) in
+    record {
+      goes_on = λ h. same.goes_on (all.goes_on _ (same.left h));
+      in_progress = λ h. subst (λ t. IsInProgress op s t) same.after (in_middle (length (g ∷ gs)) beats h (λ b bs q. all.in_progress b bs (same.left (omega (arith, h)) ∙ ap Some q)));
+      wants = λ h. sym same.wants ∙ all.wants [] (none h) ∙ same.wanted h;
+      exceptions = λ h. sym (ap (λ (t : State). t.nvic) same.after) ∙ all.exceptions _ (same.left h) ∙ same.exceptions s.nvic;
+      event = λ h. sym (ap (λ (t : State). t.event) same.after) ∙ all.event _ (same.left h) ∙ same.event s.nvic s.event;
+      over = λ h. subst (λ t. IsOver op (reads_in cycle beats (g ∷ gs) s) s t) same.after (subst (λ vs. IsOver op vs s (after_all_served cycle (map at_once (g ∷ gs)) s)) same.reads (all.over (none h)));
+    }
   where
-    go : (b : Bool) → (cond b (followed (works.Instruction op) (with_read value t)) (ended op (with_read value t))).nvic ≡ cond b t.nvic (called op t.nvic)
-    go true = refl
-    go false = refl
-
-passed_event : (op : Op) (value : Option ℕ) (t : State) → awaits_event op ≡ false → (passed (works.Instruction op) value t).event ≡ t.event
-unfolding passed passed_instruction ended
-passed_event op value t e = go (nat_lt (t.beats_done + 1) (length (beats_of op t.regs)))
-  where
-    go : (b : Bool) → (cond b (followed (works.Instruction op) (with_read value t)) (ended op (with_read value t))).event ≡ t.event
-    go true = refl
-    go false = ap (λ x. t.event && not x) e ∙ and-true t.event
-
-changes_closed : (op : Op) (value : Option ℕ) (t : State) (lines cycle : ℕ) → awaits_event op ≡ false
-    → Changes lines cycle (last_at op t.regs t.beats_done t.nvic) t.event (closed lines cycle (passed (works.Instruction op) value t))
-unfolding closed
-changes_closed op value t lines cycle e = record {
-  exceptions = ap (nvic.after_cycle lines cycle) (passed_exceptions op value t);
-  event_after = ap₂ (λ (v : Bool) x. v || nvic.is_event lines cycle x) (passed_event op value t e) (passed_exceptions op value t);
-}
-
--- by what the beat does
-abbrev ChangesBy : Op → (Exceptions → Exceptions) → ℕ → ℕ → State → State → Type 0
-ChangesBy op f lines cycle s t = Changes lines cycle (last_at op s.regs s.beats_done (f s.nvic)) s.event t
-
-changes_ram : (op : Op) (g : Given) (s : State) (lines cycle : ℕ) (request : Request) (w : Option ℕ) → awaits_event op ≡ false
-    → Changes lines cycle (last_at op s.regs s.beats_done s.nvic) s.event (step_by lines cycle g.word s (answered g.answers (in_ram (works.Instruction op) request w)))
-changes_ram op g s lines cycle request None e = changes_closed op _ s lines cycle e
-changes_ram op g s lines cycle request (Some write) e = changes_closed op None s lines cycle e
-
-changes_private : (op : Op) (g : Given) (s : State) (lines cycle offset : ℕ) (request : Request) (b : Bool) → awaits_event op ≡ false
-    → is_stop (want_of_act (answered g.answers (cond b (Ready (act.Private (works.Instruction op) request offset)) (stopped (why.Outside (master_of s.number) request.address))))) ≡ false
-    → ChangesBy op (touched_at (spot.Ppb offset) request) lines cycle s (step_by lines cycle g.word s (answered g.answers (cond b (Ready (act.Private (works.Instruction op) request offset)) (stopped (why.Outside (master_of s.number) request.address)))))
-unfolding after_private
-changes_private op g s lines cycle offset request true e goes =
-    changes_closed op (private_value request request.write offset s) (accessed request offset s) lines cycle e
-changes_private op g s lines cycle offset request false e goes = absurd (true≢false goes)
-
-changes_at : (op : Op) (g : Given) (s : State) (lines cycle : ℕ) (request : Request) (spot : Spot) → awaits_event op ≡ false
-    → is_stop (want_of_act (answered g.answers (at_spot (works.Instruction op) request s spot))) ≡ false
-    → ChangesBy op (touched_at spot request) lines cycle s (step_by lines cycle g.word s (answered g.answers (at_spot (works.Instruction op) request s spot)))
-changes_at op g s lines cycle request (spot.Ram index bank) e goes = changes_ram op g s lines cycle request request.write e
-changes_at op g s lines cycle request (spot.Ppb offset) e goes =
-    changes_private op g s lines cycle offset request (is_allowed offset (word_written request.size request.write)) e goes
-changes_at op g s lines cycle request (spot.Sio offset) e goes = changes_closed op _ s lines cycle e
-changes_at op g s lines cycle request (spot.Reg block offset alias) e goes = changes_closed op _ s lines cycle e
-changes_at op g s lines cycle request spot.Outside e goes = changes_closed op _ s lines cycle e
-
-changes_inner : (op : Op) (s : State) (lines cycle : ℕ) → awaits_event op ≡ false → awaits_interrupt op ≡ false
-    → Changes lines cycle (last_at op s.regs s.beats_done s.nvic) s.event (closed lines cycle (after_inner (works.Instruction op) s))
-unfolding after_inner
-changes_inner op s lines cycle e i =
-    subst (λ b. Changes lines cycle (last_at op s.regs s.beats_done s.nvic) s.event (closed lines cycle (cond b (waiting (works.Instruction op) s) (passed (works.Instruction op) None s))))
-    (sym (is_not_held op s e i)) (changes_closed op None s lines cycle e)
-
-changes_beat : (op : Op) (g : Given) (s : State) (lines cycle : ℕ) (b : Beat) → awaits_event op ≡ false → awaits_interrupt op ≡ false
-    → is_stop (want_of_act (answered g.answers (in_beat (works.Instruction op) s b))) ≡ false
-    → ChangesBy op (touched_by b) lines cycle s (step_by lines cycle g.word s (answered g.answers (in_beat (works.Instruction op) s b)))
-changes_beat op g s lines cycle Inner e i goes = changes_inner op s lines cycle e i
-changes_beat op g s lines cycle (Access request) e i goes = changes_at op g s lines cycle request (place_of request.address) e goes
-
-changes_cycle : (op : Op) (g : Given) (cycle : ℕ) (s : State) (b : Beat) → s.asleep ≡ false → awaits_event op ≡ false → awaits_interrupt op ≡ false → Begins op g s
-    → slice_get (beats_of op s.regs) s.beats_done ≡ Some b → is_stop (wanted_in cycle g s) ≡ false → ChangesBy op (touched_by b) (lines_in g) cycle s (after_cycle cycle g s)
-changes_cycle op g cycle s b awake e i begins at goes =
-    let a = answered g.answers (in_beat (works.Instruction op) s b) in
-    let begun = begun_beat op g cycle s b awake begins at in
-    subst (λ u. ChangesBy op (touched_by b) (lines_in g) cycle s u) (sym (after_begun g cycle s a begun))
-    (changes_beat op g s (lines_in g) cycle b e i (sym (ap (λ d. is_stop (want_of d)) begun) ∙ goes))
-
--- whether the beat is the last one, by what follows it
-last_is : (op : Op) (regs : Regs) (done : List Beat) (b : Beat) (rest : List Beat) (e : Exceptions) → beats_of op regs ≡ done ++ b ∷ rest
-    → last_at op regs (length done) (touched_by b e) ≡ changed_by op b rest e
-last_is op regs done b [] e split =
-    ap (λ x. cond x (touched_by b e) (called op (touched_by b e)))
-    (le-ltb (length done + 1) (length (beats_of op regs)) (omega (arith, long_as (beats_of op regs) done (b ∷ []) split)))
-last_is op regs done b (c ∷ rest) e split =
-    ap (λ x. cond x (touched_by b e) (called op (touched_by b e)))
-    (lt-ltb (length done + 1) (length (beats_of op regs)) (omega (arith, long_as (beats_of op regs) done (b ∷ c ∷ rest) split)))
-
-pub changes_standing : (op : Op) (regs : Regs) (done rest : List Beat) (read : List ℕ) (g : Given) (cycle : ℕ) (s : State) (b : Beat) → Stands regs (length done) read s
-    → awaits_event op ≡ false → awaits_interrupt op ≡ false → Begins op g s
-    → beats_of op regs ≡ done ++ b ∷ rest → is_stop (wanted_in cycle g s) ≡ false → Changes (lines_in g) cycle (changed_by op b rest s.nvic) s.event (after_cycle cycle g s)
-changes_standing op regs done rest read g cycle s b stands e i begins split goes =
-    let at : slice_get (beats_of op regs) (length done) ≡ Some b = ap (λ bs. slice_get bs (length done)) split ∙ at_index done b rest in
-    let here : slice_get (beats_of op s.regs) s.beats_done ≡ Some b = ap₂ (λ (r : Regs) (k : ℕ). slice_get (beats_of op r) k) stands.kept stands.so_far ∙ at in
-    let same : last_at op s.regs s.beats_done (touched_by b s.nvic) ≡ changed_by op b rest s.nvic =
-    ap₂ (λ (r : Regs) (k : ℕ). last_at op r k (touched_by b s.nvic)) stands.kept stands.so_far ∙ last_is op regs done b rest s.nvic split in
-    subst (λ x. Changes (lines_in g) cycle x s.event (after_cycle cycle g s)) same (changes_cycle op g cycle s b stands.awake e i begins here goes)
-
--- ---- all cycles
-
-pub record Comes (op : Op) (regs : Regs) (rest : List Beat) (gs : List Given) (read : List ℕ) (cycle : ℕ) (s : State) : Type 0 where
-  pub in_progress : length gs < length rest → ((after_cycles cycle gs s).regs ≡ regs) × ((after_cycles cycle gs s).work ≡ Some (works.Instruction op))
-  pub wants : length gs ≡ length rest → wants_in cycle gs s ≡ map (want_of_beat op) rest
-  pub exceptions : length gs ≤ length rest → (after_cycles cycle gs s).nvic ≡ exceptions_in op cycle rest gs s.nvic
-  pub event : length gs ≤ length rest → (after_cycles cycle gs s).event ≡ event_in op cycle rest gs s.nvic s.event
-  pub over : length gs ≡ length rest → Ends op regs (read ++ reads_in cycle rest gs s) (after_cycles cycle gs s)
-
-comes : (op : Op) (regs : Regs) → awaits_event op ≡ false → awaits_interrupt op ≡ false
-    → (rest : List Beat) (g : Given) (gs : List Given) (done : List Beat) (read : List ℕ) (cycle : ℕ) (s : State)
-    → beats_of op regs ≡ done ++ rest → Stands regs (length done) read s → length read + reading rest ≤ 16 → Begins op g s → GoesOn cycle (g ∷ gs) s
-    → Comes op regs rest (g ∷ gs) read cycle s
-comes op regs e i [] g gs done read cycle s split stands count begins goes = record {
-  in_progress = λ h. absurd (omega (arith, h));
-  wants = λ h. absurd (omega (arith, h));
-  exceptions = λ h. absurd (omega (arith, h));
-  event = λ h. absurd (omega (arith, h));
-  over = λ h. absurd (omega (arith, h));
-}
-comes op regs e i (b ∷ []) g [] done read cycle s split stands count begins goes =
-    let v = read_in b g s in
-    let reads : with_value read v ≡ read ++ option_to_list v = value_kept read v (omega (arith, reads_beat b g s)) in
-    let at : slice_get (beats_of op regs) (length done) ≡ Some b = ap (λ bs. slice_get bs (length done)) split ∙ at_index done b [] in
-    let lands = lands_standing op regs (length done) read (read ++ option_to_list v) g cycle s b stands e i begins at goes.0 reads in
-    let changes = changes_standing op regs done [] read g cycle s b stands e i begins split goes.0 in
-    record {
-      in_progress = λ h. absurd (omega (arith, h));
-      wants = λ h. ap (λ w. w ∷ []) (wants_standing op regs (length done) read g cycle s b stands begins at goes.0);
-      exceptions = λ h. changes.exceptions;
-      event = λ h. changes.event_after;
-      over = λ h. subst (λ xs. Ends op regs (read ++ xs) (after_cycle cycle g s)) (sym (append-nil (option_to_list v)))
-          (lands.ends (omega (arith, long_as (beats_of op regs) done (b ∷ []) split)));
-    }
-comes op regs e i (b ∷ []) g (g' ∷ gs) done read cycle s split stands count begins goes = record {
-  in_progress = λ h. absurd (omega (arith, h));
-  wants = λ h. absurd (omega (arith, h));
-  exceptions = λ h. absurd (omega (arith, h));
-  event = λ h. absurd (omega (arith, h));
-  over = λ h. absurd (omega (arith, h));
-}
-comes op regs e i (b ∷ c ∷ rest) g [] done read cycle s split stands count begins goes =
-    let v = read_in b g s in
-    let reads : with_value read v ≡ read ++ option_to_list v = value_kept read v (omega (arith, reads_beat b g s)) in
-    let at : slice_get (beats_of op regs) (length done) ≡ Some b = ap (λ bs. slice_get bs (length done)) split ∙ at_index done b (c ∷ rest) in
-    let lands = lands_standing op regs (length done) read (read ++ option_to_list v) g cycle s b stands e i begins at goes.0 reads in
-    let changes = changes_standing op regs done (c ∷ rest) read g cycle s b stands e i begins split goes.0 in
-    let more = lands.goes_on (omega (arith, long_as (beats_of op regs) done (b ∷ c ∷ rest) split)) in
-    record {
-      in_progress = λ h. (more.0.kept, more.1);
-      wants = λ h. absurd (omega (arith, h));
-      exceptions = λ h. changes.exceptions;
-      event = λ h. changes.event_after;
-      over = λ h. absurd (omega (arith, h));
-    }
-comes op regs e i (b ∷ c ∷ rest) g (g' ∷ gs) done read cycle s split stands count begins goes =
-    let v = read_in b g s in
-    let u = after_cycle cycle g s in
-    let reads : with_value read v ≡ read ++ option_to_list v = value_kept read v (omega (arith, reads_beat b g s)) in
-    let at : slice_get (beats_of op regs) (length done) ≡ Some b = ap (λ bs. slice_get bs (length done)) split ∙ at_index done b (c ∷ rest) in
-    let lands = lands_standing op regs (length done) read (read ++ option_to_list v) g cycle s b stands e i begins at goes.0 reads in
-    let changes = changes_standing op regs done (c ∷ rest) read g cycle s b stands e i begins split goes.0 in
-    let more = lands.goes_on (omega (arith, long_as (beats_of op regs) done (b ∷ c ∷ rest) split)) in
-    let stands' : Stands regs (length (done ++ b ∷ [])) (read ++ option_to_list v) u = subst (λ n. Stands regs n (read ++ option_to_list v) u) (sym (length-append done (b ∷ []))) more.0 in
-    let split' : beats_of op regs ≡ (done ++ b ∷ []) ++ c ∷ rest = split ∙ sym (append_assoc done (b ∷ []) (c ∷ rest)) in
-    let count' : length (read ++ option_to_list v) + reading (c ∷ rest) ≤ 16 = omega (arith, length-append read (option_to_list v), reads_beat b g s, count) in
-    let all = comes op regs e i (c ∷ rest) g' gs (done ++ b ∷ []) (read ++ option_to_list v) (cycle + 1) u split' stands' count' (begins_on op g' u more.1) goes.1 in
-    record {
-      in_progress = λ h. all.in_progress (omega (arith, h));
-      wants = λ h. ap₂ (λ w ws. w ∷ ws) (wants_standing op regs (length done) read g cycle s b stands begins at goes.0) (all.wants (omega (arith, h)));
-      exceptions = λ h. all.exceptions (omega (arith, h)) ∙ ap (λ x. exceptions_in op (cycle + 1) (c ∷ rest) (g' ∷ gs) x) changes.exceptions;
-      event = λ h. all.event (omega (arith, h)) ∙ ap₂ (λ x (v : Bool). event_in op (cycle + 1) (c ∷ rest) (g' ∷ gs) x v) changes.exceptions changes.event_after;
-      over = λ h. subst (λ xs. Ends op regs xs (after_cycles (cycle + 1) (g' ∷ gs) u)) (append_assoc read (option_to_list v) (reads_in (cycle + 1) (c ∷ rest) (g' ∷ gs) u))
-          (all.over (omega (arith, h)));
-    }
-
--- where nothing stops
-pub comes_where_it_goes : (op : Op) (s : State) (cycle : ℕ) (g : Given) (gs : List Given) → IsAtBoundary s → IsFetched g.answers s.regs.pc op → IsPlain op s → GoesOn cycle (g ∷ gs) s
-    → Comes op s.regs (beats_of op s.regs) (g ∷ gs) [] cycle s
-comes_where_it_goes op s cycle g gs at fetched plain goes =
-    let stands : Stands s.regs 0 [] s = record { awake = at.awake; kept = refl; so_far = at.first; values = at.fresh } in
-    comes op s.regs plain.no_event plain.no_interrupt (beats_of op s.regs) g gs [] [] cycle s refl stands (omega (arith, reading-le op s.regs)) (begins_boundary op g s at fetched plain) goes
-
--- ---- accesses that wait
-
-lasts_closed : (lines cycle : ℕ) (s : State) (a : Act) (work : Work) → accessing a ≡ Some work → LastsOn s (ends_with lines cycle a) (closed lines cycle (waiting work s))
-unfolding closed
-lasts_closed lines cycle s a work e = record { awake = refl; kept = refl; in_progress = sym e; so_far = refl; values = refl; exceptions = refl; event = refl }
-
-pub lasts_inner : (signals : Bool) {A : Type 0} → is_access (cond signals want.Signal want.Nothing) ≡ true → A
-lasts_inner true e = absurd (true≢false (sym e))
-lasts_inner false e = absurd (true≢false (sym e))
-
-lasts_act : (s : State) (lines cycle : ℕ) (a : Act) → is_access (want_of_act a) ≡ true → LastsOn s (ends_with lines cycle a) (next s (ends_with lines cycle a) (turn.Wait ∷ turn.Nothing ∷ []))
-unfolding next
-lasts_act s lines cycle act.Asleep e = absurd (true≢false (sym e))
-lasts_act s lines cycle (act.Stopped cause) e = absurd (true≢false (sym e))
-lasts_act s lines cycle act.Fault e = absurd (true≢false (sym e))
-lasts_act s lines cycle (act.Inner work) e = lasts_inner (signals work) e
-lasts_act s lines cycle (act.Read work request told) e = lasts_closed lines cycle s (act.Read work request told) work refl
-lasts_act s lines cycle (act.Write work request) e = lasts_closed lines cycle s (act.Write work request) work refl
-lasts_act s lines cycle (act.Outward work request) e = lasts_closed lines cycle s (act.Outward work request) work refl
-lasts_act s lines cycle (act.Private work request offset) e = absurd (true≢false (sym e))
-
-pub an_access_lasts_until_it_is_done : AnAccessLastsUntilItIsDone
-an_access_lasts_until_it_is_done s begun e = lasts_act s begun.lines begun.cycle begun.act e
+    in_middle : {A : Type 0} (n : ℕ) (bs : List Beat) → n < length bs → ((b : Beat) (rest : List Beat) → drop n bs ≡ b ∷ rest → A) → A
+    in_middle n [] h f = absurd (omega (arith, h))
+    in_middle zero (b ∷ bs) h f = f b bs refl
+    in_middle (suc n) (b ∷ bs) h f = in_middle n bs (omega (arith, h)) f

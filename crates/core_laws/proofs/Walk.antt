@@ -1,12 +1,11 @@
 -- Whatever has beats takes them, cycle by cycle, where its accesses go to SRAM.
-use Rattle.std.proofs.Common.{◌≡◌, ℕ, zero, suc, ◌+◌, ◌%◌, ◌^◌, ◌<◌, Bool, true, false, cond, List, [], ◌∷◌, length, refl, sym, ap, ap₂, subst, ◌∙◌, arith, true≢false}
-use Rattle.core_laws.proofs.Shared.{Option, Some, None, map, slice_get, Request, Spot, place_of, lanes_of, Beat, Inner, Access, Exceptions, numbers_from, after_cycles, Word, Want, answered, Act, Work, is_ram, is_ram_spot, asks_awake, in_beat, in_ram, at_spot, ends_with, signals, want_of, want_of_act, waiting, passed, is_paused, after_inner, after_access, done_word, closed, next, State, Given, lines_in, begun_in, wanted_in, Served, turn_served, after_served, after_all_served, wants_served, ends_in, left_of, want_in, wants_through, AllDone, lines_of}
+use Rattle.std.proofs.Common.{◌≡◌, ℕ, zero, suc, ◌+◌, ◌<◌, Bool, true, false, cond, List, [], ◌∷◌, length, refl, sym, ap, ap₂, subst, ◌∙◌, arith, true≢false}
+use Rattle.core_laws.proofs.Shared.{Option, Some, None, map, Request, Spot, place_of, Beat, Inner, Access, Exceptions, numbers_from, after_cycles, Want, answered, Work, is_ram, is_ram_spot, in_beat, at_spot, ends_with, signals, waiting, passed, is_paused, closed, State, Given, lines_in, begun_in, wanted_in, Served, after_served, after_all_served, wants_served, ends_in, left_of, want_in, wants_through, AllDone, lines_of}
 use Rattle.rp_base.specs.declared.map.Spot.TheVariants as spot
 use Rattle.m0_nvic.specs.Cycle as nvic
 use Rattle.lane_look.specs.declared.lane.Want.TheVariants as want
-use Rattle.lane_look.specs.declared.lane.Turn.TheVariants as turn
 use Rattle.m0_core.specs.declared.doing.Act.TheVariants as act
-use Rattle.core_laws.proofs.TakesBeats.{begun_awake}
+use Rattle.core_laws.proofs.Cycles.{BeginsBeat, begun_beat, Serves, value_ram, serves_inner, serves_ram}
 
 -- ---- a beat
 
@@ -16,109 +15,28 @@ IsInRam Inner = Unit {0}
 IsInRam (Access request) = is_ram request.address ≡ true
 
 -- what it reads
-abbrev pub value_ram : Request → Option ℕ → Given → Option ℕ
-value_ram request None g = Some (lanes_of request.size request.address (g.answers (Word request.address) % 2 ^ 32))
-value_ram request (Some write) g = None
-
 abbrev pub value_in : Beat → Given → Option ℕ
 value_in Inner g = None
 value_in (Access request) g = value_ram request request.write g
 
--- what it begins
-abbrev ram_act : Work → Request → Option ℕ → Given → Act
-ram_act work request None g = act.Read work request (g.answers (Word request.address) % 2 ^ 32)
-ram_act work request (Some write) g = act.Write work request
-
-abbrev beat_act : Work → Beat → Given → Act
-beat_act work Inner g = act.Inner work
-beat_act work (Access request) g = ram_act work request request.write g
-
-begun_ram : (work : Work) (request : Request) (w : Option ℕ) (g : Given) → answered g.answers (in_ram work request w) ≡ ram_act work request w g
-begun_ram work request None g = refl
-begun_ram work request (Some write) g = refl
-
-begun_at : (work : Work) (request : Request) (g : Given) (s : State) (p : Spot) → is_ram_spot p ≡ true
-    → answered g.answers (at_spot work request s p) ≡ ram_act work request request.write g
-begun_at work request g s (spot.Ram index bank) e = begun_ram work request request.write g
-begun_at work request g s (spot.Ppb offset) e = absurd (true≢false (sym e))
-begun_at work request g s (spot.Sio offset) e = absurd (true≢false (sym e))
-begun_at work request g s (spot.Reg block offset alias) e = absurd (true≢false (sym e))
-begun_at work request g s spot.Outside e = absurd (true≢false (sym e))
-
-begun_in_beat : (work : Work) (b : Beat) (g : Given) (s : State) → IsInRam b → answered g.answers (in_beat work s b) ≡ beat_act work b g
+pub serves_walk : (work : Work) (b : Beat) (cycle : ℕ) (x : Served) (s : State) → signals work ≡ false → s.asleep ≡ false → IsInRam b → BeginsBeat work b x.given s
+    → Serves work (want_in b) (ends_in b x) (value_in b x.given) s.nvic cycle x s (begun_in cycle x.given s)
 unfolding is_ram
-begun_in_beat work Inner g s h = refl
-begun_in_beat work (Access request) g s h = begun_at work request g s (place_of request.address) h
+serves_walk work b cycle x s silent awake ram begins =
+    subst (λ d. Serves work (want_in b) (ends_in b x) (value_in b x.given) s.nvic cycle x s d) (sym (begun_beat work b x.given cycle s awake begins)) (go b ram)
+  where
+    at : (request : Request) (p : Spot) → is_ram_spot p ≡ true
+        → Serves work (want.Ram request) x.done (value_ram request request.write x.given) s.nvic cycle x s (ends_with (lines_in x.given) cycle (answered x.given.answers (at_spot work request s p)))
+    at request (spot.Ram index bank) e = serves_ram work request request.write cycle x s
+    at request (spot.Ppb offset) e = absurd (true≢false (sym e))
+    at request (spot.Sio offset) e = absurd (true≢false (sym e))
+    at request (spot.Reg block offset alias) e = absurd (true≢false (sym e))
+    at request spot.Outside e = absurd (true≢false (sym e))
 
-want_ram : (work : Work) (request : Request) (w : Option ℕ) (g : Given) → want_of_act (ram_act work request w g) ≡ want.Ram request
-want_ram work request None g = refl
-want_ram work request (Some write) g = refl
-
-want_beat : (work : Work) (b : Beat) (g : Given) → signals work ≡ false → want_of_act (beat_act work b g) ≡ want_in b
-want_beat work Inner g e = ap (λ b. cond b want.Signal want.Nothing) e
-want_beat work (Access request) g e = want_ram work request request.write g
-
--- ---- a cycle
-
--- the end of a cycle that began this
-abbrev end_by : ℕ → Served → State → Act → State
-end_by cycle x s a = next s (ends_with (lines_in x.given) cycle a) (turn_served (want_of_act a) x ∷ turn.Nothing ∷ [])
-
-over_ram : (work : Work) (request : Request) (w : Option ℕ) (cycle : ℕ) (x : Served) (s : State) → x.done ≡ true
-    → end_by cycle x s (ram_act work request w x.given) ≡ closed (lines_in x.given) cycle (passed work (value_ram request w x.given) s)
-unfolding next
-over_ram work request None cycle x s e =
-    ap (λ d. closed (lines_in x.given) cycle (after_access (done_word (slice_get (cond d (turn.Done x.given.word) turn.Wait ∷ turn.Nothing ∷ []) 0)) work (value_ram request None x.given) s)) e
-over_ram work request (Some write) cycle x s e =
-    ap (λ d. closed (lines_in x.given) cycle (after_access (done_word (slice_get (cond d (turn.Done x.given.word) turn.Wait ∷ turn.Nothing ∷ []) 0)) work None s)) e
-
-over_beat : (work : Work) (b : Beat) (cycle : ℕ) (x : Served) (s : State) → is_paused work s ≡ false → ends_in b x ≡ true
-    → end_by cycle x s (beat_act work b x.given) ≡ closed (lines_in x.given) cycle (passed work (value_in b x.given) s)
-unfolding next after_inner
-over_beat work Inner cycle x s unpaused e =
-    ap (λ h. closed (lines_in x.given) cycle (cond h (waiting work s) (passed work None s))) unpaused
-over_beat work (Access request) cycle x s unpaused e = over_ram work request request.write cycle x s e
-
-wait_ram : (work : Work) (request : Request) (w : Option ℕ) (cycle : ℕ) (x : Served) (s : State) → x.done ≡ false
-    → end_by cycle x s (ram_act work request w x.given) ≡ closed (lines_in x.given) cycle (waiting work s)
-unfolding next
-wait_ram work request None cycle x s e =
-    ap (λ d. closed (lines_in x.given) cycle (after_access (done_word (slice_get (cond d (turn.Done x.given.word) turn.Wait ∷ turn.Nothing ∷ []) 0)) work (value_ram request None x.given) s)) e
-wait_ram work request (Some write) cycle x s e =
-    ap (λ d. closed (lines_in x.given) cycle (after_access (done_word (slice_get (cond d (turn.Done x.given.word) turn.Wait ∷ turn.Nothing ∷ []) 0)) work None s)) e
-
-wait_beat : (work : Work) (b : Beat) (cycle : ℕ) (x : Served) (s : State) → ends_in b x ≡ false
-    → end_by cycle x s (beat_act work b x.given) ≡ closed (lines_in x.given) cycle (waiting work s)
-wait_beat work Inner cycle x s e = absurd (true≢false e)
-wait_beat work (Access request) cycle x s e = wait_ram work request request.write cycle x s e
-
--- the cycle begins this beat
-abbrev pub BeginsBeat : Work → Beat → Given → State → Type 0
-BeginsBeat work b g s = answered g.answers (asks_awake s) ≡ answered g.answers (in_beat work s b)
-
-begun_is : (work : Work) (b : Beat) (cycle : ℕ) (g : Given) (s : State) → s.asleep ≡ false → IsInRam b → BeginsBeat work b g s
-    → begun_in cycle g s ≡ ends_with (lines_in g) cycle (beat_act work b g)
-begun_is work b cycle g s awake ram begins =
-    begun_awake g cycle s awake ∙ ap (ends_with (lines_in g) cycle) (begins ∙ begun_in_beat work b g s ram)
-
-after_is : (work : Work) (b : Beat) (cycle : ℕ) (x : Served) (s : State) → s.asleep ≡ false → IsInRam b → BeginsBeat work b x.given s
-    → after_served cycle x s ≡ end_by cycle x s (beat_act work b x.given)
-after_is work b cycle x s awake ram begins =
-    ap (λ d. next s d (turn_served (want_of d) x ∷ turn.Nothing ∷ [])) (begun_is work b cycle x.given s awake ram begins)
-
-pub cycle_over : (work : Work) (b : Beat) (cycle : ℕ) (x : Served) (s : State) → s.asleep ≡ false → IsInRam b → BeginsBeat work b x.given s
-    → is_paused work s ≡ false → ends_in b x ≡ true
-    → after_served cycle x s ≡ closed (lines_in x.given) cycle (passed work (value_in b x.given) s)
-cycle_over work b cycle x s awake ram begins unpaused e = after_is work b cycle x s awake ram begins ∙ over_beat work b cycle x s unpaused e
-
-cycle_waits : (work : Work) (b : Beat) (cycle : ℕ) (x : Served) (s : State) → s.asleep ≡ false → IsInRam b → BeginsBeat work b x.given s
-    → ends_in b x ≡ false → after_served cycle x s ≡ closed (lines_in x.given) cycle (waiting work s)
-cycle_waits work b cycle x s awake ram begins e = after_is work b cycle x s awake ram begins ∙ wait_beat work b cycle x s e
-
-pub cycle_wants : (work : Work) (b : Beat) (cycle : ℕ) (g : Given) (s : State) → s.asleep ≡ false → IsInRam b → BeginsBeat work b g s
-    → signals work ≡ false → wanted_in cycle g s ≡ want_in b
-cycle_wants work b cycle g s awake ram begins silent =
-    ap want_of (begun_is work b cycle g s awake ram begins) ∙ want_beat work b g silent
+    go : (b : Beat) → IsInRam b → Serves work (want_in b) (ends_in b x) (value_in b x.given) s.nvic cycle x s (ends_with (lines_in x.given) cycle (answered x.given.answers (in_beat work s b)))
+    go Inner h =
+        subst (λ z. Serves work (cond z want.Signal want.Nothing) true None s.nvic cycle x s (ends_with (lines_in x.given) cycle (act.Inner work))) silent (serves_inner work cycle x s)
+    go (Access request) h = at request (place_of request.address) h
 
 -- ---- the end of a cycle and the exceptions
 
@@ -190,7 +108,7 @@ module _ (work : Work) (f : ℕ → Beat) (total : ℕ) (last : Exceptions → E
   followed_by : (cycle : ℕ) (x : Served) (k : ℕ) (s : State) → P k s → G x.given → k + 1 < total → ends_in (f k) x ≡ true
       → P (k + 1) (after_served cycle x s) × ((after_served cycle x s).nvic ≡ nvic.after_cycle (lines_in x.given) cycle s.nvic)
   followed_by cycle x k s p g more e =
-      let path = cycle_over work (f k) cycle x s (plan.awake k s p) (plan.in_ram k (omega (arith, more))) (plan.begins x.given k s p) (plan.unpaused s) e in (
+      let path = (serves_walk work (f k) cycle x s plan.silent (plan.awake k s p) (plan.in_ram k (omega (arith, more))) (plan.begins x.given k s p)).passes (plan.unpaused s) e in (
         subst (λ u. P (k + 1) u) (sym path) (plan.goes x.given (lines_in x.given) cycle k s g p more),
         ap (λ u. u.nvic) path ∙ closed_nvic (lines_in x.given) cycle (passed work (value_in (f k) x.given) s) ∙ ap (nvic.after_cycle (lines_in x.given) cycle) (plan.keeps x.given k s p more),
       )
@@ -199,7 +117,7 @@ module _ (work : Work) (f : ℕ → Beat) (total : ℕ) (last : Exceptions → E
   ended_by : (cycle : ℕ) (x : Served) (k : ℕ) (s : State) → P k s → G x.given → k + 1 ≡ total → ends_in (f k) x ≡ true
       → Q (after_served cycle x s) × ((after_served cycle x s).nvic ≡ nvic.after_cycle (lines_in x.given) cycle (last s.nvic))
   ended_by cycle x k s p g none e =
-      let path = cycle_over work (f k) cycle x s (plan.awake k s p) (plan.in_ram k (omega (arith, none))) (plan.begins x.given k s p) (plan.unpaused s) e in (
+      let path = (serves_walk work (f k) cycle x s plan.silent (plan.awake k s p) (plan.in_ram k (omega (arith, none))) (plan.begins x.given k s p)).passes (plan.unpaused s) e in (
         subst (λ u. Q u) (sym path) (plan.ends x.given (lines_in x.given) cycle k s g p none),
         ap (λ u. u.nvic) path ∙ closed_nvic (lines_in x.given) cycle (passed work (value_in (f k) x.given) s) ∙ ap (nvic.after_cycle (lines_in x.given) cycle) (plan.leaves x.given k s p none),
       )
@@ -208,14 +126,14 @@ module _ (work : Work) (f : ℕ → Beat) (total : ℕ) (last : Exceptions → E
   waited_by : (cycle : ℕ) (x : Served) (k : ℕ) (s : State) → P k s → k < total → ends_in (f k) x ≡ false
       → P k (after_served cycle x s) × ((after_served cycle x s).nvic ≡ nvic.after_cycle (lines_in x.given) cycle s.nvic)
   waited_by cycle x k s p within e =
-      let path = cycle_waits work (f k) cycle x s (plan.awake k s p) (plan.in_ram k within) (plan.begins x.given k s p) e in (
+      let path = (serves_walk work (f k) cycle x s plan.silent (plan.awake k s p) (plan.in_ram k within) (plan.begins x.given k s p)).waits e in (
         subst (λ u. P k u) (sym path) (plan.waits (lines_in x.given) cycle k s p),
         ap (λ u. u.nvic) path ∙ closed_nvic (lines_in x.given) cycle (waiting work s),
       )
 
   wanted_by : (cycle : ℕ) (x : Served) (k : ℕ) (s : State) → P k s → k < total → wanted_in cycle x.given s ≡ want_in (f k)
   wanted_by cycle x k s p within =
-      cycle_wants work (f k) cycle x.given s (plan.awake k s p) (plan.in_ram k within) (plan.begins x.given k s p) plan.silent
+      (serves_walk work (f k) cycle x s plan.silent (plan.awake k s p) (plan.in_ram k within) (plan.begins x.given k s p)).wants
 
   abbrev Comes : ℕ → ℕ → List Served → ℕ → State → Type 0
   Comes k count xs cycle s =
