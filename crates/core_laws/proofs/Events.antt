@@ -1,6 +1,6 @@
 -- When WFE moves on, and where a return faults.
 use Rattle.std.proofs.Common.{◌≡◌, ℕ, ◌^◌, ◌%◌, ◌==◌, ◌&&◌, ◌||◌, not, Bool, true, false, cond, List, [], ◌∷◌, refl, sym, ap, ap₂, subst, ◌∙◌, true≢false, Some, None}
-use Rattle.core_laws.proofs.Shared.{slice_index, Why, Regs, Inner, beats_of, return_of, wakes_of, Lines, answered, Ready, Work, stopped, asks_awake, asks_next, asks_fault, asks_beat, asks_return, locks_last, ends_with, is_locked, want_of, waiting, ended, passed, after_inner, closed, returning, OnlyPendsHardFault, is_bad, is_misfit, State, Given, lines_in, wanted_in}
+use Rattle.core_laws.proofs.Shared.{slice_index, Why, Regs, Inner, beats_of, return_of, wakes_of, Lines, answered, Ready, Work, stopped, asks_awake, asks_next, asks_fault, asks_beat, asks_return, locks_last, ends_with, is_locked, want_of, waiting, ended, passed, after_inner, closed, returning, OnlyPendsHardFault, is_bad, is_misfit, State, Given, lines_in, wanted_in, or_parts}
 use Rattle.rp_base.specs.declared.op.Op.TheVariants as op
 use Rattle.rp_base.specs.declared.Why.TheVariants as why
 use Rattle.m0_nvic.specs.Cycle as nvic
@@ -38,10 +38,6 @@ cleared : (b c : Bool) → ((b && false) || c) ≡ c
 cleared true c = refl
 cleared false c = refl
 
-left_one : (a b : Bool) → (a || b) ≡ false → a ≡ false
-left_one true b h = absurd (true≢false h)
-left_one false b h = refl
-
 leaves : (g : Given) (cycle : ℕ) (s : State) → IsInWfe s → LeavesWfe cycle g s (closed (lines_in g) cycle (ended op.Wfe s))
 unfolding closed ended
 leaves g cycle s in_wfe = record {
@@ -69,7 +65,7 @@ a_wfe_moves_on_at_an_event s cycle g in_wfe =
       λ woken. subst (λ t. LeavesWfe cycle g s t)
           (sym (path ∙ ap (closed (lines_in g) cycle) (paused_by s true in_wfe woken ∙ passed_second op.Wfe wfe_beats s in_wfe.second))) (leaves g cycle s in_wfe),
       λ none. subst (λ t. StaysInWfe cycle g s t)
-          (sym (path ∙ ap (closed (lines_in g) cycle) (paused_by s false in_wfe none))) (stays g cycle s in_wfe (left_one s.event (wakes_of s.nvic) none)),
+          (sym (path ∙ ap (closed (lines_in g) cycle) (paused_by s false in_wfe none))) (stays g cycle s in_wfe (or_parts s.event (wakes_of s.nvic) none).0),
     )
 
 -- ---- a return that faults

@@ -1,17 +1,14 @@
 -- A return gives back what an entry found.
 use Rattle.std.proofs.Common.{◌≡◌, ℕ, zero, suc, ◌+◌, ◌-◌, ◌*◌, ◌/◌, ◌%◌, ◌^◌, ◌<◌, ◌≤◌, ◌≢◌, ◌==◌, ◌&&◌, ◌||◌, ◌⊎◌, not, Bool, true, false, cond, List, [], ◌∷◌, length, refl, sym, ap, ap₂, subst, ◌∙◌, inl, inr, arith, true≢false, lt-ltb}
-use Rattle.core_laws.proofs.Shared.{Option, Some, None, map, max, slice_index, slice_set, bit_and, bit_or, int_lt, bit_at, pow-lt, ltb-true, ne_eqb, nat_tests, get_or-set_same, get_or-set_other, length-set, and-not, and_comm, and_le_l, or_mod, or_disjoint, or_lt, bit_at_or, bit_at-lt, bit_at-pow_same, bit_at-pow_other, and_pow, same_from_bits_below, has_bit, bit_number, Regs, Beat, Inner, is_thread, sp_of, xpsr_of, Exceptions, numbers_from, is_number, is_member, minus, entered, left, rank_of, priority_of, after_cycles, Want, access, is_ram, taken_of, entry_frame, stacked_xpsr, stacked, vector_address, stacking, link_of, entry_beat, with_entry, is_to_process, is_alone, return_frame, is_bad, is_misfit, stacked_number, stack_after, with_five, with_frame, with_return, State, Served, after_all_served, candidates, lines_in, last_lines, ends_in, left_of, want_in, wants_through, lines_of, Stays, entry_beats, HandlerBegins, BeginsReturn, HasFrame, after_leaving, IsBack, IsThere, written, AreThere, IsGivenBack, KeepsTheRest, AReturnGivesBackWhatAnEntryFound, active_before}
+use Rattle.core_laws.proofs.Shared.{Option, Some, None, map, max, slice_index, slice_set, bit_and, bit_or, int_lt, bit_at, pow-lt, ltb-true, ne_eqb, nat_tests, get_or-set_same, get_or-set_other, length-set, and-not, and_comm, and_le_l, or_mod, or_disjoint, or_lt, bit_at_or, bit_at-lt, bit_at-pow_same, bit_at-pow_other, and_pow, same_from_bits_below, has_bit, bit_number, Regs, Beat, Inner, is_thread, sp_of, xpsr_of, Exceptions, numbers_from, is_number, is_member, minus, entered, left, rank_of, priority_of, after_cycles, Want, access, is_ram, taken_of, entry_frame, stacked_xpsr, stacked, vector_address, stacking, link_of, entry_beat, with_entry, is_to_process, is_alone, return_frame, is_bad, is_misfit, stacked_number, stack_after, with_five, with_frame, with_return, State, Served, after_all_served, candidates, lines_in, last_lines, ends_in, left_of, want_in, wants_through, lines_of, Stays, entry_beats, HandlerBegins, BeginsReturn, HasFrame, after_leaving, IsBack, IsThere, written, AreThere, IsGivenBack, KeepsTheRest, AReturnGivesBackWhatAnEntryFound, active_before, and_parts, false_from_ne_true, both_ways, cases_eq, and_self_left}
 use Rattle.std.specs.Int.Bits.{or_zero_r}
 use Rattle.std.proofs.lemmas.Grind.{same_number_lists}
 use Rattle.m0_nvic.specs.Cycle as nvic
 use Rattle.m0_nvic.proofs.Held.{minus_at, pends_behind}
 use Rattle.m0_nvic.proofs.InForce.{the_priority_is_the_least}
 use Rattle.rp_base.specs.declared.Size.TheVariants as sizes
-use Rattle.core_laws.proofs.Taken.{what_is_taken_is_the_least}
-use Rattle.core_laws.proofs.Handlers.{active_cycle, an_entry_takes_its_beats, a_return_takes_its_beats}
-
-contrary : {A : Type 0} (b : Bool) → b ≡ true → b ≡ false → A
-contrary b h i = absurd (true≢false (sym h ∙ i))
+use Rattle.core_laws.proofs.Taken.{what_is_taken_is_the_least, keeps_cycle}
+use Rattle.core_laws.proofs.Handlers.{an_entry_takes_its_beats, a_return_takes_its_beats}
 
 -- ---- the exception that is taken
 
@@ -20,23 +17,15 @@ pub record IsFresh (n : ℕ) (s : State) : Type 0 where
   pub within : n < 48
   pub clear : bit_at s.nvic.active n ≡ 0
 
-both_left : (a b : Bool) → (a && b) ≡ true → a ≡ true
-both_left true b h = refl
-both_left false b h = h
-
-untrue : (b : Bool) → (b ≡ true → ⊥) → b ≡ false
-untrue true h = absurd (h refl)
-untrue false h = refl
-
 pub bit_clear : (x : ℕ) → x < 2 → (x == 1) ≡ false → x ≡ 0
 bit_clear x h e = grind (arith, nat_tests)
 
 pub fresh_of : (n : ℕ) (s : State) → taken_of s ≡ Some n → IsFresh n s
 fresh_of n s taken =
     let h = (what_is_taken_is_the_least s).taken n taken in
-    let number : is_number n ≡ true = both_left (is_number n) (has_bit (candidates s) n) h.0.0 in
+    let number : is_number n ≡ true = (and_parts (is_number n) (has_bit (candidates s) n) h.0.0).0 in
     let p = the_priority_is_the_least s.nvic s.regs.primask in
-    let other : is_member n s.nvic.active ≡ false = untrue (is_member n s.nvic.active) (λ e. contrary (int_lt (rank_of s.nvic n) (priority_of s.nvic s.regs.primask)) h.1 (p.of_active n e)) in
+    let other : is_member n s.nvic.active ≡ false = false_from_ne_true (is_member n s.nvic.active) (λ e. both_ways (int_lt (rank_of s.nvic n) (priority_of s.nvic s.regs.primask)) (p.of_active n e) h.1) in
     record {
       within = ltb-true n 48 number;
       clear = bit_clear (bit_at s.nvic.active n) (bit_at-lt s.nvic.active n) (sym (ap (λ b. b && has_bit s.nvic.active n) number) ∙ other);
@@ -53,21 +42,18 @@ left_active n e h = ap (λ b. (cond b (record e { active = minus e.active (2 ^ n
 
 active_cycles : (cycle : ℕ) (lines : List ℕ) (e : Exceptions) → (after_cycles cycle lines e).active ≡ e.active
 active_cycles cycle [] e = refl
-active_cycles cycle (l ∷ more) e = active_cycles (cycle + 1) more (nvic.after_cycle l cycle e) ∙ active_cycle l cycle e
+active_cycles cycle (l ∷ more) e = active_cycles (cycle + 1) more (nvic.after_cycle l cycle e) ∙ (keeps_cycle l cycle e).active
 
 leaving_active : (n cycle line : ℕ) (lines : List ℕ) (e : Exceptions) → n < 48 → (after_leaving n cycle (line ∷ lines) e).active ≡ minus e.active (2 ^ n)
-leaving_active n cycle line [] e h = active_cycle line cycle (left n e) ∙ left_active n e h
+leaving_active n cycle line [] e h = (keeps_cycle line cycle (left n e)).active ∙ left_active n e h
 leaving_active n cycle line (another ∷ more) e h =
-    leaving_active n (cycle + 1) another more (nvic.after_cycle line cycle e) h ∙ ap (λ a. minus a (2 ^ n)) (active_cycle line cycle e)
+    leaving_active n (cycle + 1) another more (nvic.after_cycle line cycle e) h ∙ ap (λ a. minus a (2 ^ n)) ((keeps_cycle line cycle e).active)
 
 leaving_pends : (i cycle : ℕ) (y : Served) (ys : List Served) (e : Exceptions) → i < 32 → e.active < 2 ^ 64 → has_bit (last_lines (y ∷ ys)) i ≡ true
     → is_member (16 + i) (after_leaving (16 + i) cycle (lines_of (y ∷ ys)) e).pending ≡ true
 leaving_pends i cycle y [] e h fits high = pends_behind i cycle (lines_in y.given) e h fits high
 leaving_pends i cycle y (z ∷ zs) e h fits high =
-    leaving_pends i (cycle + 1) z zs (nvic.after_cycle (lines_in y.given) cycle e) h (omega (arith, active_cycle (lines_in y.given) cycle e, fits)) high
-
-equal_or_not : (m k : ℕ) → (m ≡ k) ⊎ (m ≢ k)
-equal_or_not m k = grind arith
+    leaving_pends i (cycle + 1) z zs (nvic.after_cycle (lines_in y.given) cycle e) h (omega (arith, (keeps_cycle (lines_in y.given) cycle e).active, fits)) high
 
 pow_fits : (k : ℕ) → k < 64 → 2 ^ k < 2 ^ 64
 pow_fits k h = pow-lt h
@@ -77,7 +63,7 @@ taken_out a n fits within clear =
     let one : 2 ^ n < 2 ^ 64 = pow_fits n (omega (arith, within)) in
     let wide : a < 2 ^ 64 = omega (arith, fits) in
     same_from_bits_below 64 (minus (bit_or a (2 ^ n)) (2 ^ n)) a (below (bit_or a (2 ^ n)) (2 ^ n) (or_lt 64 a (2 ^ n) wide one)) wide
-    (λ i low. elim (equal_or_not i n) [
+    (λ i low. elim (cases_eq i n) [
       | inl e ↦ subst (λ (j : ℕ). bit_at (minus (bit_or a (2 ^ n)) (2 ^ n)) j ≡ bit_at a j) (sym e)
           (omega (arith, minus_at (bit_or a (2 ^ n)) (2 ^ n) n one (omega (arith, within)), bit_at-pow_same n, clear))
       | inr e ↦ omega (arith, minus_at (bit_or a (2 ^ n)) (2 ^ n) i one low, bit_at_or a (2 ^ n) i, bit_at-pow_other n i e)
@@ -275,18 +261,6 @@ found n vector r whole =
 
 -- ---- the words that are there
 
-is_empty : Option (List Beat) → Bool
-is_empty (Some []) = true
-is_empty _ = false
-
-none_left : {A : Type 0} (b : Beat) (bs : List Beat) → Some (b ∷ bs) ≡ Some [] → A
-unfolding is_empty
-none_left b bs e = absurd (true≢false (sym (ap is_empty e)))
-
-past : {A : Type 0} → ◌≡◌ {A = Option (List Beat)} None (Some []) → A
-unfolding is_empty
-past e = absurd (true≢false (sym (ap is_empty e)))
-
 -- what is claimed of an index
 abbrev There : (ℕ → Beat) → List Served → ℕ → Type 0
 There f ys j = IsThere (want_in (f j)) (written (want_in (f j))) ys
@@ -301,9 +275,9 @@ there_by f ys false l m ws vs from end over lasts e h j low high = lasts e h j l
 there_of : (f : ℕ → Beat) (ys xs : List Served) (k count : ℕ) → left_of (map f (numbers_from k count)) xs ≡ Some [] → AreThere (wants_through (map f (numbers_from k count)) xs) ys
     → (j : ℕ) → k ≤ j → j < k + count → There f ys j
 there_of f ys [] k zero e h j low high = absurd (omega (arith, low, high))
-there_of f ys [] k (suc c) e h j low high = none_left (f k) (map f (numbers_from (k + 1) c)) e
-there_of f ys (x ∷ xs) k zero e h j low high = past e
-there_of f ys (x ∷ xs) k (suc c) e h j low high = elim (equal_or_not j k) [
+there_of f ys [] k (suc c) e h j low high = absurd (cc)
+there_of f ys (x ∷ xs) k zero e h j low high = absurd (cc)
+there_of f ys (x ∷ xs) k (suc c) e h j low high = elim (cases_eq j k) [
   | inl same ↦ subst (λ (i : ℕ). There f ys i) (sym same) h.0
   | inr other ↦
       there_by f ys (ends_in (f k) x) (left_of (map f (numbers_from (k + 1) c)) xs) (left_of (f k ∷ map f (numbers_from (k + 1) c)) xs)
@@ -394,10 +368,6 @@ and_selection : (thread process : Bool) → (thread ≡ false → process ≡ fa
 and_selection true process h = refl
 and_selection false process h = sym (h refl)
 
-and_twice : (a b : Bool) → (a && (a && b)) ≡ (a && b)
-and_twice true b = refl
-and_twice false b = refl
-
 chosen : (b : Bool) (sp x y : ℕ) → cond b (cond b sp x) (cond b y sp) ≡ sp
 chosen true sp x y = refl
 chosen false sp x y = refl
@@ -444,7 +414,7 @@ given_back r q h long =
       mode = st.number;
       selection = process ∙ and_selection (is_thread r) r.spsel h.selection;
       stack = ap₂ (λ (i : ℕ) b. cond ((i == 0) && b) (back r q).psp (back r q).msp) st.number process
-          ∙ ap (λ b. cond b (back r q).psp (back r q).msp) (and_twice (is_thread r) r.spsel)
+          ∙ ap (λ b. cond b (back r q).psp (back r q).msp) (and_self_left (is_thread r) r.spsel)
           ∙ chosen (uses_process r) (sp_of r) q.psp q.msp;
     }
 
@@ -482,15 +452,15 @@ list_back r q h long rest =
     let f = five_at (stacked r) q.r long in
     let words = with_five (stacked r) q.r in
     same_number_lists words r.r (five_length (stacked r) q.r ∙ long ∙ sym h.thirteen)
-    (λ k within. elim (equal_or_not k 0) [
+    (λ k within. elim (cases_eq k 0) [
       | inl e ↦ subst (λ (i : ℕ). slice_index words i ≡ slice_index r.r i) (sym e) f.at0
-      | inr n0 ↦ elim (equal_or_not k 1) [
+      | inr n0 ↦ elim (cases_eq k 1) [
         | inl e ↦ subst (λ (i : ℕ). slice_index words i ≡ slice_index r.r i) (sym e) f.at1
-        | inr n1 ↦ elim (equal_or_not k 2) [
+        | inr n1 ↦ elim (cases_eq k 2) [
           | inl e ↦ subst (λ (i : ℕ). slice_index words i ≡ slice_index r.r i) (sym e) f.at2
-          | inr n2 ↦ elim (equal_or_not k 3) [
+          | inr n2 ↦ elim (cases_eq k 3) [
             | inl e ↦ subst (λ (i : ℕ). slice_index words i ≡ slice_index r.r i) (sym e) f.at3
-            | inr n3 ↦ elim (equal_or_not k 12) [
+            | inr n3 ↦ elim (cases_eq k 12) [
               | inl e ↦ subst (λ (i : ℕ). slice_index words i ≡ slice_index r.r i) (sym e) f.at12
               | inr n12 ↦
                   let low : 4 ≤ k = omega (arith, n0, n1, n2, n3) in

@@ -1,51 +1,22 @@
 -- An entry takes its beats, and so does a return.
 use Rattle.std.proofs.Common.{◌≡◌, ℕ, ◌+◌, ◌-◌, ◌*◌, ◌%◌, ◌^◌, ◌<◌, ◌≤◌, ◌≢◌, ◌==◌, ◌&&◌, ◌⊎◌, Bool, true, false, cond, List, [], ◌∷◌, ◌++◌, length, refl, sym, ap, ap₂, subst, ◌∙◌, inl, inr, arith, true≢false, lt-ltb, le-ltb}
-use Rattle.core_laws.proofs.Shared.{Option, Some, None, map, nat_lt, slice_index, take, bit_or, ltb-true, ne_eqb, take_more, take_all, length-take-le, Regs, Beat, Inner, access, Exceptions, numbers_from, is_number, minus, entered, left, pended, with_pending, after_cycles, Word, Want, answered, Work, vector_address, stacking, entry_beat, with_entry, entry_ended, taken_first, return_frame, unstacking, return_beat, is_bad, is_misfit, with_return, after_return, return_ended, is_locked, stopped, asks_awake, asks_next, asks_boundary, asks_taken, asks_return, asks_fault, asks_beat, in_beat, with_value, waiting, followed, with_read, passed, passed_entry, passed_return, closed, State, Given, lines_in, Served, after_served, after_all_served, left_of, lines_of, Stays, Takes, HasRoom, AnEntryTakesItsBeats, BeginsReturn, HasFrame, after_leaving, AReturnTakesItsBeats}
+use Rattle.core_laws.proofs.Shared.{Option, Some, None, map, nat_lt, slice_index, take, bit_or, ltb-true, ne_eqb, take_more, take_all, length-take-le, Regs, Beat, Inner, access, Exceptions, numbers_from, is_number, minus, entered, left, pended, with_pending, after_cycles, Word, Want, answered, Work, vector_address, stacking, entry_beat, with_entry, entry_ended, taken_first, return_frame, unstacking, return_beat, is_bad, is_misfit, with_return, after_return, return_ended, is_locked, stopped, asks_awake, asks_next, asks_boundary, asks_taken, asks_return, asks_fault, asks_beat, in_beat, with_value, waiting, followed, with_read, passed, passed_entry, passed_return, closed, State, Given, lines_in, Served, after_served, after_all_served, left_of, lines_of, Stays, Takes, HasRoom, AnEntryTakesItsBeats, BeginsReturn, HasFrame, after_leaving, AReturnTakesItsBeats, cases_eq, cases_lt, and-false, cond_both}
 use Rattle.rp_base.specs.declared.Size.TheVariants as sizes
 use Rattle.m0_nvic.specs.Cycle as nvic
 use Rattle.m0_core.specs.declared.doing.Work.TheVariants as works
 use Rattle.core_laws.specs.Handlers.{IsBetween}
 use Rattle.rp_base.specs.declared.Why.TheVariants as why
 use Rattle.core_laws.proofs.Cycles.{BeginsBeat}
+use Rattle.core_laws.proofs.Taken.{keeps_cycle}
 use Rattle.core_laws.proofs.Walk.{IsInRam, value_in, serves_walk, closed_nvic, after_last, Plan, AllGiven, walk, counted}
 
 -- ---- numbers
 
-equal_or_not : (m k : ℕ) → (m ≡ k) ⊎ (m ≢ k)
-equal_or_not m k = grind arith
-
-below_or_not : (m k : ℕ) → (m < k) ⊎ (k ≤ m)
-below_or_not m k = grind arith
-
-and_false : (b : Bool) → (b && false) ≡ false
-and_false true = refl
-and_false false = refl
-
 after_zero : (k : ℕ) → 0 < k → (k == 0) ≡ false
 after_zero k h = ne_eqb k 0 (λ e. absurd (omega (arith, e, h)))
 
--- ---- what a cycle leaves of the vector table
-
-pub vtor_cycle : (lines cycle : ℕ) (e : Exceptions) → (nvic.after_cycle lines cycle e).vtor ≡ e.vtor
-vtor_cycle lines cycle e = go (nvic.timer_pends cycle e.systick) (nvic.with_timer (nvic.timer_after cycle e.systick) e) refl
-  where
-    go : (b : Bool) (f : Exceptions) → f.vtor ≡ e.vtor → (cond b (with_pending (2 ^ 15) f) f).vtor ≡ e.vtor
-    go true f h = h
-    go false f h = h
-
-pub active_cycle : (lines cycle : ℕ) (e : Exceptions) → (nvic.after_cycle lines cycle e).active ≡ e.active
-active_cycle lines cycle e = go (nvic.timer_pends cycle e.systick) (nvic.with_timer (nvic.timer_after cycle e.systick) e) refl
-  where
-    go : (b : Bool) (f : Exceptions) → f.active ≡ e.active → (cond b (with_pending (2 ^ 15) f) f).active ≡ e.active
-    go true f h = h
-    go false f h = h
-
 vtor_entered : (n : ℕ) (e : Exceptions) → (entered n e).vtor ≡ e.vtor
-vtor_entered n e = go (is_number n)
-  where
-    go : (b : Bool) → (cond b (record e { pending = minus e.pending (2 ^ n); active = bit_or e.active (2 ^ n) }) e).vtor ≡ e.vtor
-    go true = refl
-    go false = refl
+vtor_entered n e = cond_both (is_number n) (record e { pending = minus e.pending (2 ^ n); active = bit_or e.active (2 ^ n) }) e (λ f. f.vtor ≡ e.vtor) (λ h. refl) (λ h. refl)
 
 after_last_none : (cycle : ℕ) (lines : List ℕ) (e : Exceptions) → after_last (λ x. x) cycle lines e ≡ after_cycles cycle lines e
 after_last_none cycle [] e = refl
@@ -127,11 +98,11 @@ abbrev value_at_beat : ℕ → ℕ → Option ℕ
 value_at_beat vector k = cond (k == 0) None (cond (nat_lt k 9) None (cond (k == 9) (Some vector) None))
 
 read_on : (vector k : ℕ) → 0 < k → with_value (vector_read vector k) (value_at_beat vector k) ≡ vector_read vector (k + 1)
-read_on vector k some = elim (below_or_not k 9) [
+read_on vector k some = elim (cases_lt k 9) [
   | inl low ↦ ap₂ (λ a b. with_value (cond a (vector ∷ []) []) (cond b None (cond (nat_lt k 9) None (cond (k == 9) (Some vector) None)))) (le-ltb 9 k (omega (arith, low))) (after_zero k some)
       ∙ ap (λ b. with_value [] (cond b None (cond (k == 9) (Some vector) None))) (lt-ltb k 9 low)
       ∙ sym (ap (λ a. cond a (vector ∷ []) []) (le-ltb 9 (k + 1) (omega (arith, low))))
-  | inr high ↦ elim (equal_or_not k 9) [
+  | inr high ↦ elim (cases_eq k 9) [
     | inl nine ↦ ap (λ (i : ℕ). with_value (vector_read vector i) (value_at_beat vector i)) nine ∙ sym (ap (λ (i : ℕ). vector_read vector (i + 1)) nine)
     | inr other ↦ ap₂ (λ a b. with_value (cond a (vector ∷ []) []) (cond (k == 0) None (cond b None (cond (k == 9) (Some vector) None)))) (lt-ltb 9 k (omega (arith, high, other))) (le-ltb k 9 high)
         ∙ ap₂ (λ a b. with_value (vector ∷ []) (cond a None (cond b (Some vector) None))) (after_zero k some) (ne_eqb k 9 other)
@@ -179,7 +150,7 @@ entry_followed n vector s g lines cycle k u h p = record {
   doing = refl;
   so_far = ap (λ (i : ℕ). i + 1) p.so_far;
   values = entry_values n vector s g k u h p;
-  table = vtor_cycle lines cycle u.nvic ∙ p.table;
+  table = (keeps_cycle lines cycle u.nvic).vtor ∙ p.table;
   started = omega arith;
 }
 
@@ -191,7 +162,7 @@ entry_waits n vector s lines cycle k u p = record {
   doing = refl;
   so_far = p.so_far;
   values = p.values;
-  table = vtor_cycle lines cycle u.nvic ∙ p.table;
+  table = (keeps_cycle lines cycle u.nvic).vtor ∙ p.table;
   started = p.started;
 }
 
@@ -259,7 +230,7 @@ entry_stands n vector lines cycle s at = record {
   doing = refl;
   so_far = ap (λ (i : ℕ). i + 1) at.first;
   values = at.fresh;
-  table = vtor_cycle lines cycle (entered n s.nvic) ∙ vtor_entered n s.nvic;
+  table = (keeps_cycle lines cycle (entered n s.nvic)).vtor ∙ vtor_entered n s.nvic;
   started = omega arith;
 }
 
@@ -323,7 +294,7 @@ return_same value words s k u p =
 -- the exception number fits the mode, so that the last beat does not lock the core up
 unlocked_last : (value : ℕ) (words : List ℕ) (k : ℕ) (locked : Bool) → length words ≡ 8 → is_misfit value (slice_index words 7) ≡ false
     → ((k == 12) && (is_misfit value (slice_index (take (k - 1) words) 7) && locked)) ≡ false
-unlocked_last value words k locked eight fits = elim (equal_or_not k 12) [
+unlocked_last value words k locked eight fits = elim (cases_eq k 12) [
   | inl e ↦ ap (λ (i : ℕ). (i == 12) && (is_misfit value (slice_index (take (i - 1) words) 7) && locked)) e
       ∙ ap (λ (ws : List ℕ). is_misfit value (slice_index ws 7) && locked) (take_all 11 words (omega (arith, eight)))
       ∙ ap (λ b. b && locked) fits
@@ -370,7 +341,7 @@ return_value value words s g h k =
 
 words_on : (words : List ℕ) (k : ℕ) → length words ≡ 8 → 0 < k
     → with_value (take (k - 1) words) (cond (k == 0) None (cond (nat_lt k 9) (Some (slice_index words (k - 1))) None)) ≡ take (k + 1 - 1) words
-words_on words k eight some = elim (below_or_not k 9) [
+words_on words k eight some = elim (cases_lt k 9) [
   | inl low ↦
       let j = k - 1 in
       let next : j + 1 ≡ k + 1 - 1 = omega arith in
@@ -483,7 +454,7 @@ return_plan value words xs s room = record {
 return_first : (value : ℕ) (g : Given) (s : State) → BeginsReturn value s → BeginsBeat (works.Return value) Inner g s
 unfolding asks_awake asks_return asks_beat
 return_first value g s at =
-    let good : ((s.beats_done == 0) && is_bad value s) ≡ false = ap (λ b. (s.beats_done == 0) && b) at.good ∙ and_false (s.beats_done == 0) in
+    let good : ((s.beats_done == 0) && is_bad value s) ≡ false = ap (λ b. (s.beats_done == 0) && b) at.good ∙ and-false (s.beats_done == 0) in
     ap (λ w. answered g.answers (asks_next w s)) at.returns
     ∙ ap (λ b. answered g.answers (cond b (asks_fault s) (cond ((s.beats_done == 12) && (is_misfit value (slice_index s.read 7) && is_locked s)) (stopped (why.Lockup s.number)) (asks_beat (works.Return value) s)))) good
     ∙ ap (λ (i : ℕ). answered g.answers (cond ((i == 12) && (is_misfit value (slice_index s.read 7) && is_locked s)) (stopped (why.Lockup s.number)) (asks_beat (works.Return value) s))) at.first

@@ -5,7 +5,7 @@ use Rattle.rp_base.proofs.Rows.{Kept, keeps}
 use Rattle.m0_nvic.specs.Cycle as nvic
 use Rattle.m0_nvic.specs.Words as words
 use Rattle.core_laws.proofs.GivenBack.{bit_clear}
-use Rattle.core_laws.proofs.Handlers.{active_cycle}
+use Rattle.core_laws.proofs.Taken.{keeps_cycle}
 
 -- ---- numbers
 
@@ -15,10 +15,6 @@ positive_by (suc k) e = omega arith
 
 pub not_zero : (k : ℕ) → 1 ≤ k → (k == 0) ≡ false
 not_zero k h = ne_eqb k 0 (λ e. absurd (omega (arith, h, e)))
-
-pub both_right : (a b : Bool) → (a && b) ≡ true → b ≡ true
-both_right true b h = h
-both_right false b h = absurd (true≢false (sym h))
 
 -- ---- sets of exceptions
 
@@ -50,14 +46,7 @@ pub leaves_called : (op : Op) (e : Exceptions) → Leaves e (called op e)
 leaves_called op e = leaves_either (is_call op) e _ _ (leaves_pended SVCALL e) (leaves_self e)
 
 pub leaves_cycle : (lines cycle : ℕ) (e : Exceptions) → Leaves e (nvic.after_cycle lines cycle e)
-leaves_cycle lines cycle e = record {
-  active = active_cycle lines cycle e;
-  numbered = λ h. ap (is_member 0) (go (nvic.timer_pends cycle e.systick) (nvic.with_timer (nvic.timer_after cycle e.systick) e) refl) ∙ h;
-}
-  where
-    go : (b : Bool) (f : Exceptions) → f.enabled ≡ e.enabled → (cond b (with_pending (2 ^ 15) f) f).enabled ≡ e.enabled
-    go true f h = h
-    go false f h = h
+leaves_cycle lines cycle e = let k = keeps_cycle lines cycle e in record { active = k.active; numbered = λ h. ap (is_member 0) k.enabled ∙ h }
 
 pub clear_of : (set : ℕ) → is_member 0 set ≡ false → bit_at set 0 ≡ 0
 clear_of set h = bit_clear (bit_at set 0) (bit_at-lt set 0) h

@@ -47,10 +47,10 @@ pub use Rattle.rp_base.specs.declared.Request.{Request}
 pub use Rattle.rp_base.specs.declared.Why.{Why}
 pub use Rattle.rp_base.specs.declared.map.Spot.{Spot}
 pub use Rattle.rp_base.specs.declared.op.Op.{Op}
-pub use Rattle.std.proofs.Math.Bool.{and-false, and-true}
+pub use Rattle.std.proofs.Math.Bool.{and-false, and-true, and_self_left}
 pub use Rattle.std.proofs.Math.Pow.{pow-lt}
 pub use Rattle.std.proofs.lemmas.Bool.Decides.{nat_tests}
-pub use Rattle.std.proofs.lemmas.Bool.{eqb-true, ltb-true, ne_eqb, not-false}
+pub use Rattle.std.proofs.lemmas.Bool.{and_parts, both_ways, cases_Bool, cases_eq, cases_lt, cond_both, eqb-true, false_from_ne_true, ltb-true, ne_eqb, not-false, or_parts}
 pub use Rattle.std.proofs.lemmas.List.{drop_all, get_or-set_other, get_or-set_same, length-set, length-take-le, take_all, take_more}
 pub use Rattle.std.proofs.lemmas.Nat.Bits.{and_pow, bit_at-lt, bit_at-pow_other, bit_at-pow_same, bit_at-zero, bit_at_and, bit_at_or, same_from_bits_below}
 pub use Rattle.std.proofs.lemmas.Nat.{and-not, and_comm, and_le_l, or_disjoint, or_lt, or_mod}

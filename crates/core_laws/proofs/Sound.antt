@@ -1,6 +1,6 @@
 -- A core stays sound.
 use Rattle.std.proofs.Common.{◌≡◌, ◌∙◌, ℕ, zero, suc, ◌+◌, ◌-◌, ◌*◌, ◌/◌, ◌%◌, ◌^◌, ◌<◌, ◌≤◌, ◌==◌, ◌&&◌, ◌||◌, ◌⊎◌, not, Bool, true, false, cond, List, length, refl, sym, ap, ap₂, subst, inl, inr, arith, true≢false, lt-ltb, ltb-true, ltb-false, nat_lt}
-use Rattle.core_laws.proofs.Shared.{Option, Some, None, bit_and, bit_or, slice_get, slice_index, bit_at, eqb-true, and_le_l, or_mod, or_lt, bit_at_and, bit_at_or, bit_at-lt, bit_at-zero, bit_at-pow_same, pow-lt, Request, Spot, Op, master_of, word_written, place_of, has_bit, begins_long, operation_of, Regs, Beat, Inner, Access, is_thread, access, beats_of, effect_of, return_of, HARDFAULT, Exceptions, is_number, is_member, minus, pended, entered, left, Ask, Lines, Half, Asking, answered, Ready, Question, Act, Work, is_breakpoint, entry_frame, stacked, vector_address, stacking, entry_beat, entry_ended, taken_first, is_to_handler, is_to_process, is_to_thread, is_alone, is_bad, is_misfit, stacked_number, return_frame, unstacking, return_beat, stack_after, with_frame, with_return, after_return, return_ended, private_value, stopped, is_locked, is_ram, is_faulty, in_beat, in_ram, at_spot, asks_beat, asks_fault, locks_last, asks_return, asks_decoded, asks_half, asks_second, asks_first, taken_of, asks_taken, asks_boundary, asks_next, asks_awake, asks, ends_with, carried, with_read, waiting, followed, returning, called, ended, passed, passed_instruction, passed_entry, passed_return, is_paused, after_inner, faulted, done_word, value_of, after_access, after_outward, after_private, closed, next, State, begun_from, AreRegisters, IsUnderWay, IsFormed, active_before, Agrees, FrameFits, KeepsSound, ACoreStaysSound, candidates}
+use Rattle.core_laws.proofs.Shared.{Option, Some, None, bit_and, bit_or, slice_get, slice_index, bit_at, eqb-true, and_le_l, or_mod, or_lt, bit_at_and, bit_at_or, bit_at-lt, bit_at-zero, bit_at-pow_same, pow-lt, Request, Spot, Op, master_of, word_written, place_of, has_bit, begins_long, operation_of, Regs, Beat, Inner, Access, is_thread, access, beats_of, effect_of, return_of, HARDFAULT, Exceptions, is_number, is_member, minus, pended, entered, left, Ask, Lines, Half, Asking, answered, Ready, Question, Act, Work, is_breakpoint, entry_frame, stacked, vector_address, stacking, entry_beat, entry_ended, taken_first, is_to_handler, is_to_process, is_to_thread, is_alone, is_bad, is_misfit, stacked_number, return_frame, unstacking, return_beat, stack_after, with_frame, with_return, after_return, return_ended, private_value, stopped, is_locked, is_ram, is_faulty, in_beat, in_ram, at_spot, asks_beat, asks_fault, locks_last, asks_return, asks_decoded, asks_half, asks_second, asks_first, taken_of, asks_taken, asks_boundary, asks_next, asks_awake, asks, ends_with, carried, with_read, waiting, followed, returning, called, ended, passed, passed_instruction, passed_entry, passed_return, is_paused, after_inner, faulted, done_word, value_of, after_access, after_outward, after_private, closed, next, State, begun_from, AreRegisters, IsUnderWay, IsFormed, active_before, Agrees, FrameFits, KeepsSound, ACoreStaysSound, candidates, and_parts, cond_both, not-false}
 use Rattle.rp_base.specs.declared.Size.{Size}
 use Rattle.rp_base.specs.declared.Size.TheVariants as sizes
 use Rattle.rp_base.specs.declared.map.Spot.TheVariants as spot
@@ -12,7 +12,7 @@ use Rattle.m0_core.specs.declared.doing.Act.TheVariants as act
 use Rattle.m0_core.specs.declared.doing.Work.TheVariants as works
 use Rattle.m0_core.specs.ExcReturn.{TO_HANDLER, TO_PROCESS}
 use Rattle.core_laws.proofs.Keeping.{Keeps, keeps_effect, quarters, halves, sp_set}
-use Rattle.core_laws.proofs.Sets.{positive_by, not_zero, both_right, Leaves, leaves_either, leaves_self, leaves_pended, leaves_called, leaves_cycle, clear_of, leaves_effect}
+use Rattle.core_laws.proofs.Sets.{positive_by, not_zero, Leaves, leaves_either, leaves_self, leaves_pended, leaves_called, leaves_cycle, clear_of, leaves_effect}
 use Rattle.core_laws.proofs.Taken.{what_is_taken_is_the_least}
 use Rattle.core_laws.proofs.GivenBack.{IsFresh, fresh_of, entered_active, left_active, taken_out, five_length}
 
@@ -26,25 +26,14 @@ left_same n e f h = go (is_number n)
     go false = h
 
 left_fits : (n : ℕ) (e : Exceptions) → e.active < 2 ^ 48 → (left n e).active < 2 ^ 48
-left_fits n e h = go (is_number n)
-  where
-    go : (b : Bool) → (cond b (record e { active = minus e.active (2 ^ n) }) e).active < 2 ^ 48
-    go true = omega (arith, and_le_l e.active (2 ^ 64 - 1 - 2 ^ n), h)
-    go false = h
+left_fits n e h =
+    cond_both (is_number n) (record e { active = minus e.active (2 ^ n) }) e (λ f. f.active < 2 ^ 48) (λ _. omega (arith, and_le_l e.active (2 ^ 64 - 1 - 2 ^ n), h)) (λ _. h)
 
 left_enabled : (n : ℕ) (e : Exceptions) → (left n e).enabled ≡ e.enabled
-left_enabled n e = go (is_number n)
-  where
-    go : (b : Bool) → (cond b (record e { active = minus e.active (2 ^ n) }) e).enabled ≡ e.enabled
-    go true = refl
-    go false = refl
+left_enabled n e = cond_both (is_number n) (record e { active = minus e.active (2 ^ n) }) e (λ f. f.enabled ≡ e.enabled) (λ h. refl) (λ h. refl)
 
 entered_enabled : (n : ℕ) (e : Exceptions) → (entered n e).enabled ≡ e.enabled
-entered_enabled n e = go (is_number n)
-  where
-    go : (b : Bool) → (cond b (record e { pending = minus e.pending (2 ^ n); active = bit_or e.active (2 ^ n) }) e).enabled ≡ e.enabled
-    go true = refl
-    go false = refl
+entered_enabled n e = cond_both (is_number n) (record e { pending = minus e.pending (2 ^ n); active = bit_or e.active (2 ^ n) }) e (λ f. f.enabled ≡ e.enabled) (λ h. refl) (λ h. refl)
 
 member_entered : (n : ℕ) (e : Exceptions) → n < 48 → is_member n (entered n e).active ≡ true
 member_entered n e h =
@@ -52,7 +41,7 @@ member_entered n e h =
     ap₂ (λ (x : Bool) (a : ℕ). x && has_bit a n) (lt-ltb n 48 h) (entered_active n e h) ∙ ap (λ (x : ℕ). x == 1) one
 
 member_positive : (n a : ℕ) → is_member n a ≡ true → 1 ≤ a
-member_positive n zero h = absurd (true≢false (sym (both_right (is_number n) (has_bit 0 n) h) ∙ ap (λ (x : ℕ). x == 1) (bit_at-zero n)))
+member_positive n zero h = absurd (true≢false (sym (and_parts (is_number n) (has_bit 0 n) h).1 ∙ ap (λ (x : ℕ). x == 1) (bit_at-zero n)))
 member_positive n (suc a) h = omega arith
 
 left_entered : (n : ℕ) (s : State) → s.nvic.active < 2 ^ 48 → IsFresh n s → (left n (entered n s.nvic)).active ≡ s.nvic.active
@@ -72,7 +61,7 @@ numbered_from (suc n) p e h none = omega arith
 taken_numbered : (n : ℕ) (s : State) → taken_of s ≡ Some n → is_member 0 s.nvic.enabled ≡ false → 1 ≤ n
 taken_numbered n s taken none =
     let h = (what_is_taken_is_the_least s).taken n taken in
-    numbered_from n s.nvic.pending s.nvic.enabled (both_right (is_number n) (has_bit (candidates s) n) h.0.0) none
+    numbered_from n s.nvic.pending s.nvic.enabled (and_parts (is_number n) (has_bit (candidates s) n) h.0.0).1 none
 
 -- ---- what is in progress
 
@@ -509,28 +498,16 @@ back_registers v words r h = go (is_to_process v)
 
 back_number : (v : ℕ) (words : List ℕ) (r : Regs) → (with_return v words r).ipsr ≡ stacked_number (slice_index words 7)
 unfolding with_return
-back_number v words r = go (is_to_process v) (stack_after (return_frame v r) (slice_index words 7))
-  where
-    go : (b : Bool) (sp : ℕ) → (cond b (record (with_frame v words r) { psp = sp }) (record (with_frame v words r) { msp = sp })).ipsr ≡ stacked_number (slice_index words 7)
-    go true sp = refl
-    go false sp = refl
+back_number v words r = cond_both (is_to_process v) _ _ (λ (t : Regs). t.ipsr ≡ stacked_number (slice_index words 7)) (λ h. refl) (λ h. refl)
 
 back_selection : (v : ℕ) (words : List ℕ) (r : Regs) → (with_return v words r).spsel ≡ is_to_process v
 unfolding with_return
-back_selection v words r = go (is_to_process v) (stack_after (return_frame v r) (slice_index words 7))
-  where
-    go : (b : Bool) (sp : ℕ) → (cond b (record (with_frame v words r) { psp = sp }) (record (with_frame v words r) { msp = sp })).spsel ≡ is_to_process v
-    go true sp = refl
-    go false sp = refl
+back_selection v words r = cond_both (is_to_process v) _ _ (λ (t : Regs). t.spsel ≡ is_to_process v) (λ h. refl) (λ h. refl)
 
 -- the value and the frame fit, so mode and active exceptions agree
 modes_agree : (to_handler to_thread alone nought : Bool) → cond to_handler alone (cond to_thread (not alone) true) ≡ false → cond to_handler nought (not nought) ≡ false → nought ≡ alone
 modes_agree true to_thread alone nought good fits = fits ∙ sym good
-modes_agree false true alone true good fits = unturned alone good
-  where
-    unturned : (b : Bool) → not b ≡ false → true ≡ b
-    unturned true h = refl
-    unturned false h = absurd (true≢false h)
+modes_agree false true alone true good fits = sym (not-false alone good)
 modes_agree false true alone false good fits = absurd (true≢false fits)
 modes_agree false false alone nought good fits = absurd (true≢false good)
 

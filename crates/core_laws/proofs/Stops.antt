@@ -1,6 +1,6 @@
 -- A core stops at its causes, and where it stops there is one.
 use Rattle.std.proofs.Common.{◌≡◌, ℕ, ◌+◌, ◌-◌, ◌%◌, ◌^◌, ◌==◌, ◌&&◌, Bool, true, false, cond, refl, sym, ap, ap₂, subst, ◌∙◌, true≢false, Option, Some, None, arith}
-use Rattle.core_laws.proofs.Shared.{slice_index, nat_lt, nat_tests, Request, Why, Spot, Op, master_of, word_written, place_of, begins_long, operation_of, Beat, Inner, Access, is_allowed, Ask, Lines, Half, Want, Asking, answered, Ready, Question, Act, Work, is_breakpoint, stopped, asks, asks_awake, asks_next, asks_boundary, asks_taken, asks_first, asks_half, asks_second, asks_decoded, asks_fault, asks_beat, asks_return, asks_work, beat_of_work, in_beat, in_ram, at_spot, locks_last, carried, ends_with, is_ram, is_faulty, is_locked, taken_of, signals, want_of, want_of_act, is_bad, is_misfit, return_beat, unstacking, State, Given, wanted_in, is_stop, half_at, IsEncoded}
+use Rattle.core_laws.proofs.Shared.{slice_index, nat_lt, nat_tests, Request, Why, Spot, Op, master_of, word_written, place_of, begins_long, operation_of, Beat, Inner, Access, is_allowed, Ask, Lines, Half, Want, Asking, answered, Ready, Question, Act, Work, is_breakpoint, stopped, asks, asks_awake, asks_next, asks_boundary, asks_taken, asks_first, asks_half, asks_second, asks_decoded, asks_fault, asks_beat, asks_return, asks_work, beat_of_work, in_beat, in_ram, at_spot, locks_last, carried, ends_with, is_ram, is_faulty, is_locked, taken_of, signals, want_of, want_of_act, is_bad, is_misfit, return_beat, unstacking, State, Given, wanted_in, is_stop, half_at, IsEncoded, and_parts, eqb-true}
 use Rattle.rp_base.specs.declared.Why.TheVariants as why
 use Rattle.rp_base.specs.declared.map.Spot.TheVariants as spot
 use Rattle.lane_look.specs.declared.lane.Want.TheVariants as want
@@ -114,18 +114,6 @@ taken_by : (f : Ask → ℕ) (s : State) (c : Why) (t : Option ℕ) → s.work �
 taken_by f s c None none e h = first_by f s c (none, e) h
 taken_by f s c (Some n) none e h = work_by f s c (works.Entry n) (enters n none e) h
 
--- a conjunction holds where both sides do
-first_of : (a b : Bool) → (a && b) ≡ true → a ≡ true
-first_of true b h = refl
-first_of false b h = absurd (true≢false (sym h))
-
-second_of : (a b : Bool) → (a && b) ≡ true → b ≡ true
-second_of true b h = h
-second_of false b h = absurd (true≢false (sym h))
-
-is_number : (a b : ℕ) → (a == b) ≡ true → a ≡ b
-is_number a b h = grind (arith, nat_tests, h)
-
 return_by : (f : Ask → ℕ) (s : State) (c : Why) (value : ℕ) → s.work ≡ Some (works.Return value) → wants f (asks_return value s) ≡ want.Stopped c → StopsBy f s c
 unfolding asks_return
 return_by f s c value e h = go (s.beats_done == 0 && is_bad value s) refl h
@@ -133,9 +121,9 @@ return_by f s c value e h = go (s.beats_done == 0 && is_bad value s) refl h
     last : (b : Bool) → locks_last value s ≡ b → wants f (cond b (stopped (why.Lockup s.number)) (asks_beat (works.Return value) s)) ≡ want.Stopped c → StopsBy f s c
     last true l h =
         is_by f s _ c h
-        (misfit_return value e (is_number s.beats_done 12 (first_of (s.beats_done == 12) _ l))
-        (first_of (is_misfit value (slice_index s.read 7)) (is_locked s) (second_of (s.beats_done == 12) _ l))
-        (second_of (is_misfit value (slice_index s.read 7)) (is_locked s) (second_of (s.beats_done == 12) _ l)))
+        (misfit_return value e (eqb-true s.beats_done 12 (and_parts (s.beats_done == 12) _ l).0)
+        (and_parts (is_misfit value (slice_index s.read 7)) (is_locked s) (and_parts (s.beats_done == 12) _ l).1).0
+        (and_parts (is_misfit value (slice_index s.read 7)) (is_locked s) (and_parts (s.beats_done == 12) _ l).1).1)
     last false l h = work_by f s c (works.Return value) (goes_on (works.Return value) e) h
 
     go : (b : Bool) → (s.beats_done == 0 && is_bad value s) ≡ b
@@ -143,7 +131,7 @@ return_by f s c value e h = go (s.beats_done == 0 && is_bad value s) refl h
         → StopsBy f s c
     go true b h =
         fault_by f s c
-        (λ locked. bad_return value e (is_number s.beats_done 0 (first_of (s.beats_done == 0) _ b)) (second_of (s.beats_done == 0) _ b) locked) h
+        (λ locked. bad_return value e (eqb-true s.beats_done 0 (and_parts (s.beats_done == 0) _ b).0) (and_parts (s.beats_done == 0) _ b).1 locked) h
     go false b h = last (locks_last value s) refl h
 
 next_by : (f : Ask → ℕ) (s : State) (c : Why) (w : Option Work) → s.work ≡ w → wants f (asks_next w s) ≡ want.Stopped c → StopsBy f s c
@@ -237,7 +225,7 @@ not_last : (s : State) (value : ℕ) (request : Request) (b : Bool) → (s.beats
     → (b && (is_misfit value (slice_index s.read 7) && is_locked s)) ≡ false
 unfolding return_beat
 not_last s value request true e h =
-    no_access request (sym (ap (λ (k : ℕ). cond (k == 0) Inner (cond (nat_lt k 9) (unstacking value (k - 1) s.regs) Inner)) (is_number s.beats_done 12 e)) ∙ h)
+    no_access request (sym (ap (λ (k : ℕ). cond (k == 0) Inner (cond (nat_lt k 9) (unstacking value (k - 1) s.regs) Inner)) (eqb-true s.beats_done 12 e)) ∙ h)
 not_last s value request false e h = refl
 
 on_any : (f : Ask → ℕ) (s : State) (work : Work) (request : Request) → s.work ≡ Some work → beat_of_work work s ≡ Access request

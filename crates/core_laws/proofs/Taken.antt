@@ -1,6 +1,6 @@
 -- What is taken, what a fault leaves, and when WFI moves on.
 use Rattle.std.proofs.Common.{◌≡◌, ℕ, ◌+◌, ◌^◌, ◌==◌, ◌&&◌, ◌||◌, not, Bool, true, false, cond, List, [], ◌∷◌, length, refl, sym, ap, ap₂, subst, ◌<◌, ◌∙◌, inl, inr, ◌⊎◌, ℤ, pos, negsuc, arith, true≢false, Option, Some, None}
-use Rattle.core_laws.proofs.Shared.{Beat, slice_get, slice_index, int_lt, bit_and, bit_or, nat_lt, max, min, bit_at, int_min, bit_at_or, bit_at_and, bit_at-lt, nat_tests, Op, has_bit, Regs, Inner, beats_of, return_of, Exceptions, is_member, members, pended, with_pending, rank_of, precedes, nearer, least, least_of, IsLeast, best_of, rank_or_none, active_priority, priority_of, comes_before, wakes_of, answered, Ready, Work, stopped, asks_awake, asks_next, asks_boundary, asks_taken, asks_decoded, asks_fault, asks_beat, ends_with, is_faulty, is_locked, taken_of, waiting, followed, ended, passed, passed_instruction, after_inner, faulted, closed, returning, State, Given, lines_in, after_cycle, IsAtBoundary, IsFetched, candidates, comes_in, WhatIsTakenIsTheLeast, Faults, OnlyPendsHardFault, AFaultPendsHardFaultAlone, IsInWfi, StaysInWfi, LeavesWfi, AWfiMovesOnWhereAnExceptionWakes}
+use Rattle.core_laws.proofs.Shared.{Beat, slice_get, slice_index, int_lt, bit_and, bit_or, nat_lt, max, min, bit_at, int_min, bit_at_or, bit_at_and, bit_at-lt, nat_tests, Op, has_bit, Regs, Inner, beats_of, return_of, Exceptions, is_member, members, pended, with_pending, rank_of, precedes, nearer, least, least_of, IsLeast, best_of, rank_or_none, active_priority, priority_of, comes_before, wakes_of, answered, Ready, Work, stopped, asks_awake, asks_next, asks_boundary, asks_taken, asks_decoded, asks_fault, asks_beat, ends_with, is_faulty, is_locked, taken_of, waiting, followed, ended, passed, passed_instruction, after_inner, faulted, closed, returning, State, Given, lines_in, after_cycle, IsAtBoundary, IsFetched, candidates, comes_in, WhatIsTakenIsTheLeast, Faults, OnlyPendsHardFault, AFaultPendsHardFaultAlone, IsInWfi, StaysInWfi, LeavesWfi, AWfiMovesOnWhereAnExceptionWakes, both_ways, or_parts, eqb-true}
 use Rattle.std.specs.Ordering.{int_eq}
 use Rattle.std.proofs.lemmas.Int.{ints}
 use Rattle.rp_base.specs.declared.op.Op.TheVariants as op
@@ -14,33 +14,6 @@ use Rattle.core_laws.proofs.TakesBeats.{begins_on, begins_at, begins_first}
 
 -- ---- what is taken
 
-contrary : {A : Type 0} (b : Bool) → b ≡ true → b ≡ false → A
-contrary b h i = absurd (true≢false (sym h ∙ i))
-
-neither : (a b : Bool) → (a || b) ≡ false → a ≡ false
-neither true b h = h
-neither false b h = refl
-
-is_none : Option ℕ → Bool
-is_none None = true
-is_none (Some n) = false
-
-not_some : {A : Type 0} (n : ℕ) → None ≡ Some n → A
-unfolding is_none
-not_some n e = absurd (true≢false (ap is_none e))
-
-not_none : {A : Type 0} (n : ℕ) → Some n ≡ None → A
-unfolding is_none
-not_none n e = absurd (true≢false (ap is_none (sym e)))
-
-or_zero : Option ℕ → ℕ
-or_zero None = 0
-or_zero (Some n) = n
-
-some_same : (m n : ℕ) → Some m ≡ Some n → m ≡ n
-unfolding or_zero
-some_same m n e = ap or_zero e
-
 not_below : (a b c : ℤ) → int_lt a b ≡ false → int_lt b c ≡ false → int_lt a c ≡ false
 not_below a b c h i = grind (arith, ints, nat_tests)
 
@@ -51,18 +24,18 @@ record Taken (s : State) (o : Option ℕ) (taken : Option ℕ) : Type 0 where
 
 taken_best : (s : State) (m : ℕ) (b : Bool) → comes_in s m ≡ b → IsLeast s.nvic (candidates s) (Some m) → Taken s (Some m) (cond b (Some m) None)
 taken_best s m true e h = record {
-  some = λ n q. subst (λ k. IsLeast s.nvic (candidates s) (Some k) × (comes_in s k ≡ true)) (some_same m n q) (h, e);
-  none = λ q. not_none m q;
+  some = λ n q. subst (λ k. IsLeast s.nvic (candidates s) (Some k) × (comes_in s k ≡ true)) (cc) (h, e);
+  none = λ q. absurd (cc);
 }
 taken_best s m false e h = record {
-  some = λ n q. not_some n q;
-  none = λ q n member. not_below (rank_of s.nvic n) (rank_of s.nvic m) _ (neither (int_lt (rank_of s.nvic n) (rank_of s.nvic m)) _ (h.1 n member)) e;
+  some = λ n q. absurd (cc);
+  none = λ q n member. not_below (rank_of s.nvic n) (rank_of s.nvic m) _ (or_parts (int_lt (rank_of s.nvic n) (rank_of s.nvic m)) _ (h.1 n member)).0 e;
 }
 
 taken_least : (s : State) (o : Option ℕ) → IsLeast s.nvic (candidates s) o → Taken s o (cond (comes_before s.nvic (priority_of s.nvic s.regs.primask) o) o None)
 taken_least s None h = record {
-  some = λ n q. not_some n q;
-  none = λ q n member. contrary (is_member n (candidates s)) member (h n);
+  some = λ n q. absurd (cc);
+  none = λ q n member. absurd (both_ways (is_member n (candidates s)) (h n) member);
 }
 taken_least s (Some m) h = taken_best s m (comes_in s m) refl h
 
@@ -73,9 +46,6 @@ what_is_taken_is_the_least s =
     record { taken = h.some; untaken = h.none }
 
 -- ---- bits
-
-eq_one : (x : ℕ) → (x == 1) ≡ true → x ≡ 1
-eq_one x h = grind (arith, nat_tests)
 
 below_two : (x : ℕ) → x < 2 → (x ≡ 0) ⊎ (x ≡ 1)
 below_two x h = grind arith
@@ -88,34 +58,35 @@ one_right x h = elim (below_two x h) [ inl e ↦ rw e refl | inr e ↦ rw e refl
 
 bit_left : (a b k : ℕ) → has_bit a k ≡ true → has_bit (bit_or a b) k ≡ true
 bit_left a b k h =
-    ap (λ x. x == 1) (bit_at_or a b k ∙ ap (λ x. max x (bit_at b k)) (eq_one (bit_at a k) h)) ∙ one_left (bit_at b k) (bit_at-lt b k)
+    ap (λ x. x == 1) (bit_at_or a b k ∙ ap (λ x. max x (bit_at b k)) (eqb-true (bit_at a k) 1 h)) ∙ one_left (bit_at b k) (bit_at-lt b k)
 
 bit_right : (a b k : ℕ) → has_bit b k ≡ true → has_bit (bit_or a b) k ≡ true
 bit_right a b k h =
-    ap (λ x. x == 1) (bit_at_or a b k ∙ ap (λ x. max (bit_at a k) x) (eq_one (bit_at b k) h)) ∙ one_right (bit_at a k) (bit_at-lt a k)
+    ap (λ x. x == 1) (bit_at_or a b k ∙ ap (λ x. max (bit_at a k) x) (eqb-true (bit_at b k) 1 h)) ∙ one_right (bit_at a k) (bit_at-lt a k)
 
 bit_both : (a b k : ℕ) → has_bit a k ≡ true → has_bit b k ≡ true → has_bit (bit_and a b) k ≡ true
 bit_both a b k h i =
-    ap (λ x. x == 1) (bit_at_and a b k ∙ ap₂ (λ x y. min x y) (eq_one (bit_at a k) h) (eq_one (bit_at b k) i))
+    ap (λ x. x == 1) (bit_at_and a b k ∙ ap₂ (λ x y. min x y) (eqb-true (bit_at a k) 1 h) (eqb-true (bit_at b k) 1 i))
 
 -- ---- what the end of a cycle keeps of the exceptions
 
-record Keeps (e f : Exceptions) : Type 0 where
-  active : f.active ≡ e.active
-  enabled : f.enabled ≡ e.enabled
-  priorities : f.priorities ≡ e.priorities
-  pending : (n : ℕ) → has_bit e.pending n ≡ true → has_bit f.pending n ≡ true
+pub record Keeps (e f : Exceptions) : Type 0 where
+  pub active : f.active ≡ e.active
+  pub enabled : f.enabled ≡ e.enabled
+  pub priorities : f.priorities ≡ e.priorities
+  pub vtor : f.vtor ≡ e.vtor
+  pub pending : (n : ℕ) → has_bit e.pending n ≡ true → has_bit f.pending n ≡ true
 
 keeps_pended : (n : ℕ) (b : Bool) (e : Exceptions) → Keeps e (cond b (with_pending (2 ^ n) e) e)
-keeps_pended n true e = record { active = refl; enabled = refl; priorities = refl; pending = λ k h. bit_left e.pending (2 ^ n) k h }
-keeps_pended n false e = record { active = refl; enabled = refl; priorities = refl; pending = λ k h. h }
+keeps_pended n true e = record { active = refl; enabled = refl; priorities = refl; vtor = refl; pending = λ k h. bit_left e.pending (2 ^ n) k h }
+keeps_pended n false e = record { active = refl; enabled = refl; priorities = refl; vtor = refl; pending = λ k h. h }
 
 keeps_timer : (cycle : ℕ) (e : Exceptions) → Keeps e (nvic.after_timer cycle e)
 keeps_timer cycle e =
     let k = keeps_pended 15 (nvic.timer_pends cycle e.systick) (nvic.with_timer (nvic.timer_after cycle e.systick) e) in
-    record { active = k.active; enabled = k.enabled; priorities = k.priorities; pending = k.pending }
+    record { active = k.active; enabled = k.enabled; priorities = k.priorities; vtor = k.vtor; pending = k.pending }
 
-keeps_cycle : (lines cycle : ℕ) (e : Exceptions) → Keeps e (nvic.after_cycle lines cycle e)
+pub keeps_cycle : (lines cycle : ℕ) (e : Exceptions) → Keeps e (nvic.after_cycle lines cycle e)
 keeps_cycle lines cycle e =
     let k = keeps_timer cycle e in
     let f = nvic.after_timer cycle e in
@@ -123,6 +94,7 @@ keeps_cycle lines cycle e =
       active = k.active;
       enabled = k.enabled;
       priorities = k.priorities;
+      vtor = k.vtor;
       pending = λ n h. bit_left f.pending (nvic.risen lines f) n (k.pending n h);
     }
 
@@ -173,7 +145,7 @@ two_or_three f m h =
       | inl two ↦ inr two
       | inr other ↦ elim (equal_or_not m 3) [
         | inl three ↦ inl three
-        | inr more ↦ contrary (precedes f 3 m) (first_but_two f m other more) h
+        | inr more ↦ absurd (both_ways (precedes f 3 m) h (first_but_two f m other more))
       ]
     ]
 
@@ -187,7 +159,7 @@ above_two (negsuc k) h = absurd (true≢false h)
 
 fault_taken : (f : Exceptions) (p : ℤ) (set : ℕ) (o : Option ℕ) → IsLeast f set o → is_member 3 set ≡ true → int_lt p (pos 0) ≡ false
     → (cond (comes_before f p o) o None ≡ Some 3) ⊎ (cond (comes_before f p o) o None ≡ Some 2)
-fault_taken f p set None h member unlocked = contrary (is_member 3 set) member (h 3)
+fault_taken f p set None h member unlocked = absurd (both_ways (is_member 3 set) (h 3) member)
 fault_taken f p set (Some m) h member unlocked =
     elim (two_or_three f m (h.1 3 member)) [
       | inl e ↦ inl (ap (λ k. cond (int_lt (rank_of f k) p) (Some k) None) e ∙ ap (λ b. cond b (Some 3) None) (above_one p unlocked))

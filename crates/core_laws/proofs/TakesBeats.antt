@@ -1,6 +1,6 @@
 -- An instruction takes its beats: one cycle, then all of them, also where its accesses wait.
 use Rattle.std.proofs.Common.{◌≡◌, ℕ, zero, suc, ◌+◌, ◌%◌, ◌^◌, ◌<◌, ◌≤◌, ◌==◌, ◌&&◌, ◌||◌, ◌⊎◌, inl, inr, not, Bool, true, false, cond, List, [], ◌∷◌, ◌++◌, length, refl, sym, ap, ap₂, subst, ◌∙◌, arith, append_assoc, append-nil, length-append, true≢false, lt-ltb, le-ltb}
-use Rattle.core_laws.proofs.Shared.{Option, Some, None, option_to_list, map, slice_get, unwrap_or, nat_lt, Request, Spot, Op, place_of, begins_long, operation_of, Regs, Beat, Inner, Access, beats_of, effect_of, return_of, Exceptions, wakes_of, Half, answered, Question, awaits_event, awaits_interrupt, master_of, stopped, asks_awake, asks_next, asks_boundary, asks_taken, asks_first, asks_half, asks_second, asks_decoded, asks_fault, asks_beat, beat_of, in_beat, is_faulty, with_value, waiting, returning, called, ended, passed_instruction, passed, is_paused_op, closed, State, Given, lines_in, touched_by, changed_by, exceptions_in, event_in, wanted_in, after_cycle, is_stop, GoesOn, want_at, want_of_beat, wants_in, read_at, read_in, reads_in, IsAtBoundary, half_at, IsEncoded, IsFetched, IsPlain, is_access, and-true, and-false, drop_all, drop, list_any, is_signal, Served, after_served, after_all_served, GoesOnServed, wants_served, wants_of_beats, exceptions_served, event_served, is_over, left_after, reads_served, IsInProgress, IsOver, is_refused, AnInstructionTakesItsBeats, AnInstructionTakesItsBeatsAndWaits}
+use Rattle.core_laws.proofs.Shared.{Option, Some, None, option_to_list, map, slice_get, unwrap_or, nat_lt, Request, Spot, Op, place_of, begins_long, operation_of, Regs, Beat, Inner, Access, beats_of, effect_of, return_of, Exceptions, wakes_of, Half, answered, Question, awaits_event, awaits_interrupt, master_of, stopped, asks_awake, asks_next, asks_boundary, asks_taken, asks_first, asks_half, asks_second, asks_decoded, asks_fault, asks_beat, beat_of, in_beat, is_faulty, with_value, waiting, returning, called, ended, passed_instruction, passed, is_paused_op, closed, State, Given, lines_in, touched_by, changed_by, exceptions_in, event_in, wanted_in, after_cycle, is_stop, GoesOn, want_at, want_of_beat, wants_in, read_at, read_in, reads_in, IsAtBoundary, half_at, IsEncoded, IsFetched, IsPlain, is_access, and-true, and-false, drop_all, drop, list_any, is_signal, Served, after_served, after_all_served, GoesOnServed, wants_served, wants_of_beats, exceptions_served, event_served, is_over, left_after, reads_served, IsInProgress, IsOver, is_refused, AnInstructionTakesItsBeats, AnInstructionTakesItsBeatsAndWaits, or_parts, cases_Bool}
 use Rattle.rp_base.specs.declared.map.Spot.TheVariants as spot
 use Rattle.rp_base.specs.declared.Why.TheVariants as why
 use Rattle.m0_nvic.specs.Cycle as nvic
@@ -75,18 +75,6 @@ reads_beat (Access request) g s = reads_access (place_of request.address) reques
 at_index : (xs : List Beat) (b : Beat) (ys : List Beat) → slice_get (xs ++ b ∷ ys) (length xs) ≡ Some b
 at_index [] b ys = refl
 at_index (x ∷ xs) b ys = at_index xs b ys
-
-head_of : (a b : Bool) → (a || b) ≡ false → a ≡ false
-head_of true b h = h
-head_of false b h = refl
-
-tail_of : (a b : Bool) → (a || b) ≡ false → b ≡ false
-tail_of true b h = absurd (true≢false h)
-tail_of false b h = h
-
-over_or_not : (b : Bool) → (b ≡ true) ⊎ (b ≡ false)
-over_or_not true = inl refl
-over_or_not false = inr refl
 
 -- ---- an instruction that began in a state
 
@@ -172,16 +160,16 @@ module _ (op : Op) (s : State) (no_event : awaits_event op ≡ false) (no_interr
       let u = after_served cycle x t in
       let here : slice_get (beats_of op t.regs) t.beats_done ≡ Some b =
       ap₂ (λ (r : Regs) (k : ℕ). slice_get (beats_of op r) k) stands.kept stands.so_far ∙ ap (λ bs. slice_get bs (length done)) split ∙ at_index done b rest in
-      let serves = serves_beat op b cycle x t stands.awake (head_of (is_refused b) (list_any is_refused rest) granted) (begins_at op x.given t b begins here) in
+      let serves = serves_beat op b cycle x t stands.awake (or_parts (is_refused b) (list_any is_refused rest) granted).0 (begins_at op x.given t b begins here) in
       let unstopped : is_stop (wanted_in cycle x.given t) ≡ false = ap is_stop serves.wants ∙ goes b in
-      elim (over_or_not (is_over op b x)) [
+      elim (cases_Bool (is_over op b x)) [
         | inl o ↦
             let both = subst (λ z. At (length done + 1) (read ++ option_to_list v) rest z × Changes (lines_in x.given) cycle (changed_by op b rest t.nvic) t.event z) (sym (serves.passes (unpaused t) o))
             (passed_beat done rest b read (read ++ option_to_list v) v (lines_in x.given) cycle t split stands (value_kept read v (omega (arith, reads_beat b x.given t, count)))) in
             let c = both.1 in
             let h = then rest (done ++ b ∷ []) (read ++ option_to_list v) (split ∙ sym (append_assoc done (b ∷ []) rest))
             (subst (λ k. At k (read ++ option_to_list v) rest u) (sym (length-append done (b ∷ []))) both.0)
-            (omega (arith, length-append read (option_to_list v), reads_beat b x.given t, count)) (tail_of (is_refused b) (list_any is_refused rest) granted) in
+            (omega (arith, length-append read (option_to_list v), reads_beat b x.given t, count)) (or_parts (is_refused b) (list_any is_refused rest) granted).1 in
             let cut : (m : Option (List Beat)) → left_after op (b ∷ rest) (x ∷ xs) ≡ m → left_after op rest xs ≡ m =
             λ m q. ap (λ z. cond z (left_after op rest xs) (left_after op (b ∷ rest) xs)) (sym o) ∙ q in
             record {
