@@ -27,9 +27,7 @@ ram_none f work request (Some value) lines cycle = refl
 spot_none : (f : Ask → ℕ) (work : Work) (request : Request) (s : State) (p : Spot) → NoHalf f (at_spot work request s p)
 spot_none f work request s (spot.Ram index bank) = ram_none f work request request.write
 spot_none f work request s (spot.Ppb offset) = either_none f (is_allowed offset (word_written request.size request.write)) _ _ (ready_none f _) (ready_none f _)
-spot_none f work request s (spot.Sio offset) = ready_none f _
-spot_none f work request s (spot.Reg block offset alias) = ready_none f _
-spot_none f work request s spot.Outside = ready_none f _
+spot_none f work request s _ = ready_none f _
 
 beat_none : (f : Ask → ℕ) (work : Work) (s : State) (b : Beat) → NoHalf f (in_beat work s b)
 beat_none f work s Inner = ready_none f _
@@ -48,9 +46,8 @@ return_none f value s =
     either_none f _ _ _ (fault_none f s) (either_none f (locks_last value s) _ _ (ready_none f _) (next_none f (works.Return value) s))
 
 work_none : (f : Ask → ℕ) (work : Work) (s : State) → NoHalf f (asks_work work s)
-work_none f (works.Instruction op) s = next_none f (works.Instruction op) s
-work_none f (works.Entry n) s = next_none f (works.Entry n) s
 work_none f (works.Return value) s = return_none f value s
+work_none f work s = next_none f work s
 
 half_first : (f : Ask → ℕ) (address lines cycle : ℕ) (s : State) (then : ℕ → Asking Act) (b : Bool) (cause : Act)
     → cond b (Some address) None ≡ first_half f (carried lines cycle (cond b (Question (Half address) (λ half. then (half % 2 ^ 16))) (Ready cause)))

@@ -107,9 +107,7 @@ serves_at work request cycle x s (spot.Ppb offset) e =
       waits = λ q. absurd (true≢false q);
       passes = λ p q. ap (λ v. closed (lines_in x.given) cycle (passed work v (accessed request offset s))) (private_at request request.write offset x.given s);
     })
-serves_at work request cycle x s (spot.Sio offset) e = serves_outward work request _ cycle x s (value_at (spot.Sio offset) request request.write x.given.word x.given s refl)
-serves_at work request cycle x s (spot.Reg block offset alias) e = serves_outward work request _ cycle x s (value_at (spot.Reg block offset alias) request request.write x.given.word x.given s refl)
-serves_at work request cycle x s spot.Outside e = serves_outward work request _ cycle x s (value_at spot.Outside request request.write x.given.word x.given s refl)
+serves_at work request cycle x s p e = serves_outward work request _ cycle x s (value_at p request request.write x.given.word x.given s refl)
 
 silent : (b done : Bool) → cond (is_access (cond b want.Signal want.Nothing)) done true ≡ true
 silent true done = refl
@@ -148,7 +146,4 @@ an_access_lasts_until_it_is_done s begun e = go begun.act e
     go (act.Read work request told) e = lasts_closed begun.lines begun.cycle s (act.Read work request told) work refl
     go (act.Write work request) e = lasts_closed begun.lines begun.cycle s (act.Write work request) work refl
     go (act.Outward work request) e = lasts_closed begun.lines begun.cycle s (act.Outward work request) work refl
-    go act.Asleep e = absurd (true≢false (sym e))
-    go (act.Stopped cause) e = absurd (true≢false (sym e))
-    go act.Fault e = absurd (true≢false (sym e))
-    go (act.Private work request offset) e = absurd (true≢false (sym e))
+    go _ e = absurd (true≢false (sym e))

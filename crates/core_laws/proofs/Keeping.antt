@@ -81,6 +81,13 @@ sets r half d v n z c o =
     let f = record m { n = n; z = z; c = c; v = o } in
     then r m _ (moved r half) (then m f _ (flags m n z c o m.t m.primask m.lr) (register_set f d v))
 
+-- the same behind one halfword
+one : (r : Regs) (d v : ℕ) (n z c o : Bool) → Keeps r (with_register (record (moved_on r 2) { n = n; z = z; c = c; v = o }) d v)
+one r d v n z c o = sets r 1 d v n z c o
+
+next : (r : Regs) → Keeps r (moved_on r 2)
+next r = moved r 1
+
 compares : (r : Regs) (n z c o : Bool) → Keeps r (record (moved_on r 2) { n = n; z = z; c = c; v = o })
 compares r n z c o = let m = moved_on r 2 in then r m _ (moved r 1) (flags m n z c o m.t m.primask m.lr)
 
@@ -112,88 +119,26 @@ special r number v =
     (either (number == 16) r _ _ (flags r r.n r.z r.c r.v r.t (has_bit v 0) r.lr)
     (either (number == 20) r _ _ (selects r v (is_thread r) refl) (self r)))))
 
-branches : (r : Regs) (offset : ℕ) → Keeps r (branched offset r)
-branches r offset = pc_set r _
-
 pub keeps_effect : (op : Op) (r : Regs) (read : List ℕ) → Keeps r (effect_of op r read)
 unfolding effect_of
-keeps_effect (op.LslImm i m d) r read = sets r 1 d _ _ _ _ _
-keeps_effect (op.LsrImm i m d) r read = sets r 1 d _ _ _ _ _
-keeps_effect (op.AsrImm i m d) r read = sets r 1 d _ _ _ _ _
-keeps_effect (op.AddReg m n d) r read = sets r 1 d _ _ _ _ _
-keeps_effect (op.SubReg m n d) r read = sets r 1 d _ _ _ _ _
-keeps_effect (op.AddImm3 i n d) r read = sets r 1 d _ _ _ _ _
-keeps_effect (op.SubImm3 i n d) r read = sets r 1 d _ _ _ _ _
-keeps_effect (op.MovImm d i) r read = sets r 1 d _ _ _ _ _
-keeps_effect (op.AddImm8 d i) r read = sets r 1 d _ _ _ _ _
-keeps_effect (op.SubImm8 d i) r read = sets r 1 d _ _ _ _ _
-keeps_effect (op.And m d) r read = sets r 1 d _ _ _ _ _
-keeps_effect (op.Eor m d) r read = sets r 1 d _ _ _ _ _
-keeps_effect (op.LslReg m d) r read = sets r 1 d _ _ _ _ _
-keeps_effect (op.LsrReg m d) r read = sets r 1 d _ _ _ _ _
-keeps_effect (op.AsrReg m d) r read = sets r 1 d _ _ _ _ _
-keeps_effect (op.Adc m d) r read = sets r 1 d _ _ _ _ _
-keeps_effect (op.Sbc m d) r read = sets r 1 d _ _ _ _ _
-keeps_effect (op.Ror m d) r read = sets r 1 d _ _ _ _ _
-keeps_effect (op.Rsb n d) r read = sets r 1 d _ _ _ _ _
-keeps_effect (op.Orr m d) r read = sets r 1 d _ _ _ _ _
-keeps_effect (op.Mul n d) r read = sets r 1 d _ _ _ _ _
-keeps_effect (op.Bic m d) r read = sets r 1 d _ _ _ _ _
-keeps_effect (op.Mvn m d) r read = sets r 1 d _ _ _ _ _
-keeps_effect (op.AddHigh d m) r read = sets r 1 d _ _ _ _ _
-keeps_effect (op.MovHigh d m) r read = sets r 1 d _ _ _ _ _
-keeps_effect (op.LdrLit d i) r read = sets r 1 d _ _ _ _ _
-keeps_effect (op.LdrsbReg m n d) r read = sets r 1 d _ _ _ _ _
-keeps_effect (op.LdrReg m n d) r read = sets r 1 d _ _ _ _ _
-keeps_effect (op.LdrhReg m n d) r read = sets r 1 d _ _ _ _ _
-keeps_effect (op.LdrbReg m n d) r read = sets r 1 d _ _ _ _ _
-keeps_effect (op.LdrshReg m n d) r read = sets r 1 d _ _ _ _ _
-keeps_effect (op.LdrImm i n d) r read = sets r 1 d _ _ _ _ _
-keeps_effect (op.LdrbImm i n d) r read = sets r 1 d _ _ _ _ _
-keeps_effect (op.LdrhImm i n d) r read = sets r 1 d _ _ _ _ _
-keeps_effect (op.LdrSp d i) r read = sets r 1 d _ _ _ _ _
-keeps_effect (op.Adr d i) r read = sets r 1 d _ _ _ _ _
-keeps_effect (op.AddSp d i) r read = sets r 1 d _ _ _ _ _
-keeps_effect (op.Sxth m d) r read = sets r 1 d _ _ _ _ _
-keeps_effect (op.Sxtb m d) r read = sets r 1 d _ _ _ _ _
-keeps_effect (op.Uxth m d) r read = sets r 1 d _ _ _ _ _
-keeps_effect (op.Uxtb m d) r read = sets r 1 d _ _ _ _ _
-keeps_effect (op.Rev m d) r read = sets r 1 d _ _ _ _ _
-keeps_effect (op.Rev16 m d) r read = sets r 1 d _ _ _ _ _
-keeps_effect (op.Revsh m d) r read = sets r 1 d _ _ _ _ _
-keeps_effect (op.CmpImm n i) r read = compares r _ _ _ _
-keeps_effect (op.Tst m n) r read = compares r _ _ _ _
-keeps_effect (op.Cmp m n) r read = compares r _ _ _ _
-keeps_effect (op.Cmn m n) r read = compares r _ _ _ _
-keeps_effect (op.CmpHigh n m) r read = compares r _ _ _ _
-keeps_effect (op.Bx m) r read = exchange r _
 keeps_effect (op.Blx m) r read = then r (with_pc r _) _ (pc_set r _) (flags (with_pc r _) r.n r.z r.c r.v _ r.primask _)
-keeps_effect (op.AddSpImm i) r read = sets r 1 13 _ _ _ _ _
-keeps_effect (op.SubSpImm i) r read = sets r 1 13 _ _ _ _ _
 keeps_effect (op.Push b l) r read = then r (moved_on r 2) _ (moved r 1) (sp_set (moved_on r 2) _)
 keeps_effect (op.Pop b l) r read =
     let list = bit_number b * 2 ^ 15 + l in
     let p = cond (has_bit list 15) r (moved_on r 2) in
     then r p _ (either (has_bit list 15) r _ _ (self r) (moved r 1)) (then p (with_sp p _) _ (sp_set p _) (loads_all (with_sp p _) (registers_of list) read 0))
-keeps_effect op.Cpsie r read = masks r false
-keeps_effect op.Cpsid r read = masks r true
-keeps_effect (op.Bkpt i) r read = self r
-keeps_effect (op.Stm n l) r read = sets r 1 n _ _ _ _ _
 keeps_effect (op.Ldm n list) r read =
     let m = moved_on r 2 in
     let l = with_all_loaded m (registers_of list) read 0 in
     let loaded = then r m l (moved r 1) (loads_all m (registers_of list) read 0) in
     either (has_bit list n) r _ _ loaded (then r l _ loaded (register_set l n _))
-keeps_effect (op.BCond c i) r read = either (condition_holds c r) r _ _ (branches r _) (moved r 1)
-keeps_effect (op.Udf i) r read = self r
-keeps_effect (op.B i) r read = branches r _
+keeps_effect (op.BCond c i) r read = either (condition_holds c r) r _ _ (pc_set r _) (moved r 1)
 keeps_effect (op.Bl s i j) r read =
     let l = record r { lr = _ } in
-    then r l _ (flags r r.n r.z r.c r.v r.t r.primask _) (branches l _)
+    then r l _ (flags r r.n r.z r.c r.v r.t r.primask _) (pc_set l _)
 keeps_effect (op.Msr n s) r read = then r (moved_on r 4) _ (moved r 2) (special (moved_on r 4) s _)
 keeps_effect (op.Mrs d s) r read = sets r 2 d _ _ _ _ _
 keeps_effect op.Dsb r read = moved r 2
 keeps_effect op.Dmb r read = moved r 2
 keeps_effect op.Isb r read = moved r 2
-keeps_effect op.Undefined r read = self r
-keeps_effect _ r read = moved r 1
+keeps_effect _ r read = search (one, next, compares, masks, self, exchange, pc_set)

@@ -53,18 +53,6 @@ reading-list f list address =
 reading-many : (f : ℕ → Option ℕ) (list address : ℕ) → reading (Inner ∷ accesses address (map f (registers_of list))) ≤ 16
 reading-many f list address = omega (arith, reading-list f list address)
 
-reading-single : (address : ℕ) (request : Request) → reading (single address (Access request)) ≤ 16
-reading-single address request =
-    let one = is_read-le request.write in
-    elim (address / 2 ^ 28 == 13) as (λ b. reading (cond b (Access request ∷ []) (Inner ∷ Access request ∷ [])) ≤ 16) [
-      | true ↦ omega (arith, one)
-      | false ↦ omega (arith, one)
-    ]
-
-reading-to : (b : Bool) → reading (cond b (Inner ∷ Inner ∷ []) (Inner ∷ [])) ≤ 16
-reading-to true = omega arith
-reading-to false = omega arith
-
 reading-end : (b : Bool) → reading (cond b (Inner ∷ Inner ∷ []) []) ≡ 0
 reading-end true = refl
 reading-end false = refl
@@ -75,30 +63,8 @@ reading-pop address list =
 
 pub reading-le : (op : Op) (s : Regs) → reading (beats_of op s) ≤ 16
 unfolding beats_of
-reading-le (op.AddHigh d m) s = reading-to (nat_le 15 d)
-reading-le (op.MovHigh d m) s = reading-to (nat_le 15 d)
-reading-le (op.Adr d i) s = reading-to (nat_le 15 d)
-reading-le (op.AddSp d i) s = reading-to (nat_le 15 d)
-reading-le (op.BCond c i) s = reading-to (condition_holds c s)
-reading-le (op.LdrLit t i) s = reading-single _ _
-reading-le (op.StrReg m n t) s = reading-single _ _
-reading-le (op.StrhReg m n t) s = reading-single _ _
-reading-le (op.StrbReg m n t) s = reading-single _ _
-reading-le (op.LdrsbReg m n t) s = reading-single _ _
-reading-le (op.LdrReg m n t) s = reading-single _ _
-reading-le (op.LdrhReg m n t) s = reading-single _ _
-reading-le (op.LdrbReg m n t) s = reading-single _ _
-reading-le (op.LdrshReg m n t) s = reading-single _ _
-reading-le (op.StrImm i n t) s = reading-single _ _
-reading-le (op.LdrImm i n t) s = reading-single _ _
-reading-le (op.StrbImm i n t) s = reading-single _ _
-reading-le (op.LdrbImm i n t) s = reading-single _ _
-reading-le (op.StrhImm i n t) s = reading-single _ _
-reading-le (op.LdrhImm i n t) s = reading-single _ _
-reading-le (op.StrSp t i) s = reading-single _ _
-reading-le (op.LdrSp t i) s = reading-single _ _
 reading-le (op.Push r l) s = reading-many (λ k. Some (register_of s k)) (bit_number r * 2 ^ 14 + l) _
 reading-le (op.Pop r l) s = reading-pop (sp_of s) (bit_number r * 2 ^ 15 + l)
 reading-le (op.Stm n l) s = reading-many (λ k. Some (register_of s k)) l (register_of s n)
 reading-le (op.Ldm n l) s = reading-many (λ k. None) l (register_of s n)
-reading-le _ s = omega arith
+reading-le _ s = search arith

@@ -65,42 +65,20 @@ taken_numbered n s taken none =
 
 -- ---- what is in progress
 
-is_entry : Option Work → Bool
+abbrev is_entry : Option Work → Bool
 is_entry (Some (works.Entry n)) = true
 is_entry _ = false
 
 no_entry : {A : Type 0} (w : Option Work) (n : ℕ) → is_entry w ≡ false → w ≡ Some (works.Entry n) → A
-unfolding is_entry
 no_entry w n h e = absurd (true≢false (sym (ap is_entry e) ∙ h))
 
-plain_none : (w : Option Work) → w ≡ None → is_entry w ≡ false
-unfolding is_entry
-plain_none w e = ap is_entry e
-
-plain_instruction : (w : Option Work) (op : Op) → w ≡ Some (works.Instruction op) → is_entry w ≡ false
-unfolding is_entry
-plain_instruction w op e = ap is_entry e
-
-plain_return : (w : Option Work) (v : ℕ) → w ≡ Some (works.Return v) → is_entry w ≡ false
-unfolding is_entry
-plain_return w v e = ap is_entry e
-
-not_none : {A : Type 0} (n : ℕ) → Some (works.Entry n) ≡ None → A
-unfolding is_entry
-not_none n e = absurd (true≢false (ap is_entry e))
-
 before_plain : (w : Option Work) (e : Exceptions) → is_entry w ≡ false → active_before w e ≡ e.active
-unfolding is_entry
-before_plain None e h = refl
-before_plain (Some (works.Instruction op)) e h = refl
 before_plain (Some (works.Entry n)) e h = absurd (true≢false h)
-before_plain (Some (works.Return v)) e h = refl
+before_plain _ e h = refl
 
 before_same : (w : Option Work) (e f : Exceptions) → f.active ≡ e.active → active_before w f ≡ active_before w e
-before_same None e f h = h
-before_same (Some (works.Instruction op)) e f h = h
 before_same (Some (works.Entry n)) e f h = left_same n e f h
-before_same (Some (works.Return v)) e f h = h
+before_same _ e f h = h
 
 bad_same : (v : ℕ) (s t : State) → t.regs.ipsr ≡ s.regs.ipsr → t.nvic.active ≡ s.nvic.active → is_bad v t ≡ is_bad v s
 unfolding is_bad is_alone
@@ -152,13 +130,11 @@ keeps_from s t e l k = record {
 }
   where
     fits_on : (w : Option Work) → FrameFits w s → FrameFits w (record s { nvic = e })
-    fits_on None h = tt
-    fits_on (Some (works.Instruction op)) h = tt
-    fits_on (Some (works.Entry n)) h = tt
     fits_on (Some (works.Return v)) h = h
+    fits_on _ h = tt
 
 stays : (s : State) → IsFormed s → KeepsSound s s
-stays s h = record { formed = h; agrees = λ a fits. a; again = λ n entry none. not_none n (sym entry ∙ none) }
+stays s h = record { formed = h; agrees = λ a fits. a; again = λ n entry none. absurd (cc) }
 
 either_keeps : (b : Bool) (s x y : State) → KeepsSound s x → KeepsSound s y → KeepsSound s (cond b x y)
 either_keeps true s x y h k = h
@@ -200,9 +176,7 @@ legal_spot : (f : Ask → ℕ) (w : Work) (request : Request) (s : State) (p : S
 legal_spot f w request s (spot.Ram index bank) h = legal_ram f w request request.write s h
 legal_spot f w request s (spot.Ppb offset) h =
     legal_either f s (words.is_allowed offset (word_written request.size request.write)) (Ready (act.Private w request offset)) (stopped (why.Outside (master_of s.number) request.address)) h tt
-legal_spot f w request s (spot.Sio offset) h = h
-legal_spot f w request s (spot.Reg block offset alias) h = h
-legal_spot f w request s spot.Outside h = h
+legal_spot f w request s _ h = h
 
 legal_beat : (f : Ask → ℕ) (op : Op) (s : State) (b : Beat) → is_entry s.work ≡ false → Legal (answered f (in_beat (works.Instruction op) s b)) s
 legal_beat f op s Inner h = h
@@ -245,7 +219,7 @@ legal_return f v s h e = go (s.beats_done == 0) (is_bad v s) (locks_last v s) (n
 
     go : (zero bad locks low : Bool) → (s.beats_done == 0) ≡ zero → is_bad v s ≡ bad → nat_lt s.beats_done 9 ≡ low
         → Legal (answered f (cond (zero && bad) (asks_fault s) (cond locks (stopped (why.Lockup s.number)) (in_beat (works.Return v) s (cond zero Inner (cond low (unstacking v (s.beats_done - 1) s.regs) Inner)))))) s
-    go true true locks low z b l = legal_fault f s (plain_return s.work v e)
+    go true true locks low z b l = legal_fault f s (ap is_entry e)
     go true false true low z b l = tt
     go true false false low z b l = (e, b)
     go false bad true low z b l = tt
@@ -274,7 +248,7 @@ unfolding asks_first
 legal_first f s h = legal_half f s.regs.pc s (λ first. asks_second first s) (λ first. legal_second f first s h)
 
 legal_taken : (f : Ask → ℕ) (s : State) (taken : Option ℕ) → IsFormed s → s.work ≡ None → taken_of s ≡ taken → Legal (answered f (asks_taken taken s)) s
-legal_taken f s None h none e = legal_first f s (plain_none s.work none)
+legal_taken f s None h none e = legal_first f s (ap is_entry none)
 legal_taken f s (Some n) h none e = legal_taken_first f n s none e (subst (λ w. IsUnderWay w s) none h.progress)
 
 legal_boundary : (f : Ask → ℕ) (s : State) → IsFormed s → s.work ≡ None → Legal (answered f (asks_boundary s)) s
@@ -283,7 +257,7 @@ legal_boundary f s h none = legal_taken f s (taken_of s) h none refl
 
 legal_next : (f : Ask → ℕ) (s : State) (w : Option Work) → IsFormed s → s.work ≡ w → Legal (answered f (asks_next w s)) s
 legal_next f s None h e = legal_boundary f s h e
-legal_next f s (Some (works.Instruction op)) h e = legal_instruction f op s (plain_instruction s.work op e)
+legal_next f s (Some (works.Instruction op)) h e = legal_instruction f op s (ap is_entry e)
 legal_next f s (Some (works.Entry n)) h e = legal_entry f n s e
 legal_next f s (Some (works.Return v)) h e = legal_return f v s h e
 
@@ -370,7 +344,7 @@ follows_entry n read s h e =
     record {
       formed = record { registers = h.registers; active = h.active; numbered = h.numbered; progress = (omega arith, way.1, way.2, way.3) };
       agrees = λ a fits. record { selection = a.selection; mode = a.mode ∙ ap (λ w. active_before w s.nvic == 0) e };
-      again = λ m entry none. not_none n none;
+      again = λ m entry none. absurd (cc);
     }
 
 ends_entry : (n : ℕ) (read : Option ℕ) (s : State) → IsFormed s → s.work ≡ Some (works.Entry n) → KeepsSound s (entry_ended n (with_read read s))
@@ -428,7 +402,7 @@ takes_entry n s h none taken =
         selection = a.selection;
         mode = a.mode ∙ ap (λ w. active_before w s.nvic == 0) none ∙ ap (λ (x : ℕ). x == 0) (sym (left_entered n s h.active fresh));
       };
-      again = λ m entry gone. not_none n gone;
+      again = λ m entry gone. absurd (cc);
     }
 
 begins_entry : (n : ℕ) (s : State) → IsFormed s → s.work ≡ None → taken_of s ≡ Some n → KeepsSound s (passed (works.Entry n) None s)
@@ -449,7 +423,7 @@ follows_return v read s h e good =
     record {
       formed = record { registers = h.registers; active = h.active; numbered = h.numbered; progress = λ one. bad_same v s t refl refl ∙ good };
       agrees = λ a fits. record { selection = a.selection; mode = a.mode ∙ ap (λ w. active_before w s.nvic == 0) e };
-      again = λ n entry none. no_entry s.work n (plain_return s.work v e) entry;
+      again = λ n entry none. no_entry s.work n (ap is_entry e) entry;
     }
 
 goes_return : (v : ℕ) (read : Option ℕ) (s : State) → IsFormed s → s.work ≡ Some (works.Return v) → 1 ≤ s.beats_done → s.beats_done < 9 → KeepsSound s (passed (works.Return v) read s)
@@ -538,7 +512,7 @@ ends_return v s h e good last =
             selection = λ handler. back_selection v s.read s.regs ∙ handler_not_process v (is_to_handler v) nought refl fits (sym (ap (λ (i : ℕ). i == 0) number) ∙ handler);
             mode = ap (λ (i : ℕ). i == 0) number ∙ modes_agree (is_to_handler v) (is_to_thread v) (out.active == 0) nought good fits ∙ ap (λ (x : ℕ). x == 0) (sym l.active);
           };
-      again = λ n entry none. no_entry s.work n (plain_return s.work v e) entry;
+      again = λ n entry none. no_entry s.work n (ap is_entry e) entry;
     }
 
 begins_return : (v : ℕ) (s : State) → IsFormed s → s.work ≡ Some (works.Return v) → is_bad v s ≡ false → KeepsSound s (passed (works.Return v) None s)

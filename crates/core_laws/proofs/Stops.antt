@@ -43,9 +43,7 @@ spot_by f s c work request (spot.Ppb offset) has at h = go (is_allowed offset (w
         → wants f (cond b (Ready (act.Private work request offset)) (stopped (why.Outside (master_of s.number) request.address))) ≡ want.Stopped c → StopsBy f s c
     go true e h = otherwise _ c refl h
     go false e h = is_by f s _ c h (refused request offset has at e)
-spot_by f s c work request (spot.Sio offset) has at h = otherwise _ c refl h
-spot_by f s c work request (spot.Reg block offset alias) has at h = otherwise _ c refl h
-spot_by f s c work request spot.Outside has at h = otherwise _ c refl h
+spot_by f s c work request _ has at h = otherwise _ c refl h
 
 signal_goes : (b : Bool) → is_stop (cond b want.Signal want.Nothing) ≡ false
 signal_goes true = refl
@@ -137,9 +135,8 @@ return_by f s c value e h = go (s.beats_done == 0 && is_bad value s) refl h
 next_by : (f : Ask → ℕ) (s : State) (c : Why) (w : Option Work) → s.work ≡ w → wants f (asks_next w s) ≡ want.Stopped c → StopsBy f s c
 unfolding asks_boundary
 next_by f s c None e h = taken_by f s c (taken_of s) e refl h
-next_by f s c (Some (works.Instruction op)) e h = work_by f s c (works.Instruction op) (goes_on (works.Instruction op) e) h
-next_by f s c (Some (works.Entry n)) e h = work_by f s c (works.Entry n) (goes_on (works.Entry n) e) h
 next_by f s c (Some (works.Return value)) e h = return_by f s c value e h
+next_by f s c (Some work) e h = work_by f s c work (goes_on work e) h
 
 awake_by : (f : Ask → ℕ) (s : State) (c : Why) → wants f (asks_awake s) ≡ want.Stopped c → StopsBy f s c
 unfolding asks_awake
@@ -230,11 +227,10 @@ not_last s value request false e h = refl
 
 on_any : (f : Ask → ℕ) (s : State) (work : Work) (request : Request) → s.work ≡ Some work → beat_of_work work s ≡ Access request
     → wants f (asks_awake s) ≡ wants f (asks_beat work s)
-on_any f s (works.Instruction op) request e at = on_work f s (works.Instruction op) e
-on_any f s (works.Entry n) request e at = on_work f s (works.Entry n) e
 on_any f s (works.Return value) request e at =
     on_work f s (works.Return value) e
     ∙ on_return f s value false false (not_first s value request (s.beats_done == 0) refl at) (not_last s value request (s.beats_done == 12) refl at)
+on_any f s work request e at = on_work f s work e
 
 on_beat : (f : Ask → ℕ) (s : State) (work : Work) (request : Request) → HasBeat f s work → beat_of_work work s ≡ Access request
     → wants f (asks_awake s) ≡ wants f (asks_beat work s)

@@ -199,10 +199,7 @@ module _ (op : Op) (s : State) (no_event : awaits_event op ≡ false) (no_interr
     where
       at_spot_goes : (request : Request) (p : Spot) → is_stop (want_at p request) ≡ false
       at_spot_goes request (spot.Ram index bank) = refl
-      at_spot_goes request (spot.Ppb offset) = refl
-      at_spot_goes request (spot.Sio offset) = refl
-      at_spot_goes request (spot.Reg block offset alias) = refl
-      at_spot_goes request spot.Outside = refl
+      at_spot_goes request _ = refl
 
       signal_goes : (b : Bool) → is_stop (cond b want.Signal want.Nothing) ≡ false
       signal_goes true = refl

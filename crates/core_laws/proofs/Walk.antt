@@ -28,10 +28,7 @@ serves_walk work b cycle x s silent awake ram begins =
     at : (request : Request) (p : Spot) → is_ram_spot p ≡ true
         → Serves work (want.Ram request) x.done (value_ram request request.write x.given) s.nvic cycle x s (ends_with (lines_in x.given) cycle (answered x.given.answers (at_spot work request s p)))
     at request (spot.Ram index bank) e = serves_ram work request request.write cycle x s
-    at request (spot.Ppb offset) e = absurd (true≢false (sym e))
-    at request (spot.Sio offset) e = absurd (true≢false (sym e))
-    at request (spot.Reg block offset alias) e = absurd (true≢false (sym e))
-    at request spot.Outside e = absurd (true≢false (sym e))
+    at request _ e = absurd (true≢false (sym e))
 
     go : (b : Beat) → IsInRam b → Serves work (want_in b) (ends_in b x) (value_in b x.given) s.nvic cycle x s (ends_with (lines_in x.given) cycle (answered x.given.answers (in_beat work s b)))
     go Inner h =
