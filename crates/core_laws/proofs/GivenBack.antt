@@ -94,38 +94,6 @@ link_fits false process = refl
 
 -- ---- the stacked program status
 
-abbrev xpsr_by : ℕ → ℕ → ℕ → ℕ → ℕ → ℕ → ℕ
-xpsr_by a b c d e p = a * 2 ^ 31 + b * 2 ^ 30 + c * 2 ^ 29 + d * 2 ^ 28 + e * 2 ^ 24 + p
-
-record Small (a b c d e p : ℕ) : Type 0 where
-  a1 : a < 2
-  b1 : b < 2
-  c1 : c < 2
-  d1 : d < 2
-  e1 : e < 2
-  p6 : p < 64
-
-at_31 : (a b c d e p : ℕ) → Small a b c d e p → bit_at (xpsr_by a b c d e p) 31 ≡ a
-at_31 a b c d e p h = omega (arith, h.a1, h.b1, h.c1, h.d1, h.e1, h.p6)
-
-at_30 : (a b c d e p : ℕ) → Small a b c d e p → bit_at (xpsr_by a b c d e p) 30 ≡ b
-at_30 a b c d e p h = omega (arith, h.a1, h.b1, h.c1, h.d1, h.e1, h.p6)
-
-at_29 : (a b c d e p : ℕ) → Small a b c d e p → bit_at (xpsr_by a b c d e p) 29 ≡ c
-at_29 a b c d e p h = omega (arith, h.a1, h.b1, h.c1, h.d1, h.e1, h.p6)
-
-at_28 : (a b c d e p : ℕ) → Small a b c d e p → bit_at (xpsr_by a b c d e p) 28 ≡ d
-at_28 a b c d e p h = omega (arith, h.a1, h.b1, h.c1, h.d1, h.e1, h.p6)
-
-at_24 : (a b c d e p : ℕ) → Small a b c d e p → bit_at (xpsr_by a b c d e p) 24 ≡ e
-at_24 a b c d e p h = omega (arith, h.a1, h.b1, h.c1, h.d1, h.e1, h.p6)
-
-at_9 : (a b c d e p : ℕ) → Small a b c d e p → bit_at (xpsr_by a b c d e p) 9 ≡ 0
-at_9 a b c d e p h = omega (arith, h.a1, h.b1, h.c1, h.d1, h.e1, h.p6)
-
-low_six : (a b c d e p : ℕ) → Small a b c d e p → xpsr_by a b c d e p % 2 ^ 6 ≡ p
-low_six a b c d e p h = omega (arith, h.p6)
-
 flag_small : (b : Bool) → bit_number b < 2
 flag_small true = omega arith
 flag_small false = omega arith
@@ -133,16 +101,6 @@ flag_small false = omega arith
 flag_back : (b : Bool) → (bit_number b == 1) ≡ b
 flag_back true = refl
 flag_back false = refl
-
-all_small : (r : Regs) → Small (bit_number r.n) (bit_number r.z) (bit_number r.c) (bit_number r.v) (bit_number r.t) (r.ipsr % 2 ^ 6)
-all_small r = record {
-  a1 = flag_small r.n;
-  b1 = flag_small r.z;
-  c1 = flag_small r.c;
-  d1 = flag_small r.v;
-  e1 = flag_small r.t;
-  p6 = omega arith;
-}
 
 -- bit 9 tells of the alignment, and all else is the program status
 abbrev marked_by : Bool → ℕ → ℕ
@@ -171,23 +129,23 @@ record Status (r : Regs) : Type 0 where
 
 status : (r : Regs) → r.ipsr < 64 → Status r
 status r low =
-    let small = all_small r in
     let high = has_bit (sp_of r) 2 in
     let x = xpsr_of r in
-    let a = bit_number r.n in
-    let b = bit_number r.z in
-    let c = bit_number r.c in
-    let d = bit_number r.v in
-    let e = bit_number r.t in
-    let p = r.ipsr % 2 ^ 6 in
+    let n = flag_small r.n in
+    let z = flag_small r.z in
+    let c = flag_small r.c in
+    let v = flag_small r.v in
+    let t = flag_small r.t in
+    let flag : (k : ℕ) (b : Bool) → k ≢ 9 → bit_at x k ≡ bit_number b → has_bit (marked_by high x) k ≡ b =
+    λ k b other e. ap (λ i. i == 1) (marked_bit high x k other ∙ e) ∙ flag_back b in
     record {
-      n = ap (λ i. i == 1) (marked_bit high x 31 (λ q. absurd (omega (arith, q))) ∙ at_31 a b c d e p small) ∙ flag_back r.n;
-      z = ap (λ i. i == 1) (marked_bit high x 30 (λ q. absurd (omega (arith, q))) ∙ at_30 a b c d e p small) ∙ flag_back r.z;
-      c = ap (λ i. i == 1) (marked_bit high x 29 (λ q. absurd (omega (arith, q))) ∙ at_29 a b c d e p small) ∙ flag_back r.c;
-      v = ap (λ i. i == 1) (marked_bit high x 28 (λ q. absurd (omega (arith, q))) ∙ at_28 a b c d e p small) ∙ flag_back r.v;
-      t = ap (λ i. i == 1) (marked_bit high x 24 (λ q. absurd (omega (arith, q))) ∙ at_24 a b c d e p small) ∙ flag_back r.t;
-      mark = mark_at high x (at_9 a b c d e p small);
-      number = marked_six high x ∙ low_six a b c d e p small ∙ omega (arith, low);
+      n = flag 31 r.n (λ q. absurd (omega (arith, q))) (omega arith);
+      z = flag 30 r.z (λ q. absurd (omega (arith, q))) (omega arith);
+      c = flag 29 r.c (λ q. absurd (omega (arith, q))) (omega arith);
+      v = flag 28 r.v (λ q. absurd (omega (arith, q))) (omega arith);
+      t = flag 24 r.t (λ q. absurd (omega (arith, q))) (omega arith);
+      mark = mark_at high x (omega arith);
+      number = marked_six high x ∙ omega (arith, low);
     }
 
 -- ---- the stack
@@ -230,34 +188,19 @@ record Found (n vector : ℕ) (r : Regs) : Type 0 where
 
 found : (n vector : ℕ) (r : Regs) → entry_frame r / 4 * 4 ≡ entry_frame r → Found n vector r
 found n vector r whole =
-    let f = entry_frame r / 4 * 4 in
+    let p = parts (is_thread r && r.spsel) (entry_frame r / 4 * 4) in
     record {
-      frame = ap (λ b. cond b (with_entry n vector r).psp (with_entry n vector r).msp) (link_process (is_thread r) r.spsel) ∙ at (is_thread r && r.spsel) f ∙ whole;
-      list = in_list (is_thread r && r.spsel) f;
-      mask = in_mask (is_thread r && r.spsel) f;
-      main = in_main (is_thread r && r.spsel) f;
-      process = in_process (is_thread r && r.spsel) f;
+      frame = ap (λ b. cond b (with_entry n vector r).psp (with_entry n vector r).msp) (link_process (is_thread r) r.spsel) ∙ p.0 ∙ whole;
+      list = p.1;
+      mask = p.2;
+      main = p.3;
+      process = p.4;
     }
   where
-    at : (b : Bool) (f : ℕ) → cond b (cond b (record r { psp = f }) (record r { msp = f })).psp (cond b (record r { psp = f }) (record r { msp = f })).msp ≡ f
-    at true f = refl
-    at false f = refl
-
-    in_list : (b : Bool) (f : ℕ) → (cond b (record r { psp = f }) (record r { msp = f })).r ≡ r.r
-    in_list true f = refl
-    in_list false f = refl
-
-    in_mask : (b : Bool) (f : ℕ) → (cond b (record r { psp = f }) (record r { msp = f })).primask ≡ r.primask
-    in_mask true f = refl
-    in_mask false f = refl
-
-    in_main : (b : Bool) (f : ℕ) → cond b (cond b (record r { psp = f }) (record r { msp = f })).msp 0 ≡ cond b r.msp 0
-    in_main true f = refl
-    in_main false f = refl
-
-    in_process : (b : Bool) (f : ℕ) → cond b 0 (cond b (record r { psp = f }) (record r { msp = f })).psp ≡ cond b 0 r.psp
-    in_process true f = refl
-    in_process false f = refl
+    parts : (b : Bool) (f : ℕ) → (cond b (cond b (record r { psp = f }) (record r { msp = f })).psp (cond b (record r { psp = f }) (record r { msp = f })).msp ≡ f) × ((cond b (record r { psp = f }) (record r { msp = f })).r ≡ r.r) × ((cond b (record r { psp = f }) (record r { msp = f })).primask ≡ r.primask)
+        × (cond b (cond b (record r { psp = f }) (record r { msp = f })).msp 0 ≡ cond b r.msp 0) × (cond b 0 (cond b (record r { psp = f }) (record r { msp = f })).psp ≡ cond b 0 r.psp)
+    parts true f = (refl, refl, refl, refl, refl)
+    parts false f = (refl, refl, refl, refl, refl)
 
 -- ---- the words that are there
 
@@ -301,9 +244,6 @@ stacked_there n s xs ys e h k within =
     (there_of (λ i. entry_beat n (record s { beats_done = i })) ys xs 0 15 e h (k + 1) (omega arith) (omega (arith, within)))
 
 -- ---- the registers behind the return
-
-abbrev five : List ℕ → List ℕ → List ℕ
-five words r = with_five words r
 
 pub five_length : (words r : List ℕ) → length (with_five words r) ≡ length r
 five_length words r =
@@ -418,34 +358,13 @@ given_back r q h long =
           ∙ chosen (uses_process r) (sp_of r) q.psp q.msp;
     }
 
-mk : List ℕ → ℕ → ℕ → ℕ → ℕ → Bool → Bool → Bool → Bool → Bool → ℕ → Bool → Bool → Regs
-mk r msp psp lr pc n z c v t ipsr primask spsel = record {
-  r = r;
-  msp = msp;
-  psp = psp;
-  lr = lr;
-  pc = pc;
-  n = n;
-  z = z;
-  c = c;
-  v = v;
-  t = t;
-  ipsr = ipsr;
-  primask = primask;
-  spsel = spsel;
-}
-
 same_regs : (a b : Regs) → a.r ≡ b.r → a.msp ≡ b.msp → a.psp ≡ b.psp → a.lr ≡ b.lr → a.pc ≡ b.pc → a.n ≡ b.n → a.z ≡ b.z → a.c ≡ b.c → a.v ≡ b.v → a.t ≡ b.t
     → a.ipsr ≡ b.ipsr → a.primask ≡ b.primask → a.spsel ≡ b.spsel → a ≡ b
-unfolding mk
 same_regs a b er em ep el ec en ez ecc ev et ei ek es =
-    ap₂ (λ x y. mk x y a.psp a.lr a.pc a.n a.z a.c a.v a.t a.ipsr a.primask a.spsel) er em
-    ∙ ap₂ (λ x y. mk b.r b.msp x y a.pc a.n a.z a.c a.v a.t a.ipsr a.primask a.spsel) ep el
-    ∙ ap₂ (λ x y. mk b.r b.msp b.psp b.lr x y a.z a.c a.v a.t a.ipsr a.primask a.spsel) ec en
-    ∙ ap₂ (λ x y. mk b.r b.msp b.psp b.lr b.pc b.n x y a.v a.t a.ipsr a.primask a.spsel) ez ecc
-    ∙ ap₂ (λ x y. mk b.r b.msp b.psp b.lr b.pc b.n b.z b.c x y a.ipsr a.primask a.spsel) ev et
-    ∙ ap₂ (λ x y. mk b.r b.msp b.psp b.lr b.pc b.n b.z b.c b.v b.t x y a.spsel) ei ek
-    ∙ ap (λ x. mk b.r b.msp b.psp b.lr b.pc b.n b.z b.c b.v b.t b.ipsr b.primask x) es
+    let left : Regs = record { r = a.r; msp = a.msp; psp = a.psp; lr = a.lr; pc = a.pc; n = a.n; z = a.z; c = a.c; v = a.v; t = a.t; ipsr = a.ipsr; primask = a.primask; spsel = a.spsel } in
+    let right : Regs = record { r = b.r; msp = b.msp; psp = b.psp; lr = b.lr; pc = b.pc; n = b.n; z = b.z; c = b.c; v = b.v; t = b.t; ipsr = b.ipsr; primask = b.primask; spsel = b.spsel } in
+    let whole : left ≡ right = cc in
+    whole
 
 list_back : (r q : Regs) → Before r → length q.r ≡ 13 → ((k : ℕ) → 4 ≤ k → k < 12 → slice_index q.r k ≡ slice_index r.r k) → with_five (stacked r) q.r ≡ r.r
 list_back r q h long rest =
