@@ -480,24 +480,12 @@ all_words : (value : ℕ) (words : List ℕ) (s : State) (xs : List Served) → 
 all_words value words s [] h = tt
 all_words value words s (x ∷ xs) h = (λ k within. (h k within).0, all_words value words s xs (λ k within. (h k within).1))
 
--- the last cycle is none of the first beat
-later_last : (n line cycle : ℕ) (e f g : Exceptions) (xs : List Served) (y : Served) (ys : List Served) → xs ≡ y ∷ ys → f ≡ nvic.after_cycle line cycle e
+-- the last cycle is none of the first beat: there is a second one where no beat is left
+later_last : (n line cycle : ℕ) (e f g : Exceptions) (b : Beat) (bs : List Beat) (xs : List Served) → left_of (b ∷ bs) xs ≡ Some [] → f ≡ nvic.after_cycle line cycle e
     → g ≡ after_last (left n) (cycle + 1) (lines_of xs) f → g ≡ after_leaving n cycle (line ∷ lines_of xs) e
-later_last n line cycle e f g xs y ys path same h =
-    h
-    ∙ after_last_left n (cycle + 1) (lines_of xs) f
-    ∙ ap₂ (λ (zs : List Served) (z : Exceptions). after_leaving n (cycle + 1) (lines_of zs) z) path same
-    ∙ sym (ap (λ (zs : List Served). after_leaving n cycle (line ∷ lines_of zs) e) path)
-
-is_empty : Option (List Beat) → Bool
-is_empty (Some []) = true
-is_empty _ = false
-
--- there is a second cycle where no beat is left
-some_later : {A : Type 0} (b : Beat) (bs : List Beat) (xs : List Served) → left_of (b ∷ bs) xs ≡ Some [] → ((y : Served) (ys : List Served) → xs ≡ y ∷ ys → A) → A
-unfolding is_empty
-some_later b bs [] e h = absurd (true≢false (sym (ap is_empty e)))
-some_later b bs (y ∷ ys) e h = h y ys refl
+later_last n line cycle e f g b bs [] q same h = absurd (cc)
+later_last n line cycle e f g b bs (y ∷ ys) q same h =
+    h ∙ after_last_left n (cycle + 1) (lines_of (y ∷ ys)) f ∙ ap (λ (z : Exceptions). after_leaving n (cycle + 1) (lines_of (y ∷ ys)) z) same
 
 pub a_return_takes_its_beats : AReturnTakesItsBeats
 unfolding return_beat
@@ -519,8 +507,8 @@ a_return_takes_its_beats value words s cycle x xs at room =
           record {
             at_boundary = m.0.at_boundary;
             registers = m.0.registers;
-            exceptions = some_later (return_at value s 1) (map (return_at value s) (numbers_from 2 11)) xs q
-                (λ y ys e. later_last s.regs.ipsr (lines_in x.given) cycle s.nvic u.nvic (after_all_served (cycle + 1) xs u).nvic xs y ys e nv m.1);
+            exceptions = later_last s.regs.ipsr (lines_in x.given) cycle s.nvic u.nvic (after_all_served (cycle + 1) xs u).nvic
+                (return_at value s 1) (map (return_at value s) (numbers_from 2 11)) xs q nv m.1;
           };
       wants = λ bs q. ap₂ (λ (w : Want) (ws : List Want). w ∷ ws) ((serves_walk (works.Return value) Inner cycle x s refl at.awake tt (return_first value x.given s at)).wants) (all.wants bs q);
       count = λ done long. subst (λ (k : ℕ). left_of (map (return_at value s) (numbers_from 0 k)) (x ∷ xs) ≡ Some []) long (counted (return_at value s) (x ∷ xs) 0 done);

@@ -1,6 +1,6 @@
 -- A core stays sound.
 use Rattle.std.proofs.Common.{◌≡◌, ◌∙◌, ℕ, zero, suc, ◌+◌, ◌-◌, ◌*◌, ◌/◌, ◌%◌, ◌^◌, ◌<◌, ◌≤◌, ◌==◌, ◌&&◌, ◌||◌, ◌⊎◌, not, Bool, true, false, cond, List, length, refl, sym, ap, ap₂, subst, inl, inr, arith, true≢false, lt-ltb, ltb-true, ltb-false, nat_lt}
-use Rattle.core_laws.proofs.Shared.{Option, Some, None, bit_and, bit_or, slice_get, slice_index, bit_at, eqb-true, and_le_l, or_mod, or_lt, bit_at_and, bit_at_or, bit_at-lt, bit_at-zero, bit_at-pow_same, pow-lt, Request, Spot, Op, master_of, word_written, place_of, has_bit, begins_long, operation_of, Regs, Beat, Inner, Access, is_thread, access, beats_of, effect_of, return_of, HARDFAULT, Exceptions, is_number, is_member, minus, pended, entered, left, Ask, Lines, Half, Asking, answered, Ready, Question, Act, Work, is_breakpoint, entry_frame, stacked, vector_address, stacking, entry_beat, entry_ended, taken_first, is_to_handler, is_to_process, is_to_thread, is_alone, is_bad, is_misfit, stacked_number, return_frame, unstacking, return_beat, stack_after, with_frame, with_return, after_return, return_ended, private_value, stopped, is_locked, is_ram, is_faulty, in_beat, in_ram, at_spot, asks_beat, asks_fault, locks_last, asks_return, asks_decoded, asks_half, asks_second, asks_first, taken_of, asks_taken, asks_boundary, asks_next, asks_awake, asks, ends_with, carried, with_read, waiting, followed, returning, called, ended, passed, passed_instruction, passed_entry, passed_return, is_paused, after_inner, faulted, done_word, value_of, after_access, after_outward, after_private, closed, next, State, begun_from, AreRegisters, IsUnderWay, IsFormed, active_before, Agrees, FrameFits, KeepsSound, ACoreStaysSound, candidates, and_parts, cond_both, not-false}
+use Rattle.core_laws.proofs.Shared.{Option, Some, None, bit_and, bit_or, slice_get, slice_index, bit_at, eqb-true, and_le_l, or_mod, or_lt, bit_at_and, bit_at_or, bit_at-lt, bit_at-zero, bit_at-pow_same, pow-lt, Request, Spot, Op, master_of, word_written, place_of, has_bit, begins_long, operation_of, Regs, Beat, Inner, Access, is_thread, access, beats_of, effect_of, return_of, HARDFAULT, Exceptions, is_number, is_member, minus, pended, entered, left, Ask, Lines, Half, Asking, answered, Ready, Question, Act, Work, is_breakpoint, entry_frame, stacked, vector_address, stacking, entry_beat, entry_ended, taken_first, is_to_handler, is_to_process, is_to_thread, is_alone, is_bad, is_misfit, stacked_number, return_frame, unstacking, return_beat, stack_after, with_frame, with_return, after_return, return_ended, private_value, stopped, is_locked, is_ram, is_faulty, in_beat, in_ram, at_spot, asks_beat, asks_fault, locks_last, asks_return, asks_decoded, asks_half, asks_second, asks_first, taken_of, asks_taken, asks_boundary, asks_next, asks_awake, asks, ends_with, carried, with_read, waiting, followed, returning, called, ended, passed, passed_instruction, passed_entry, passed_return, is_paused, after_inner, faulted, done_word, value_of, after_access, after_outward, after_private, closed, next, State, begun_from, AreRegisters, IsUnderWay, IsFormed, active_before, Agrees, FrameFits, KeepsSound, ACoreStaysSound, candidates, and_parts, cond_both, not-false, with_value}
 use Rattle.rp_base.specs.declared.Size.{Size}
 use Rattle.rp_base.specs.declared.Size.TheVariants as sizes
 use Rattle.rp_base.specs.declared.map.Spot.TheVariants as spot
@@ -270,15 +270,17 @@ legal_awake f s h = legal_next f s s.work h refl
 same_work : (w : Work) (s : State) → s.work ≡ Some w → s ≡ waiting w s
 same_work w s e = ap (λ o. record s { work = o }) e
 
-waits_plain : (op : Op) (s : State) → IsFormed s → is_entry s.work ≡ false → KeepsSound s (waiting (works.Instruction op) s)
-waits_plain op s h plain = record {
-  formed = record { registers = h.registers; active = h.active; numbered = h.numbered; progress = tt };
-  agrees = λ a fits. record { selection = a.selection; mode = a.mode ∙ ap (λ (x : ℕ). x == 0) (before_plain s.work s.nvic plain) };
-  again = λ n entry none. no_entry s.work n plain entry;
+-- what has a beat goes on: registers and exceptions stay
+goes_on : (w : Work) (k : ℕ) (read : List ℕ) (s : State) → IsFormed s → IsUnderWay (Some w) (record s { work = Some w; beats_done = k; read = read })
+    → active_before s.work s.nvic ≡ active_before (Some w) s.nvic → KeepsSound s (record s { work = Some w; beats_done = k; read = read })
+goes_on w k read s h way before = record {
+  formed = record { registers = h.registers; active = h.active; numbered = h.numbered; progress = way };
+  agrees = λ a fits. record { selection = a.selection; mode = a.mode ∙ ap (λ (x : ℕ). x == 0) before };
+  again = λ n entry none. absurd (cc);
 }
 
 waits_going : (w : Work) (s : State) → IsFormed s → IsGoing w s → KeepsSound s (waiting w s)
-waits_going (works.Instruction op) s h g = waits_plain op s h g
+waits_going (works.Instruction op) s h g = goes_on (works.Instruction op) s.beats_done s.read s h tt (before_plain s.work s.nvic g)
 waits_going (works.Entry n) s h g = subst (λ t. KeepsSound s t) (same_work (works.Entry n) s g.0) (stays s h)
 waits_going (works.Return v) s h g = subst (λ t. KeepsSound s t) (same_work (works.Return v) s g.0) (stays s h)
 
@@ -323,29 +325,13 @@ ends_instruction op read s h plain =
       again = λ n entry none. no_entry s.work n plain entry;
     }
 
-follows_instruction : (op : Op) (read : Option ℕ) (s : State) → IsFormed s → is_entry s.work ≡ false → KeepsSound s (followed (works.Instruction op) (with_read read s))
-follows_instruction op read s h plain = record {
-  formed = record { registers = h.registers; active = h.active; numbered = h.numbered; progress = tt };
-  agrees = λ a fits. record { selection = a.selection; mode = a.mode ∙ ap (λ (x : ℕ). x == 0) (before_plain s.work s.nvic plain) };
-  again = λ n entry none. no_entry s.work n plain entry;
-}
-
 passes_instruction : (op : Op) (read : Option ℕ) (s : State) → IsFormed s → is_entry s.work ≡ false → KeepsSound s (passed (works.Instruction op) read s)
 unfolding passed passed_instruction
 passes_instruction op read s h plain =
     either_keeps (nat_lt (s.beats_done + 1) (length (beats_of op s.regs))) s (followed (works.Instruction op) (with_read read s)) (ended op (with_read read s))
-    (follows_instruction op read s h plain) (ends_instruction op read s h plain)
+    (goes_on (works.Instruction op) (s.beats_done + 1) (with_value s.read read) s h tt (before_plain s.work s.nvic plain)) (ends_instruction op read s h plain)
 
 -- ---- an entry
-
-follows_entry : (n : ℕ) (read : Option ℕ) (s : State) → IsFormed s → s.work ≡ Some (works.Entry n) → KeepsSound s (followed (works.Entry n) (with_read read s))
-follows_entry n read s h e =
-    let way : IsUnderWay (Some (works.Entry n)) s = subst (λ w. IsUnderWay w s) e h.progress in
-    record {
-      formed = record { registers = h.registers; active = h.active; numbered = h.numbered; progress = (omega arith, way.1, way.2, way.3) };
-      agrees = λ a fits. record { selection = a.selection; mode = a.mode ∙ ap (λ w. active_before w s.nvic == 0) e };
-      again = λ m entry none. absurd (cc);
-    }
 
 ends_entry : (n : ℕ) (read : Option ℕ) (s : State) → IsFormed s → s.work ≡ Some (works.Entry n) → KeepsSound s (entry_ended n (with_read read s))
 unfolding entry_ended
@@ -384,7 +370,7 @@ goes_entry n read s h e =
     let way : IsUnderWay (Some (works.Entry n)) s = subst (λ w. IsUnderWay w s) e h.progress in
     let t = with_read read s in
     subst (λ u. KeepsSound s (cond (nat_lt (u.beats_done + 1) 15) (followed (works.Entry n) u) (entry_ended n u))) (sym (first_done n t way.0))
-    (either_keeps (nat_lt (s.beats_done + 1) 15) s (followed (works.Entry n) t) (entry_ended n t) (follows_entry n read s h e) (ends_entry n read s h e))
+    (either_keeps (nat_lt (s.beats_done + 1) 15) s (followed (works.Entry n) t) (entry_ended n t) (goes_on (works.Entry n) (s.beats_done + 1) (with_value s.read read) s h (omega arith, way.1, way.2, way.3) (ap (λ w. active_before w s.nvic) e)) (ends_entry n read s h e))
 
 takes_entry : (n : ℕ) (s : State) → IsFormed s → s.work ≡ None → taken_of s ≡ Some n
     → KeepsSound s (record s { nvic = entered n s.nvic; work = Some (works.Entry n); beats_done = s.beats_done + 1 })
@@ -420,11 +406,7 @@ begins_entry n s h none taken =
 follows_return : (v : ℕ) (read : Option ℕ) (s : State) → IsFormed s → s.work ≡ Some (works.Return v) → is_bad v s ≡ false → KeepsSound s (followed (works.Return v) (with_read read s))
 follows_return v read s h e good =
     let t = followed (works.Return v) (with_read read s) in
-    record {
-      formed = record { registers = h.registers; active = h.active; numbered = h.numbered; progress = λ one. bad_same v s t refl refl ∙ good };
-      agrees = λ a fits. record { selection = a.selection; mode = a.mode ∙ ap (λ w. active_before w s.nvic == 0) e };
-      again = λ n entry none. no_entry s.work n (ap is_entry e) entry;
-    }
+    goes_on (works.Return v) (s.beats_done + 1) (with_value s.read read) s h (λ one. bad_same v s t refl refl ∙ good) (ap (λ w. active_before w s.nvic) e)
 
 goes_return : (v : ℕ) (read : Option ℕ) (s : State) → IsFormed s → s.work ≡ Some (works.Return v) → 1 ≤ s.beats_done → s.beats_done < 9 → KeepsSound s (passed (works.Return v) read s)
 unfolding passed passed_return
@@ -533,7 +515,7 @@ passes_going (works.Return v) read s h g = goes_return v read s h g.0 g.1 g.2
 after_beginning : (w : Work) (s : State) → IsFormed s → IsBeginning w s → KeepsSound s (after_inner w s)
 unfolding after_inner
 after_beginning (works.Instruction op) s h g =
-    either_keeps (is_paused (works.Instruction op) s) s (waiting (works.Instruction op) s) (passed (works.Instruction op) None s) (waits_plain op s h g) (passes_instruction op None s h g)
+    either_keeps (is_paused (works.Instruction op) s) s (waiting (works.Instruction op) s) (passed (works.Instruction op) None s) (goes_on (works.Instruction op) s.beats_done s.read s h tt (before_plain s.work s.nvic g)) (passes_instruction op None s h g)
 after_beginning (works.Entry n) s h (inl e) = goes_entry n None s h e
 after_beginning (works.Entry n) s h (inr g) = begins_entry n s h g.0 g.1
 after_beginning (works.Return v) s h g = begins_return v s h g.0 g.1

@@ -71,27 +71,6 @@ pub record Result (P : ℕ → State → Type 0) (Q : State → Type 0) (rest : 
   pub over : rest ≡ Some [] → Q t × (t.nvic ≡ done)
   pub wants : (bs : List Beat) → rest ≡ Some bs → wanted ≡ expected
 
-is_done : Option (List Beat) → Bool
-is_done None = true
-is_done (Some []) = true
-is_done (Some (b ∷ bs)) = false
-
-none_left : {A : Type 0} (b : Beat) (bs : List Beat) → Some [] ≡ Some (b ∷ bs) → A
-unfolding is_done
-none_left b bs e = absurd (true≢false (ap is_done e))
-
-some_left : {A : Type 0} (b : Beat) (bs : List Beat) → Some (b ∷ bs) ≡ Some [] → A
-unfolding is_done
-some_left b bs e = absurd (true≢false (ap is_done (sym e)))
-
-is_past : Option (List Beat) → Bool
-is_past None = true
-is_past (Some bs) = false
-
-past : {A : Type 0} (bs : List Beat) → None ≡ Some bs → A
-unfolding is_past
-past bs e = absurd (true≢false (ap is_past e))
-
 joined : (P : ℕ → State → Type 0) (Q : State → Type 0) (o : Bool) (l m : Option (List Beat)) (w v : Want) (ws vs us : List Want) (e d : Exceptions) (t : State)
     → w ≡ v → (o ≡ true → Result P Q l ws vs e d t) → (o ≡ false → Result P Q m ws us e d t)
     → Result P Q (cond o l m) (w ∷ ws) (v ∷ cond o vs us) e d t
@@ -150,7 +129,7 @@ module _ (work : Work) (f : ℕ → Beat) (total : ℕ) (last : Exceptions → E
   pub walk : (xs : List Served) (k c cycle : ℕ) (s : State) → k + suc c ≡ total → P k s → AllGiven G xs → Comes k (suc c) xs cycle s
   walk [] k c cycle s e p g = record {
     mid = λ b bs q. ((k, p), refl);
-    over = λ q. some_left (f k) (map f (numbers_from (k + 1) c)) q;
+    over = λ q. absurd (cc);
     wants = λ bs q. refl;
   }
   walk (x ∷ []) k zero cycle s e p g =
@@ -158,9 +137,9 @@ module _ (work : Work) (f : ℕ → Beat) (total : ℕ) (last : Exceptions → E
       joined P Q (ends_in (f k) x) (Some []) (Some (f k ∷ [])) (wanted_in cycle x.given s) (want_in (f k)) [] [] []
       (nvic.after_cycle (lines_in x.given) cycle s.nvic) (nvic.after_cycle (lines_in x.given) cycle (last s.nvic)) u
       (wanted_by cycle x k s p (omega (arith, e)))
-      (λ o. record { mid = λ b bs q. none_left b bs q; over = λ q. ended_by cycle x k s p g.0 (omega (arith, e)) o; wants = λ bs q. refl })
+      (λ o. record { mid = λ b bs q. absurd (cc); over = λ q. ended_by cycle x k s p g.0 (omega (arith, e)) o; wants = λ bs q. refl })
       (λ o. let w = waited_by cycle x k s p (omega (arith, e)) o in
-      record { mid = λ b bs q. ((k, w.0), w.1); over = λ q. some_left (f k) [] q; wants = λ bs q. refl })
+      record { mid = λ b bs q. ((k, w.0), w.1); over = λ q. absurd (cc); wants = λ bs q. refl })
   walk (x ∷ []) k (suc c) cycle s e p g =
       let u = after_served cycle x s in
       let rest = map f (numbers_from (k + 1) (suc c)) in
@@ -168,16 +147,16 @@ module _ (work : Work) (f : ℕ → Beat) (total : ℕ) (last : Exceptions → E
       (nvic.after_cycle (lines_in x.given) cycle s.nvic) (nvic.after_cycle (lines_in x.given) cycle (last s.nvic)) u
       (wanted_by cycle x k s p (omega (arith, e)))
       (λ o. let w = followed_by cycle x k s p g.0 (omega (arith, e)) o in
-      record { mid = λ b bs q. ((k + 1, w.0), w.1); over = λ q. some_left (f (k + 1)) (map f (numbers_from (k + 1 + 1) c)) q; wants = λ bs q. refl })
+      record { mid = λ b bs q. ((k + 1, w.0), w.1); over = λ q. absurd (cc); wants = λ bs q. refl })
       (λ o. let w = waited_by cycle x k s p (omega (arith, e)) o in
-      record { mid = λ b bs q. ((k, w.0), w.1); over = λ q. some_left (f k) rest q; wants = λ bs q. refl })
+      record { mid = λ b bs q. ((k, w.0), w.1); over = λ q. absurd (cc); wants = λ bs q. refl })
   walk (x ∷ y ∷ ys) k zero cycle s e p g =
       let u = after_served cycle x s in
       let t = after_all_served (cycle + 1) (y ∷ ys) u in
       joined P Q (ends_in (f k) x) None (left_of (f k ∷ []) (y ∷ ys)) (wanted_in cycle x.given s) (want_in (f k)) (wants_served (cycle + 1) (y ∷ ys) u) [] (wants_through (f k ∷ []) (y ∷ ys))
       (after_cycles cycle (lines_of (x ∷ y ∷ ys)) s.nvic) (after_last last cycle (lines_of (x ∷ y ∷ ys)) s.nvic) t
       (wanted_by cycle x k s p (omega (arith, e)))
-      (λ o. record { mid = λ b bs q. past (b ∷ bs) q; over = λ q. past [] q; wants = λ bs q. past bs q })
+      (λ o. record { mid = λ b bs q. absurd (cc); over = λ q. absurd (cc); wants = λ bs q. absurd (cc) })
       (λ o. let w = waited_by cycle x k s p (omega (arith, e)) o in
       moved (left_of (f k ∷ []) (y ∷ ys)) (wants_served (cycle + 1) (y ∷ ys) u) (wants_through (f k ∷ []) (y ∷ ys)) cycle (lines_in x.given) (lines_of (y ∷ ys)) s.nvic u.nvic t w.1
       (lines_in y.given) (lines_of ys) refl (walk (y ∷ ys) k zero (cycle + 1) u e w.0 g.1))
