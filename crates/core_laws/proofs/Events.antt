@@ -1,5 +1,5 @@
 -- When WFE moves on, and where a return faults.
-use Rattle.std.proofs.Common.{◌≡◌, ℕ, ◌^◌, ◌%◌, ◌==◌, ◌&&◌, ◌||◌, not, Bool, true, false, cond, List, [], ◌∷◌, refl, sym, ap, ap₂, subst, ◌∙◌, true≢false, Some, None}
+use Rattle.std.proofs.Common.{◌≡◌, ℕ, ◌^◌, ◌%◌, ◌==◌, ◌&&◌, ◌||◌, not, Bool, true, false, cond, List, [], ◌∷◌, refl, sym, ap, ap₂, subst, ◌∙◌, Some, None}
 use Rattle.core_laws.proofs.Shared.{slice_index, Why, Regs, Inner, beats_of, return_of, wakes_of, Lines, answered, Ready, Work, stopped, asks_awake, asks_next, asks_fault, asks_beat, asks_return, locks_last, ends_with, is_locked, want_of, waiting, ended, passed, after_inner, closed, returning, OnlyPendsHardFault, is_bad, is_misfit, State, Given, lines_in, wanted_in, or_parts}
 use Rattle.rp_base.specs.declared.op.Op.TheVariants as op
 use Rattle.rp_base.specs.declared.Why.TheVariants as why

@@ -1,5 +1,5 @@
 -- A return gives back what an entry found.
-use Rattle.std.proofs.Common.{◌≡◌, ℕ, zero, suc, ◌+◌, ◌-◌, ◌*◌, ◌/◌, ◌%◌, ◌^◌, ◌<◌, ◌≤◌, ◌≢◌, ◌==◌, ◌&&◌, ◌||◌, ◌⊎◌, not, Bool, true, false, cond, List, [], ◌∷◌, length, refl, sym, ap, ap₂, subst, ◌∙◌, inl, inr, arith, true≢false, lt-ltb}
+use Rattle.std.proofs.Common.{◌≡◌, ℕ, zero, suc, ◌+◌, ◌-◌, ◌*◌, ◌/◌, ◌%◌, ◌^◌, ◌<◌, ◌≤◌, ◌≢◌, ◌==◌, ◌&&◌, ◌||◌, not, Bool, true, false, cond, List, [], ◌∷◌, length, refl, sym, ap, ap₂, subst, ◌∙◌, inl, inr, arith, lt-ltb}
 use Rattle.core_laws.proofs.Shared.{Option, Some, None, map, max, slice_index, slice_set, bit_and, bit_or, int_lt, bit_at, pow-lt, ltb-true, ne_eqb, nat_tests, get_or-set_same, get_or-set_other, length-set, and-not, and_comm, and_le_l, or_mod, or_disjoint, or_lt, bit_at_or, bit_at-lt, bit_at-pow_same, bit_at-pow_other, and_pow, same_from_bits_below, has_bit, bit_number, Regs, Beat, Inner, is_thread, sp_of, xpsr_of, Exceptions, numbers_from, is_number, is_member, minus, entered, left, rank_of, priority_of, after_cycles, Want, access, is_ram, taken_of, entry_frame, stacked_xpsr, stacked, vector_address, stacking, link_of, entry_beat, with_entry, is_to_process, is_alone, return_frame, is_bad, is_misfit, stacked_number, stack_after, with_five, with_frame, with_return, State, Served, after_all_served, candidates, lines_in, last_lines, ends_in, left_of, want_in, wants_through, lines_of, Stays, entry_beats, HandlerBegins, BeginsReturn, HasFrame, after_leaving, IsBack, IsThere, written, AreThere, IsGivenBack, KeepsTheRest, AReturnGivesBackWhatAnEntryFound, active_before, and_parts, false_from_ne_true, both_ways, cases_eq, and_self_left}
 use Rattle.std.specs.Int.Bits.{or_zero_r}
 use Rattle.std.proofs.lemmas.Grind.{same_number_lists}

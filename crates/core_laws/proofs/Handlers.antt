@@ -1,6 +1,6 @@
 -- An entry takes its beats, and so does a return.
-use Rattle.std.proofs.Common.{◌≡◌, ℕ, ◌+◌, ◌-◌, ◌*◌, ◌%◌, ◌^◌, ◌<◌, ◌≤◌, ◌≢◌, ◌==◌, ◌&&◌, ◌⊎◌, Bool, true, false, cond, List, [], ◌∷◌, ◌++◌, length, refl, sym, ap, ap₂, subst, ◌∙◌, inl, inr, arith, true≢false, lt-ltb, le-ltb}
-use Rattle.core_laws.proofs.Shared.{Option, Some, None, map, nat_lt, slice_index, take, bit_or, ltb-true, ne_eqb, take_more, take_all, length-take-le, Regs, Beat, Inner, access, Exceptions, numbers_from, is_number, minus, entered, left, pended, with_pending, after_cycles, Word, Want, answered, Work, vector_address, stacking, entry_beat, with_entry, entry_ended, taken_first, return_frame, unstacking, return_beat, is_bad, is_misfit, with_return, after_return, return_ended, is_locked, stopped, asks_awake, asks_next, asks_boundary, asks_taken, asks_return, asks_fault, asks_beat, in_beat, with_value, waiting, followed, with_read, passed, passed_entry, passed_return, closed, State, Given, lines_in, Served, after_served, after_all_served, left_of, lines_of, Stays, Takes, HasRoom, AnEntryTakesItsBeats, BeginsReturn, HasFrame, after_leaving, AReturnTakesItsBeats, cases_eq, cases_lt, and-false, cond_both}
+use Rattle.std.proofs.Common.{◌≡◌, ℕ, ◌+◌, ◌-◌, ◌*◌, ◌%◌, ◌^◌, ◌<◌, ◌==◌, ◌&&◌, Bool, true, false, cond, List, [], ◌∷◌, ◌++◌, length, refl, sym, ap, ap₂, subst, ◌∙◌, inl, inr, arith, lt-ltb, le-ltb}
+use Rattle.core_laws.proofs.Shared.{Option, Some, None, map, nat_lt, slice_index, take, bit_or, ltb-true, ne_eqb, take_more, take_all, length-take-le, Regs, Beat, Inner, access, Exceptions, numbers_from, is_number, minus, entered, left, pended, after_cycles, Word, Want, answered, Work, vector_address, stacking, entry_beat, with_entry, entry_ended, taken_first, return_frame, unstacking, return_beat, is_bad, is_misfit, with_return, after_return, return_ended, is_locked, stopped, asks_awake, asks_next, asks_boundary, asks_taken, asks_return, asks_fault, asks_beat, in_beat, with_value, waiting, followed, with_read, passed, passed_entry, passed_return, closed, State, Given, lines_in, Served, after_served, after_all_served, left_of, lines_of, Stays, Takes, HasRoom, AnEntryTakesItsBeats, BeginsReturn, HasFrame, after_leaving, AReturnTakesItsBeats, cases_eq, cases_lt, and-false, cond_both}
 use Rattle.rp_base.specs.declared.Size.TheVariants as sizes
 use Rattle.m0_nvic.specs.Cycle as nvic
 use Rattle.m0_core.specs.declared.doing.Work.TheVariants as works

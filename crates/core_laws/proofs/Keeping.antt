@@ -3,7 +3,7 @@ use Rattle.std.proofs.Common.{◌≡◌, ◌∙◌, ℕ, ◌+◌, ◌*◌, ◌/�
 use Rattle.core_laws.proofs.Shared.{◌^◌, slice_index, slice_set, length-set, bit_number, has_bit, Op, Regs, is_thread, with_sp, with_pc, with_register, moved_on, condition_holds, is_exception_return, registers_of, effect_of}
 use Rattle.rp_base.specs.declared.op.Op.TheVariants as op
 use Rattle.m0_beats.specs.Special.{with_special}
-use Rattle.m0_beats.specs.Effects.{branched, exchanged, with_loaded, with_all_loaded}
+use Rattle.m0_beats.specs.Effects.{exchanged, with_loaded, with_all_loaded}
 
 -- stack pointers stay multiples of 4 and PC even; the mode stays, and SPSEL in Handler mode
 pub record Keeps (r t : Regs) : Type 0 where

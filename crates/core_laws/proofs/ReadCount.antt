@@ -1,6 +1,6 @@
 -- No instruction reads more than 16 values.
-use Rattle.std.proofs.Common.{◌≡◌, ℕ, suc, ◌+◌, ◌≤◌, ◌*◌, ◌==◌, ◌/◌, ◌%◌, ◌^◌, Bool, true, false, cond, nat_le, List, [], ◌∷◌, ◌++◌, length, refl, ap, arith}
-use Rattle.core_laws.proofs.Shared.{Option, Some, None, map, filter, bit_number, has_bit, Request, Op, Regs, Beat, Inner, Access, condition_holds, registers_of, accesses, single, pop_end, beats_of, register_of, sp_of}
+use Rattle.std.proofs.Common.{◌≡◌, ℕ, suc, ◌+◌, ◌≤◌, ◌*◌, ◌%◌, ◌^◌, Bool, true, false, cond, List, [], ◌∷◌, ◌++◌, length, refl, ap, arith}
+use Rattle.core_laws.proofs.Shared.{Option, Some, None, map, filter, bit_number, has_bit, Op, Regs, Beat, Inner, Access, registers_of, accesses, pop_end, beats_of, register_of, sp_of}
 use Rattle.rp_base.specs.declared.op.Op.TheVariants as op
 
 -- how many of these beats read

@@ -1,5 +1,5 @@
 -- Numbers, and sets of exceptions as numbers.
-use Rattle.std.proofs.Common.{◌≡◌, ◌∙◌, ℕ, zero, suc, ◌-◌, ◌*◌, ◌^◌, ◌≤◌, ◌==◌, ◌&&◌, Bool, true, false, cond, refl, sym, ap, ap₂, arith, true≢false}
+use Rattle.std.proofs.Common.{◌≡◌, ◌∙◌, ℕ, zero, suc, ◌-◌, ◌*◌, ◌^◌, ◌≤◌, ◌==◌, Bool, true, false, cond, refl, ap, ap₂, arith, true≢false}
 use Rattle.core_laws.proofs.Shared.{Option, max, bit_or, bit_at, ne_eqb, bit_at_and, bit_at_or, bit_at-lt, Op, has_bit, SVCALL, Exceptions, is_number, is_member, minus, of_interrupts, with_pending, without_pending, pended, pended_if, cleared_if, is_call, called}
 use Rattle.rp_base.proofs.Rows.{Kept, keeps}
 use Rattle.m0_nvic.specs.Cycle as nvic

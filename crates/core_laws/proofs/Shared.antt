@@ -9,7 +9,7 @@ pub use Rattle.lane_look.specs.Asking.{Asking, answered}
 pub use Rattle.lane_look.specs.declared.lane.Ask.TheVariants.{Half, Lines, Word}
 pub use Rattle.lane_look.specs.declared.lane.Ask.{Ask}
 pub use Rattle.lane_look.specs.declared.lane.Want.{Want}
-pub use Rattle.m0_beats.specs.Beats.{access, accesses, pop_end, single}
+pub use Rattle.m0_beats.specs.Beats.{access, accesses, pop_end}
 unfoldable pub use Rattle.m0_beats.specs.Beats.{registers_of}
 pub use Rattle.m0_beats.specs.Conditions.{condition_holds, is_exception_return}
 unfoldable pub use Rattle.m0_beats.specs.Instructions.{beats_of, effect_of, return_of}

@@ -1,6 +1,6 @@
 -- A core stops at its causes, and where it stops there is one.
-use Rattle.std.proofs.Common.{◌≡◌, ℕ, ◌+◌, ◌-◌, ◌%◌, ◌^◌, ◌==◌, ◌&&◌, Bool, true, false, cond, refl, sym, ap, ap₂, subst, ◌∙◌, true≢false, Option, Some, None, arith}
-use Rattle.core_laws.proofs.Shared.{slice_index, nat_lt, nat_tests, Request, Why, Spot, Op, master_of, word_written, place_of, begins_long, operation_of, Beat, Inner, Access, is_allowed, Ask, Lines, Half, Want, Asking, answered, Ready, Question, Act, Work, is_breakpoint, stopped, asks, asks_awake, asks_next, asks_boundary, asks_taken, asks_first, asks_half, asks_second, asks_decoded, asks_fault, asks_beat, asks_return, asks_work, beat_of_work, in_beat, in_ram, at_spot, locks_last, carried, ends_with, is_ram, is_faulty, is_locked, taken_of, signals, want_of, want_of_act, is_bad, is_misfit, return_beat, unstacking, State, Given, wanted_in, is_stop, half_at, IsEncoded, and_parts, eqb-true}
+use Rattle.std.proofs.Common.{◌≡◌, ℕ, ◌+◌, ◌-◌, ◌%◌, ◌^◌, ◌==◌, ◌&&◌, Bool, true, false, cond, refl, sym, ap, ap₂, subst, ◌∙◌, true≢false, Option, Some, None}
+use Rattle.core_laws.proofs.Shared.{slice_index, nat_lt, Request, Why, Spot, Op, master_of, word_written, place_of, begins_long, operation_of, Beat, Inner, Access, is_allowed, Ask, Lines, Half, Want, Asking, answered, Ready, Question, Act, Work, is_breakpoint, stopped, asks, asks_awake, asks_next, asks_boundary, asks_taken, asks_first, asks_half, asks_second, asks_decoded, asks_fault, asks_beat, asks_return, asks_work, beat_of_work, in_beat, in_ram, at_spot, locks_last, carried, ends_with, is_ram, is_faulty, is_locked, taken_of, signals, want_of, want_of_act, is_bad, is_misfit, return_beat, unstacking, State, Given, wanted_in, is_stop, half_at, IsEncoded, and_parts, eqb-true}
 use Rattle.rp_base.specs.declared.Why.TheVariants as why
 use Rattle.rp_base.specs.declared.map.Spot.TheVariants as spot
 use Rattle.lane_look.specs.declared.lane.Want.TheVariants as want

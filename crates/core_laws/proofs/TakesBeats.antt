@@ -1,5 +1,5 @@
 -- An instruction takes its beats: one cycle, then all of them, also where its accesses wait.
-use Rattle.std.proofs.Common.{◌≡◌, ℕ, zero, suc, ◌+◌, ◌%◌, ◌^◌, ◌<◌, ◌≤◌, ◌==◌, ◌&&◌, ◌||◌, ◌⊎◌, inl, inr, not, Bool, true, false, cond, List, [], ◌∷◌, ◌++◌, length, refl, sym, ap, ap₂, subst, ◌∙◌, arith, append_assoc, append-nil, length-append, true≢false, lt-ltb, le-ltb}
+use Rattle.std.proofs.Common.{◌≡◌, ℕ, zero, suc, ◌+◌, ◌%◌, ◌^◌, ◌<◌, ◌≤◌, ◌==◌, ◌&&◌, ◌||◌, inl, inr, not, Bool, true, false, cond, List, [], ◌∷◌, ◌++◌, length, refl, sym, ap, ap₂, subst, ◌∙◌, arith, append_assoc, append-nil, length-append, lt-ltb, le-ltb}
 use Rattle.core_laws.proofs.Shared.{Option, Some, None, option_to_list, map, slice_get, unwrap_or, nat_lt, Request, Spot, Op, place_of, begins_long, operation_of, Regs, Beat, Inner, Access, beats_of, effect_of, return_of, Exceptions, wakes_of, Half, answered, Question, awaits_event, awaits_interrupt, master_of, stopped, asks_awake, asks_next, asks_boundary, asks_taken, asks_first, asks_half, asks_second, asks_decoded, asks_fault, asks_beat, beat_of, in_beat, is_faulty, with_value, waiting, returning, called, ended, passed_instruction, passed, is_paused_op, closed, State, Given, lines_in, touched_by, changed_by, exceptions_in, event_in, wanted_in, after_cycle, is_stop, GoesOn, want_at, want_of_beat, wants_in, read_at, read_in, reads_in, IsAtBoundary, half_at, IsEncoded, IsFetched, IsPlain, is_access, and-true, and-false, drop_all, drop, list_any, is_signal, Served, after_served, after_all_served, GoesOnServed, wants_served, wants_of_beats, exceptions_served, event_served, is_over, left_after, reads_served, IsInProgress, IsOver, is_refused, AnInstructionTakesItsBeats, AnInstructionTakesItsBeatsAndWaits, or_parts, cases_Bool}
 use Rattle.rp_base.specs.declared.map.Spot.TheVariants as spot
 use Rattle.rp_base.specs.declared.Why.TheVariants as why
