@@ -5,6 +5,8 @@
 #[cfg(test)]
 mod bus_fabric_tests;
 #[cfg(test)]
+mod deeds;
+#[cfg(test)]
 mod lane_look_tests;
 #[cfg(test)]
 mod m0_alu_tests;
@@ -12,8 +14,6 @@ mod m0_alu_tests;
 mod m0_beats_tests;
 #[cfg(test)]
 mod m0_core_tests;
-#[cfg(test)]
-mod m0_frame_tests;
 #[cfg(test)]
 mod m0_nvic_tests;
 #[cfg(test)]

@@ -1,92 +1,60 @@
 //! Sums, shifts, extensions and products at their corners.
 
+use crate::deeds::{Bench, byte, first_wrong};
 use m0_alu::{ExtendKind, ShiftKind, add_carry, extend, multiply, shift};
 
-/// Sums from the manual's definition: x, y, carry; word, carry, overflow.
-const SUMS: [(u32, u32, bool, u32, bool, bool); 9] = [
-    (0, 0, false, 0, false, false),
-    (0xffff_ffff, 1, false, 0, true, false),
-    (0xffff_ffff, 0xffff_ffff, true, 0xffff_ffff, true, false),
-    (0xffff_ffff, 0, true, 0, true, false),
-    (0x7fff_ffff, 1, false, 0x8000_0000, false, true),
-    (0x7fff_ffff, 0, true, 0x8000_0000, false, true),
-    (0x8000_0000, 0x8000_0000, false, 0, true, true),
-    (0x8000_0000, 0x7fff_ffff, true, 0, true, false),
-    (0x8000_0000, 0xffff_fffe, true, 0x7fff_ffff, true, true),
-];
+/// The arithmetic of a core.
+#[derive(Drop)]
+struct Alu;
 
-/// Shifts: kind, word, amount, carry; word, carry.
-const SHIFTS: [(ShiftKind, u32, u8, bool, u32, bool); 18] = [
-    (ShiftKind::Lsl, 0x8000_0001, 0, true, 0x8000_0001, true),
-    (ShiftKind::Lsl, 0x8000_0001, 1, false, 2, true),
-    (ShiftKind::Lsl, 0x8000_0001, 31, true, 0x8000_0000, false),
-    (ShiftKind::Lsl, 0x8000_0001, 32, false, 0, true),
-    (ShiftKind::Lsl, 0xffff_ffff, 33, true, 0, false),
-    (ShiftKind::Lsr, 0x8000_0001, 0, false, 0x8000_0001, false),
-    (ShiftKind::Lsr, 0x8000_0001, 1, false, 0x4000_0000, true),
-    (ShiftKind::Lsr, 0x8000_0001, 32, false, 0, true),
-    (ShiftKind::Lsr, 0xffff_ffff, 33, true, 0, false),
-    (ShiftKind::Asr, 0x8000_0002, 1, true, 0xc000_0001, false),
-    (ShiftKind::Asr, 0x8000_0000, 31, false, 0xffff_ffff, false),
-    (ShiftKind::Asr, 0x8000_0000, 32, false, 0xffff_ffff, true),
-    (ShiftKind::Asr, 0x7fff_ffff, 255, true, 0, false),
-    (ShiftKind::Asr, 0x8000_0000, 255, false, 0xffff_ffff, true),
-    (ShiftKind::Ror, 0x0000_0001, 0, true, 1, true),
-    (ShiftKind::Ror, 0x1234_5678, 8, true, 0x7812_3456, false),
-    (ShiftKind::Ror, 0x8000_0001, 32, false, 0x8000_0001, true),
-    (ShiftKind::Ror, 0x0000_0003, 33, false, 0x8000_0001, true),
-];
-
-/// Extensions and reversals: kind, word; word.
-const EXTENSIONS: [(ExtendKind, u32, u32); 9] = [
-    (ExtendKind::Sxth, 0x1234_8765, 0xffff_8765),
-    (ExtendKind::Sxth, 0xffff_7fff, 0x0000_7fff),
-    (ExtendKind::Sxtb, 0x1234_5680, 0xffff_ff80),
-    (ExtendKind::Uxth, 0x1234_8765, 0x0000_8765),
-    (ExtendKind::Uxtb, 0x1234_5680, 0x0000_0080),
-    (ExtendKind::Rev, 0x1234_5678, 0x7856_3412),
-    (ExtendKind::Rev16, 0x1234_5678, 0x3412_7856),
-    (ExtendKind::Revsh, 0x1234_5678, 0x0000_7856),
-    (ExtendKind::Revsh, 0x1234_0080, 0xffff_8000),
-];
-
-/// The sum of a row is so.
-fn adds(row: &(u32, u32, bool, u32, bool, bool)) -> bool {
-    let (x, y, carry, sum, c, v) = *row;
-    let result = add_carry(x, y, carry);
-    result.0 == sum && result.1 == c && result.2 == v
+/// A shift of a word by an amount with a carry gives a word and a carry.
+fn shifts(kind: ShiftKind, words: &[u32; 8]) -> bool {
+    let (word, carry) = shift(kind, words[0], byte(words[1]), words[2] == 1);
+    word == words[3] && carry == (words[4] == 1)
 }
 
-/// The shift of a row is so.
-fn shifts(row: &(ShiftKind, u32, u8, bool, u32, bool)) -> bool {
-    let (kind, x, amount, carry, word, c) = *row;
-    let result = shift(kind, x, amount, carry);
-    result.0 == word && result.1 == c
-}
-
-#[test]
-fn sums(rt: HostRuntime) {
-    for (index, row) in SUMS.iter().enumerate() {
-        assert!(rt; adds(row), "row {index}");
+impl Bench for Alu {
+    fn does(&mut self, verb: &str, words: &[u32; 8]) -> bool {
+        let [x, y, third, ..] = *words;
+        match verb {
+            // two words and a carry; the sum, the carry and the overflow
+            "add" => {
+                let (sum, carry, overflow) = add_carry(x, y, third == 1);
+                sum == words[3] && carry == (words[4] == 1) && overflow == (words[5] == 1)
+            }
+            "lsl" => shifts(ShiftKind::Lsl, words),
+            "lsr" => shifts(ShiftKind::Lsr, words),
+            "asr" => shifts(ShiftKind::Asr, words),
+            "ror" => shifts(ShiftKind::Ror, words),
+            // a word, and what it becomes
+            "sxth" => extend(ExtendKind::Sxth, x) == y,
+            "sxtb" => extend(ExtendKind::Sxtb, x) == y,
+            "uxth" => extend(ExtendKind::Uxth, x) == y,
+            "uxtb" => extend(ExtendKind::Uxtb, x) == y,
+            "rev" => extend(ExtendKind::Rev, x) == y,
+            "rev16" => extend(ExtendKind::Rev16, x) == y,
+            "revsh" => extend(ExtendKind::Revsh, x) == y,
+            "mul" => multiply(x, y) == third,
+            _ => false,
+        }
     }
 }
 
-#[test]
-fn shifted_words(rt: HostRuntime) {
-    for (index, row) in SHIFTS.iter().enumerate() {
-        assert!(rt; shifts(row), "row {index}");
-    }
-}
+/// Values from the manual's definitions.
+const TEXT: &str = "\
+    add 0 0 0 0 0 0; add ffffffff 1 0 0 1 0; add ffffffff ffffffff 1 ffffffff 1 0; add ffffffff 0 1 0 1 0;\
+    add 7fffffff 1 0 80000000 0 1; add 7fffffff 0 1 80000000 0 1; add 80000000 80000000 0 0 1 1;\
+    add 80000000 7fffffff 1 0 1 0; add 80000000 fffffffe 1 7fffffff 1 1;\
+    lsl 80000001 0 1 80000001 1; lsl 80000001 1 0 2 1; lsl 80000001 #31 1 80000000 0; lsl 80000001 #32 0 0 1;\
+    lsl ffffffff #33 1 0 0; lsr 80000001 0 0 80000001 0; lsr 80000001 1 0 40000000 1; lsr 80000001 #32 0 0 1;\
+    lsr ffffffff #33 1 0 0; asr 80000002 1 1 c0000001 0; asr 80000000 #31 0 ffffffff 0; asr 80000000 #32 0 ffffffff 1;\
+    asr 7fffffff #255 1 0 0; asr 80000000 #255 0 ffffffff 1; ror 1 0 1 1 1; ror 12345678 8 1 78123456 0;\
+    ror 80000001 #32 0 80000001 1; ror 3 #33 0 80000001 1;\
+    sxth 12348765 ffff8765; sxth ffff7fff 7fff; sxtb 12345680 ffffff80; uxth 12348765 8765; uxtb 12345680 80;\
+    rev 12345678 78563412; rev16 12345678 34127856; revsh 12345678 7856; revsh 12340080 ffff8000;\
+    mul 10001 ffff ffffffff; mul ffffffff ffffffff 1;";
 
 #[test]
-fn extensions(rt: HostRuntime) {
-    for (index, (kind, x, word)) in EXTENSIONS.iter().enumerate() {
-        assert!(rt; extend(*kind, *x) == *word, "row {index}");
-    }
-}
-
-#[test]
-fn products(rt: HostRuntime) {
-    let least = multiply(0x1_0001, 0xffff) == 0xffff_ffff;
-    assert!(rt; least && multiply(0xffff_ffff, 0xffff_ffff) == 1);
+fn corners(rt: HostRuntime) {
+    assert_eq!(rt; first_wrong(&mut Alu, TEXT), None);
 }

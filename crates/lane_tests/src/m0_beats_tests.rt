@@ -1,4 +1,4 @@
-//! Outside vectors: programs worked by hand, and the manual's timing and results.
+//! The manual's timing and results, of instructions one by one.
 
 use m0_beats::{
     Beat, Regs, beat_at, beat_count, beats, effect, exception_return, has_more, is_unaligned,
@@ -6,39 +6,10 @@ use m0_beats::{
 use rp_base::op::Op;
 use rp_base::{Request, Size};
 
-/// The registers with which a core begins: MSP, LR, PC and T alone are not 0.
-const START: Regs = Regs {
-    r: [0; 13],
-    msp: 0x2004_2000,
-    psp: 0,
-    lr: 0xffff_ffff,
-    pc: 0x2000_0000,
-    n: false,
-    z: false,
-    c: false,
-    v: false,
-    t: true,
-    ipsr: 0,
-    primask: false,
-    spsel: false,
-};
-
 /// Registers in the middle of a program: R0 an SRAM address, R1 an SIO address, R2 a negative number.
 const AMID: Regs = Regs {
     r: [
-        0x2000_0100,
-        0xd000_0000,
-        0x8765_4321,
-        3,
-        0,
-        0,
-        0,
-        0,
-        0,
-        0,
-        0,
-        0,
-        0,
+        0x20000100, 0xd0000000, 0x87654321, 3, 0, 0, 0, 0, 0, 0, 0, 0, 0,
     ],
     msp: 0x2004_1f00,
     psp: 0x2003_0000,
@@ -53,122 +24,6 @@ const AMID: Regs = Regs {
     primask: false,
     spsel: false,
 };
-
-/// What is carried out, or what the registers have then.
-#[derive(Clone, Copy)]
-enum Deed {
-    /// An instruction, and its number of beats.
-    Step(Op, usize),
-    /// The same, where it reads two words.
-    Reading(Op, u32, u32, usize),
-    /// One of R0 to R12.
-    Has(usize, u32),
-    /// MSP.
-    Msp(u32),
-    /// LR.
-    Lr(u32),
-    /// PC.
-    Pc(u32),
-    /// xPSR.
-    Xpsr(u32),
-}
-
-/// Carries out an instruction, and answers how many beats it has.
-fn step(regs: &mut Regs, op: Op, read: &[u32]) -> usize {
-    let count = beats(&op, regs).len();
-    effect(&op, regs, read);
-    count
-}
-
-/// What is carried out.
-fn acts(regs: &mut Regs, deed: &Deed) -> bool {
-    match *deed {
-        Deed::Step(op, count) => step(regs, op, &[]) == count,
-        Deed::Reading(op, first, second, count) => step(regs, op, &[first, second]) == count,
-        _ => true,
-    }
-}
-
-/// What is seen.
-fn shows(regs: &Regs, deed: &Deed) -> bool {
-    match *deed {
-        Deed::Has(number, word) => number < 13 && regs.r[number] == word,
-        Deed::Msp(word) => regs.msp == word,
-        Deed::Lr(word) => regs.lr == word,
-        Deed::Pc(word) => regs.pc == word,
-        Deed::Xpsr(word) => regs.xpsr() == word && regs.words()[16] == word,
-        _ => true,
-    }
-}
-
-/// The first of these that is not so of a core that begins.
-fn first_wrong(deeds: &[Deed]) -> Option<usize> {
-    let mut regs = START;
-    for (index, deed) in deeds.iter().enumerate() {
-        if !acts(&mut regs, deed) || !shows(&regs, deed) {
-            return Some(index);
-        }
-    }
-    None
-}
-
-/// 2000 43C0 2100 43C9 4288 4148: ADCS of two greatest words with a carry.
-const ADDS: [Deed; 10] = [
-    Deed::Step(Op::MovImm { d: 0, i: 0 }, 1),
-    Deed::Step(Op::Mvn { m: 0, d: 0 }, 1),
-    Deed::Step(Op::MovImm { d: 1, i: 0 }, 1),
-    Deed::Step(Op::Mvn { m: 1, d: 1 }, 1),
-    Deed::Step(Op::Cmp { m: 1, d: 0 }, 1),
-    Deed::Step(Op::Adc { m: 1, d: 0 }, 1),
-    Deed::Has(0, 0xffff_ffff),
-    Deed::Has(1, 0xffff_ffff),
-    Deed::Pc(0x2000_000c),
-    Deed::Xpsr(0xa100_0000),
-];
-
-/// 2001 07C0 22FF 0001 0800 4111: LSRS by 32 and ASRS by 255.
-const SHIFTS: [Deed; 11] = [
-    Deed::Step(Op::MovImm { d: 0, i: 1 }, 1),
-    Deed::Step(Op::LslImm { i: 31, m: 0, d: 0 }, 1),
-    Deed::Step(Op::MovImm { d: 2, i: 255 }, 1),
-    Deed::Step(Op::LslImm { i: 0, m: 0, d: 1 }, 1),
-    Deed::Step(Op::LsrImm { i: 0, m: 0, d: 0 }, 1),
-    Deed::Step(Op::AsrReg { m: 2, d: 1 }, 1),
-    Deed::Has(0, 0),
-    Deed::Has(1, 0xffff_ffff),
-    Deed::Has(2, 0xff),
-    Deed::Pc(0x2000_000c),
-    Deed::Xpsr(0xa100_0000),
-];
-
-/// The call of 2003 F000 F801 BE00 B501 BD02.
-const CALL: Op = Op::Bl {
-    s: false,
-    i: 1,
-    j: 3,
-};
-
-/// BL, PUSH and POP with PC.
-const CALLS: [Deed; 11] = [
-    Deed::Step(Op::MovImm { d: 0, i: 3 }, 1),
-    Deed::Step(CALL, 3),
-    Deed::Pc(0x2000_0008),
-    Deed::Lr(0x2000_0007),
-    Deed::Step(Op::Push { r: true, l: 1 }, 3),
-    Deed::Msp(0x2004_1ff8),
-    Deed::Reading(Op::Pop { r: true, l: 2 }, 3, 0x2000_0007, 5),
-    Deed::Has(1, 3),
-    Deed::Msp(0x2004_2000),
-    Deed::Pc(0x2000_0006),
-    Deed::Xpsr(0x0100_0000),
-];
-
-#[test]
-fn programs(rt: HostRuntime) {
-    assert_eq!(rt; first_wrong(&ADDS), None);
-    assert_eq!(rt; first_wrong(&SHIFTS), None);
-    assert_eq!(rt; first_wrong(&CALLS), None);
-}
 
 /// Instructions in the middle of a program with their numbers of beats.
 const COUNTS: [(Op, usize); 18] = [

@@ -1,8 +1,8 @@
 //! Programs worked by hand, over a small memory: their results by the manual, their cycles by its timing table.
 
+use crate::deeds::{Bench, first_wrong};
 use lane_look::{Ask, Lane, Look, Marks, Turn, Want};
 use m0_core::Core;
-use m0_nvic::numbers::{HARDFAULT, INTERRUPT_0, PENDSV, SVCALL, SYSTICK};
 use rp_base::map::{Spot, place};
 use rp_base::{Master, Request, Size, Why};
 
@@ -30,34 +30,13 @@ impl Look for Memory {
 }
 
 impl Memory {
-    /// Code from the start of SRAM.
-    fn with_code(code: &[u16]) -> Memory {
-        let mut memory = Memory {
+    /// A memory of zeros.
+    fn new() -> Memory {
+        Memory {
             low: [0; 64],
             high: [0; 16],
             lines: 0,
-        };
-        for (k, half) in code.iter().enumerate() {
-            if k < 128 {
-                memory.low[k / 2] |= u32::from(*half) << (16 * (k % 2));
-            }
         }
-        memory
-    }
-
-    /// Vectors from the start of SRAM, by their numbers, and code behind 32 of them.
-    fn with_vectors(vectors: &[(u8, u32)], code: &[u16]) -> Memory {
-        let mut halves = [0; 128];
-        for (k, half) in code.iter().enumerate() {
-            if k < 64 {
-                halves[64 + k] = *half;
-            }
-        }
-        let mut memory = Memory::with_code(&halves);
-        for (number, vector) in vectors {
-            memory.set_word(0x2000_0000 + 4 * u32::from(*number % 64), *vector);
-        }
-        memory
     }
 
     /// The word of an address.
@@ -126,294 +105,220 @@ fn run(core: &mut Core, memory: &mut Memory) -> (u32, Option<Why>) {
     (100, None)
 }
 
-/// What is done to a core, or seen of it.
-#[derive(Clone, Copy)]
-pub(crate) enum Deed {
-    /// The core's interrupt lines.
-    Lines(u32),
-    /// The event register is set.
-    Signal,
+/// A core over a memory, and how many halfwords of SRAM stand before the next ones of its code.
+#[derive(Drop)]
+struct Running {
+    core: Core,
+    memory: Memory,
+    at: usize,
+}
+
+/// Core 0, which does not run yet.
+fn asleep() -> Running {
+    Running {
+        core: Core::new(0),
+        memory: Memory::new(),
+        at: 0,
+    }
+}
+
+impl Running {
+    /// Eight more halfwords of code.
+    fn push_code(&mut self, words: &[u32; 8]) {
+        for half in words {
+            let index = self.at / 2;
+            if index < 64 {
+                self.memory.low[index] |= *half << (16 * (self.at % 2));
+                self.at += 1;
+            }
+        }
+    }
+
     /// So many cycles with no stop, in which accesses outside SRAM wait.
-    Pass(u32),
-    /// A run of at most 100 cycles, in how many of them it stops, and by what.
-    Run(u32, Option<Why>),
-    /// A run that stops by this.
-    Ends(Why),
-    /// What a register has.
-    Has(usize, u32),
-    /// What a word of the memory is.
-    Word(u32, u32),
-}
-
-/// What is done.
-fn acts(core: &mut Core, memory: &mut Memory, deed: &Deed) -> bool {
-    match *deed {
-        Deed::Lines(lines) => memory.lines = lines,
-        Deed::Signal => core.signal(),
-        Deed::Pass(count) => return passes(core, memory, count),
-        Deed::Run(count, why) => {
-            let (cycles, cause) = run(core, memory);
-            return cycles == count && cause == why;
+    fn passes(&mut self, count: u32) -> bool {
+        for _ in 0..count {
+            if cycle(&mut self.core, &mut self.memory, Turn::Wait).is_some() {
+                return false;
+            }
         }
-        Deed::Ends(why) => return run(core, memory).1 == Some(why),
-        _ => {}
+        true
     }
-    true
-}
 
-/// So many cycles with no stop.
-fn passes(core: &mut Core, memory: &mut Memory, count: u32) -> bool {
-    for _ in 0..count {
-        if cycle(core, memory, Turn::Wait).is_some() {
-            return false;
+    /// A run of so many cycles ends so.
+    fn ends(&mut self, count: u32, why: Option<Why>) -> bool {
+        run(&mut self.core, &mut self.memory) == (count, why)
+    }
+
+    /// What a register has, by its number.
+    fn has(&self, number: u32, word: u32) -> bool {
+        number < 17 && self.core.registers()[number as usize] == word
+    }
+
+    /// What is seen.
+    fn shows(&self, verb: &str, words: &[u32; 8]) -> bool {
+        match verb {
+            "has" => self.has(words[0], words[1]),
+            "sp" => self.has(13, words[0]),
+            "lr" => self.has(14, words[0]),
+            "pc" => self.has(15, words[0]),
+            "xpsr" => self.has(16, words[0]),
+            // an address and its word
+            "word" => self.memory.word(words[0]) == words[1],
+            _ => false,
         }
     }
-    true
 }
 
-/// What is seen.
-fn shows(core: &Core, memory: &Memory, deed: &Deed) -> bool {
-    match *deed {
-        Deed::Has(number, word) => number < 17 && core.registers()[number] == word,
-        Deed::Word(address, word) => memory.word(address) == word,
-        _ => true,
-    }
-}
-
-/// The first of these that is not so.
-fn wrong_deed(core: &mut Core, memory: &mut Memory, deeds: &[Deed]) -> Option<usize> {
-    for (index, deed) in deeds.iter().enumerate() {
-        if !acts(core, memory, deed) || !shows(core, memory, deed) {
-            return Some(index);
+impl Bench for Running {
+    fn does(&mut self, verb: &str, words: &[u32; 8]) -> bool {
+        match verb {
+            // code from the start of SRAM, and the stack at the end
+            "alone" => self.core.start(0, 0x2004_2000, 0x2000_0001),
+            // code behind 32 vectors at the start of SRAM, and a stack pointer
+            "behind" => {
+                self.core.start(0x2000_0000, words[0], 0x2000_0081);
+                self.at = 64;
+            }
+            "vector" => self
+                .memory
+                .set_word(0x2000_0000 + 4 * (words[0] % 32), words[1]),
+            "code" => self.push_code(words),
+            // the core's interrupt lines, and its event register
+            "lines" => self.memory.lines = words[0],
+            "signal" => self.core.signal(),
+            // cycles in which accesses outside SRAM wait
+            "pass" => return self.passes(words[0]),
+            // after so many cycles comes BKPT, a lockup, or an address outside; or no stop comes in 100
+            "run" => return self.ends(words[0], Some(Why::Bkpt(0))),
+            "locks" => return self.ends(words[0], Some(Why::Lockup(0))),
+            "leaves" => return self.ends(words[0], Some(Why::Outside(Master::Core0, words[1]))),
+            "waits" => return self.ends(100, None),
+            "ends" => return run(&mut self.core, &mut self.memory).1 == Some(Why::Bkpt(0)),
+            _ => return self.shows(verb, words),
         }
+        true
     }
-    None
 }
 
-/// Code, and what is done from its start on and seen.
-type Alone = (&'static [u16], &'static [Deed]);
-
-/// The first row, and the first of its deeds, that is not so of core 0 at the start of SRAM, its stack at the end.
-fn wrong_alone(rows: &[Alone]) -> Option<(usize, usize)> {
-    for (row, (code, deeds)) in rows.iter().enumerate() {
-        let mut core = Core::new(0);
-        core.start(0, 0x2004_2000, 0x2000_0001);
-        let mut memory = Memory::with_code(code);
-        if let Some(deed) = wrong_deed(&mut core, &mut memory, deeds) {
-            return Some((row, deed));
-        }
-    }
-    None
-}
-
-/// A stack pointer, vectors, code behind them, and what is done from its start on and seen.
-pub(crate) type Behind = (u32, &'static [(u8, u32)], &'static [u16], &'static [Deed]);
-
-/// The first row, and the first of its deeds, that is not so of core 0 behind its vectors.
-pub(crate) fn wrong_behind(rows: &[Behind]) -> Option<(usize, usize)> {
-    for (row, (sp, vectors, code, deeds)) in rows.iter().enumerate() {
-        let mut core = Core::new(0);
-        core.start(0x2000_0000, *sp, 0x2000_0081);
-        let mut memory = Memory::with_vectors(vectors, code);
-        if let Some(deed) = wrong_deed(&mut core, &mut memory, deeds) {
-            return Some((row, deed));
-        }
-    }
-    None
-}
-
-/// The stop of BKPT.
-pub(crate) const BKPT: Option<Why> = Some(Why::Bkpt(0));
-
-const PROGRAMS: [Alone; 5] = [
+/// Programs that run to their end.
+const PROGRAMS: [&str; 10] = [
     // ADCS of two greatest words with a carry.
-    (
-        &[0x2000, 0x43c0, 0x2100, 0x43c9, 0x4288, 0x4148, 0xbe00],
-        &[
-            Deed::Run(6, BKPT),
-            Deed::Has(0, 0xffff_ffff),
-            Deed::Has(1, 0xffff_ffff),
-            Deed::Has(15, 0x2000_000c),
-            Deed::Has(16, 0xa100_0000),
-        ],
-    ),
+    "alone; code 2000 43c0 2100 43c9 4288 4148 be00; run 6; has 0 ffffffff; has 1 ffffffff; pc 2000000c; xpsr a1000000;",
     // LSRS by 32 and ASRS by 255.
-    (
-        &[0x2001, 0x07c0, 0x22ff, 0x0001, 0x0800, 0x4111, 0xbe00],
-        &[
-            Deed::Run(6, BKPT),
-            Deed::Has(0, 0),
-            Deed::Has(1, 0xffff_ffff),
-            Deed::Has(2, 0xff),
-            Deed::Has(16, 0xa100_0000),
-        ],
-    ),
+    "alone; code 2001 07c0 22ff 0001 0800 4111 be00; run 6; has 0 0; has 1 ffffffff; has 2 ff; xpsr a1000000;",
     // BL has three cycles, PUSH of two registers three, POP with PC five.
-    (
-        &[0x2003, 0xf000, 0xf801, 0xbe00, 0xb501, 0xbd02],
-        &[
-            Deed::Run(12, BKPT),
-            Deed::Has(0, 3),
-            Deed::Has(1, 3),
-            Deed::Has(13, 0x2004_2000),
-            Deed::Has(14, 0x2000_0007),
-            Deed::Has(15, 0x2000_0006),
-        ],
-    ),
+    "alone; code 2003 f000 f801 be00 b501 bd02; run #12; has 0 3; has 1 3; sp 20042000; lr 20000007; pc 20000006;",
     // BLX and BX have two cycles each.
-    (
-        &[0x4b02, 0x4798, 0xbe00, 0, 0x2007, 0x4770, 0x0009, 0x2000],
-        &[
-            Deed::Run(7, BKPT),
-            Deed::Has(0, 7),
-            Deed::Has(14, 0x2000_0005),
-            Deed::Has(15, 0x2000_0004),
-        ],
-    ),
+    "alone; code 4b02 4798 be00 0000 2007 4770 0009 2000; run 7; has 0 7; lr 20000005; pc 20000004;",
     // PUSH and POP of two registers have three cycles each.
-    (
-        &[0x2001, 0x2102, 0xb403, 0xbc0c, 0xbe00],
-        &[
-            Deed::Run(8, BKPT),
-            Deed::Has(2, 1),
-            Deed::Has(3, 2),
-            Deed::Has(13, 0x2004_2000),
-        ],
-    ),
+    "alone; code 2001 2102 b403 bc0c be00; run 8; has 2 1; has 3 2; sp 20042000;",
+    // Words, halfwords and bytes: 11 loads and stores of two cycles each, and two MOVS.
+    "alone; code 4806 4907 6001 7842 8843 2503 5744 2502; code 5f46 7041 8081 6807 6840 be00 0080 2000; code 5432 87f6;\
+    run #24; has 0 5432; has 1 87f65432; has 2 54; has 3 87f6; has 4 ffffff87; has 6 ffff87f6; has 7 87f63232;",
+    // Address 21010004 is word 1 of bank 1, which is word 5 of the striped order.
+    "alone; code 4802 4903 6001 4a03 be00 0000 0004 2101; code beef cafe; run 8; has 2 cafebeef;",
+    // STM and LDM of three registers have four cycles each, LDM of two with its base in the list three.
+    "alone; code 4805 2111 2222 2333 c00e 380c c870 380c; code c881 be00 0000 0000 0040 2000;\
+    run #18; has 0 11; has 4 11; has 5 22; has 6 33; has 7 22; xpsr 21000000;",
+    // A load from SIO has one cycle.
+    "alone; code 27d0 063f 6838 be00; run 3; has 0 11223344;",
+    // A byte of an APB register has its lane of the word.
+    "alone; code 2740 063f 7878 be00; run 4; has 0 33;",
+];
+
+/// What ends a run, and waits.
+const STOPS: [&str; 9] = [
+    // SEV sets the event register, and WFE clears it: a second WFE waits until it is set again.
+    "alone; code bf40 bf20 bf20 be00; waits; pc 20000004; signal; run 1;",
+    // WFI waits.
+    "alone; code bf30 be00; waits;",
+    // An access lasts until it is done.
+    "alone; code 2740 063f 6838 be00; pass 9; pc 20000004; run 1;",
+    // A fetch outside SRAM: BX to 0.
+    "alone; code 2001 4700; leaves 3 0;",
+    // Faults and SVC take 16 cycles up to a vector: UDF, SVC, an unaligned word, T clear.
+    "alone; code de00; leaves #16 11223344; sp 20041fe0; lr fffffff9; xpsr 3;",
+    "alone; code df00; leaves #16 11223344; xpsr b;",
+    "alone; code 2001 6800; leaves #17 11223344; sp 20041fe0; lr fffffff9; xpsr 3;",
+    "alone; code 4801 4700 0000 0000 0006 2000; leaves #20 11223344; sp 20041fe0; lr fffffff9; xpsr 3;",
+    // A word that the private bus does not have.
+    "alone; code 4801 6800 0000 0000 e000 e000; leaves 3 e000e000;",
+];
+
+/// Handlers of exceptions and interrupts, and faults.
+const HANDLERS: [&str; 8] = [
+    // SVC, whose handler makes PendSV pending; that one reads ICSR.
+    "behind 20042000; vector b 20000089; vector e 2000008d; code 4805 4906 df00 be00 6001 4770 2407 6805;\
+    code 4770 0000 0000 0000 ed04 e000 0000 1000;\
+    run #70; has 4 7; has 5 e; sp 20042000; lr ffffffff; xpsr 1000000;",
+    // A frame of a stack that is no multiple of 8.
+    "behind 20041ffc; vector b 20000085; code df00 be00 4770;\
+    run #31; sp 20041ffc; pc 20000082; xpsr 1000000; word 20041ff4 1000200; word 20041ff0 20000082;",
+    // SysTick each 40 cycles.
+    "behind 20042000; vector f 2000008d; code 4804 2127 6041 2107 6001 e7fe 3401 4770; code 0000 0000 e010 e000;\
+    pass #63; has 4 0; pass 1; has 4 1; pass #38; has 4 1; pass 1; has 4 2;",
+    // A byte that is written to the private bus is written to all lanes of the word, and one that is read has its own.
+    "behind 20042000; code 4803 21c5 7041 6802 78c3 be00 0000 0000; code e400 e000; run 9; has 2 c0c0c0c0; has 3 c0;",
+    // With PRIMASK an interrupt ends WFI, and is taken after CPSIE.
+    "behind 20042000; vector 10 20000091; code 4804 2101 6001 b672 bf30 2201 b662 be00; code 2409 4770 e100 e000;\
+    pass #40; has 2 0; pc 20000088; lines 1; pass 1; lines 0; pass 2; has 2 1; has 4 0; run #32; has 4 9; pc 2000008e;",
+    // Interrupt 0 comes before interrupt 1, into whose entry it falls.
+    "behind 20042000; vector 10 20000099; vector 11 20000093; code 4807 4908 2203 6002 2240 0212 600a bf30;\
+    code be00 2401 002e 4770 2505 0027 4770 0000; code e100 e000 e400 e000;\
+    pass #40; lines 2; pass 1; lines 0; pass 3; lines 1; pass 1; lines 0; pass 1; ends; has 4 1; has 5 5; has 6 5; has 7 0;\
+    sp 20042000;",
+    // A return with a value that no entry gives is a HardFault, and PC is that of the BX.
+    "behind 20042000; vector 3 20000089; vector b 20000083; code df00 2000 43c0 4700 be00;\
+    run #36; sp 20041fc0; lr fffffff1; xpsr 81000003; word 20041fd8 20000086;",
+    // A fault inside HardFault.
+    "behind 20042000; vector 3 20000083; code de00 de01; locks #16; sp 20041fe0; pc 20000082; xpsr 1000003;",
+];
+
+/// Frames on the process stack, frames that a handler changed, and exceptions that end WFE or follow each other.
+const FRAMES: [&str; 7] = [
+    // MSR PSP, MSR CONTROL and SVC; the handler reads PSP, MSP and LR. The process stack is no multiple of 8.
+    "behind 20042000; vector b 20000095; code 4803 f380 8809 2102 f381 8814 df00 be00; code 1fe4 2004 f3ef 8409 f3ef 8508 4676 4770;\
+    run #47; has 4 20041fc0; has 5 20042000; has 6 fffffffd; sp 20041fe4; lr ffffffff; pc 2000008e; xpsr 1000000;\
+    word 20041fd8 2000008e; word 20041fdc 1000200;",
+    // A handler that sets bit 9 of the stacked xPSR returns to a stack that is 4 higher.
+    "behind 20041fe0; vector b 20000085; code df00 be00 4a01 9207 4770 0000 0200 0100;\
+    run #35; sp 20041fe4; pc 20000082; xpsr 1000000;",
+    // SVC, whose handler writes the exception number 5 into the frame of Thread mode: a HardFault at the end of the return.
+    "behind 20042000; vector 3 2000008b; vector b 20000085; code df00 be00 2005 9007 4770 be01;\
+    run #49; sp 20041fe0; lr fffffff1; pc 2000008a; xpsr 1000003; word 20041ff8 20000082; word 20041ffc 5;",
+    // The same inside HardFault locks the core up in the last cycle of the return.
+    "behind 20042000; vector 3 20000085; code de00 be00 2005 9007 4770; locks #33; sp 20041fe0; pc 20000088; xpsr 1000003;",
+    // With PRIMASK an interrupt ends WFE, and is taken after CPSIE. Its entry and return set the event register, so that the
+    // second WFE goes on at once.
+    "behind 20042000; vector 10 20000093; code 4805 2101 6001 b672 bf20 2201 b662 bf20; code be00 2409 4770 0000 e100 e000;\
+    pass #40; has 2 0; pc 20000088; lines 1; pass 1; lines 0; pass 2; has 2 1; has 4 0; run #34; has 4 9; pc 20000090;",
+    // SCR.SEVONPEND is set, and interrupt 0 is not enabled: once it is pending, WFE goes on.
+    "behind 20042000; code 4802 2110 6001 bf20 be00 0000 ed10 e000; pass #40; pc 20000086; lines 1; pass 1; run 1;",
+    // Interrupt 0 is enabled, and its handler adds 1 to R4: an entry of 15 cycles, ADDS, BX of 2 and a return of 13. While the line
+    // is high the next entry follows the return at once.
+    "behind 20042000; vector 10 20000089; code 4802 2101 6001 e7fe 3401 4770 e100 e000;\
+    pass 9; lines 1; pass #17; has 4 0; pass 1; has 4 1; pass #30; has 4 1; pass 1; has 4 2; lines 0; pass #80; has 4 2;\
+    sp 20042000; xpsr 1000000;",
 ];
 
 #[test]
 fn programs(rt: HostRuntime) {
-    assert_eq!(rt; wrong_alone(&PROGRAMS), None);
+    for text in PROGRAMS {
+        assert_eq!(rt; first_wrong(&mut asleep(), text), None, "{text}");
+    }
+    for text in STOPS {
+        assert_eq!(rt; first_wrong(&mut asleep(), text), None, "{text}");
+    }
 }
 
-const LOADS: [Alone; 5] = [
-    // Words, halfwords and bytes: 11 loads and stores of two cycles each, and two MOVS.
-    (
-        &[
-            0x4806, 0x4907, 0x6001, 0x7842, 0x8843, 0x2503, 0x5744, 0x2502, 0x5f46, 0x7041, 0x8081,
-            0x6807, 0x6840, 0xbe00, 0x0080, 0x2000, 0x5432, 0x87f6,
-        ],
-        &[
-            Deed::Run(24, BKPT),
-            Deed::Has(0, 0x5432),
-            Deed::Has(1, 0x87f6_5432),
-            Deed::Has(2, 0x54),
-            Deed::Has(3, 0x87f6),
-            Deed::Has(4, 0xffff_ff87),
-            Deed::Has(6, 0xffff_87f6),
-            Deed::Has(7, 0x87f6_3232),
-        ],
-    ),
-    // Address 21010004 is word 1 of bank 1, which is word 5 of the striped order.
-    (
-        &[
-            0x4802, 0x4903, 0x6001, 0x4a03, 0xbe00, 0, 0x0004, 0x2101, 0xbeef, 0xcafe,
-        ],
-        &[Deed::Run(8, BKPT), Deed::Has(2, 0xcafe_beef)],
-    ),
-    // STM and LDM of three registers have four cycles each, LDM of two with its base in the list three.
-    (
-        &[
-            0x4805, 0x2111, 0x2222, 0x2333, 0xc00e, 0x380c, 0xc870, 0x380c, 0xc881, 0xbe00, 0, 0,
-            0x0040, 0x2000,
-        ],
-        &[
-            Deed::Run(18, BKPT),
-            Deed::Has(0, 0x11),
-            Deed::Has(4, 0x11),
-            Deed::Has(5, 0x22),
-            Deed::Has(6, 0x33),
-            Deed::Has(7, 0x22),
-            Deed::Has(16, 0x2100_0000),
-        ],
-    ),
-    // A load from SIO has one cycle.
-    (
-        &[0x27d0, 0x063f, 0x6838, 0xbe00],
-        &[Deed::Run(3, BKPT), Deed::Has(0, 0x1122_3344)],
-    ),
-    // A byte of an APB register has its lane of the word.
-    (
-        &[0x2740, 0x063f, 0x7878, 0xbe00],
-        &[Deed::Run(4, BKPT), Deed::Has(0, 0x33)],
-    ),
-];
-
 #[test]
-fn loads_and_stores(rt: HostRuntime) {
-    assert_eq!(rt; wrong_alone(&LOADS), None);
-}
-
-/// A vector outside SRAM, without T.
-const VECTOR: Option<Why> = Some(Why::Outside(Master::Core0, 0x1122_3344));
-
-const STOPS: [Alone; 9] = [
-    // SEV sets the event register, and WFE clears it: a second WFE waits until it is set again.
-    (
-        &[0xbf40, 0xbf20, 0xbf20, 0xbe00],
-        &[
-            Deed::Run(100, None),
-            Deed::Has(15, 0x2000_0004),
-            Deed::Signal,
-            Deed::Run(1, BKPT),
-        ],
-    ),
-    // WFI waits.
-    (&[0xbf30, 0xbe00], &[Deed::Run(100, None)]),
-    // An access lasts until it is done.
-    (
-        &[0x2740, 0x063f, 0x6838, 0xbe00],
-        &[
-            Deed::Pass(9),
-            Deed::Has(15, 0x2000_0004),
-            Deed::Run(1, BKPT),
-        ],
-    ),
-    // A fetch outside SRAM: BX to 0.
-    (
-        &[0x2001, 0x4700],
-        &[Deed::Run(3, Some(Why::Outside(Master::Core0, 0)))],
-    ),
-    // Faults and SVC take 16 cycles up to a vector: UDF, SVC, an unaligned word, T clear.
-    (
-        &[0xde00],
-        &[
-            Deed::Run(16, VECTOR),
-            Deed::Has(13, 0x2004_1fe0),
-            Deed::Has(14, 0xffff_fff9),
-            Deed::Has(16, 3),
-        ],
-    ),
-    (&[0xdf00], &[Deed::Run(16, VECTOR), Deed::Has(16, 11)]),
-    (
-        &[0x2001, 0x6800],
-        &[
-            Deed::Run(17, VECTOR),
-            Deed::Has(13, 0x2004_1fe0),
-            Deed::Has(14, 0xffff_fff9),
-            Deed::Has(16, 3),
-        ],
-    ),
-    (
-        &[0x4801, 0x4700, 0, 0, 0x0006, 0x2000],
-        &[
-            Deed::Run(20, VECTOR),
-            Deed::Has(13, 0x2004_1fe0),
-            Deed::Has(14, 0xffff_fff9),
-            Deed::Has(16, 3),
-        ],
-    ),
-    // A word that the private bus does not have.
-    (
-        &[0x4801, 0x6800, 0, 0, 0xe000, 0xe000],
-        &[Deed::Run(3, Some(Why::Outside(Master::Core0, 0xe000_e000)))],
-    ),
-];
-
-#[test]
-fn stops_and_waits(rt: HostRuntime) {
-    assert_eq!(rt; wrong_alone(&STOPS), None);
+fn exceptions(rt: HostRuntime) {
+    for text in HANDLERS {
+        assert_eq!(rt; first_wrong(&mut asleep(), text), None, "{text}");
+    }
+    for text in FRAMES {
+        assert_eq!(rt; first_wrong(&mut asleep(), text), None, "{text}");
+    }
 }
 
 // A fetch outside SRAM: the second halfword of BL behind the end.
@@ -421,188 +326,24 @@ fn stops_and_waits(rt: HostRuntime) {
 fn the_end_of_sram(rt: HostRuntime) {
     let mut core = Core::new(1);
     core.start(0, 0x2004_2000, 0x2004_1fff);
-    let mut memory = Memory::with_code(&[]);
+    let mut memory = Memory::new();
     memory.set_word(0x2004_1ffc, 0xf000_0000);
-    let (cycles, why) = run(&mut core, &mut memory);
-    assert!(rt; cycles == 0 && why == Some(Why::Outside(Master::Core1, 0x2004_2000)));
+    let stop = Why::Outside(Master::Core1, 0x2004_2000);
+    assert!(rt; run(&mut core, &mut memory) == (0, Some(stop)));
 }
 
-/// A core that was not started is asleep, and a copy goes on as the core does.
-fn copies() -> bool {
+// A core that was not started is asleep, and a copy goes on as the core does.
+#[test]
+fn a_copy_goes_on(rt: HostRuntime) {
     let mut started = Core::new(0);
     started.start(0, 0x2004_2000, 0x2000_0001);
     let mut core = Core::new(1);
-    let asleep = core.is_asleep() && !core.has_offer();
+    assert!(rt; core.is_asleep() && !core.has_offer());
     core.set_offer(true);
     core.copy_from(&started);
-    asleep
-        && !core.is_asleep()
-        && !core.has_offer()
-        && cycle(&mut core, &mut Memory::with_code(&[0xbf00]), Turn::Wait).is_none()
-        && core.registers()[15] == 0x2000_0002
-}
-
-#[test]
-fn a_copy_goes_on(rt: HostRuntime) {
-    assert!(rt; copies());
-}
-
-const HANDLERS: [Behind; 4] = [
-    // SVC, whose handler makes PendSV pending; that one reads ICSR.
-    (
-        0x2004_2000,
-        &[(SVCALL, 0x2000_0089), (PENDSV, 0x2000_008d)],
-        &[
-            0x4805, 0x4906, 0xdf00, 0xbe00, 0x6001, 0x4770, 0x2407, 0x6805, 0x4770, 0, 0, 0,
-            0xed04, 0xe000, 0x0000, 0x1000,
-        ],
-        &[
-            Deed::Run(70, BKPT),
-            Deed::Has(4, 7),
-            Deed::Has(5, 14),
-            Deed::Has(13, 0x2004_2000),
-            Deed::Has(14, 0xffff_ffff),
-            Deed::Has(16, 0x100_0000),
-        ],
-    ),
-    // A frame of a stack that is no multiple of 8.
-    (
-        0x2004_1ffc,
-        &[(SVCALL, 0x2000_0085)],
-        &[0xdf00, 0xbe00, 0x4770],
-        &[
-            Deed::Run(31, BKPT),
-            Deed::Has(13, 0x2004_1ffc),
-            Deed::Has(15, 0x2000_0082),
-            Deed::Has(16, 0x100_0000),
-            Deed::Word(0x2004_1ff4, 0x100_0200),
-            Deed::Word(0x2004_1ff0, 0x2000_0082),
-        ],
-    ),
-    // SysTick each 40 cycles.
-    (
-        0x2004_2000,
-        &[(SYSTICK, 0x2000_008d)],
-        &[
-            0x4804, 0x2127, 0x6041, 0x2107, 0x6001, 0xe7fe, 0x3401, 0x4770, 0, 0, 0xe010, 0xe000,
-        ],
-        &[
-            Deed::Pass(63),
-            Deed::Has(4, 0),
-            Deed::Pass(1),
-            Deed::Has(4, 1),
-            Deed::Pass(38),
-            Deed::Has(4, 1),
-            Deed::Pass(1),
-            Deed::Has(4, 2),
-        ],
-    ),
-    // A byte that is written to the private bus is written to all lanes of the word, and one that is read has its own.
-    (
-        0x2004_2000,
-        &[],
-        &[
-            0x4803, 0x21c5, 0x7041, 0x6802, 0x78c3, 0xbe00, 0, 0, 0xe400, 0xe000,
-        ],
-        &[
-            Deed::Run(9, BKPT),
-            Deed::Has(2, 0xc0c0_c0c0),
-            Deed::Has(3, 0xc0),
-        ],
-    ),
-];
-
-#[test]
-fn handlers(rt: HostRuntime) {
-    assert_eq!(rt; wrong_behind(&HANDLERS), None);
-}
-
-const INTERRUPTS: [Behind; 2] = [
-    // With PRIMASK an interrupt ends WFI, and is taken after CPSIE.
-    (
-        0x2004_2000,
-        &[(INTERRUPT_0, 0x2000_0091)],
-        &[
-            0x4804, 0x2101, 0x6001, 0xb672, 0xbf30, 0x2201, 0xb662, 0xbe00, 0x2409, 0x4770, 0xe100,
-            0xe000,
-        ],
-        &[
-            Deed::Pass(40),
-            Deed::Has(2, 0),
-            Deed::Has(15, 0x2000_0088),
-            Deed::Lines(1),
-            Deed::Pass(1),
-            Deed::Lines(0),
-            Deed::Pass(2),
-            Deed::Has(2, 1),
-            Deed::Has(4, 0),
-            Deed::Run(32, BKPT),
-            Deed::Has(4, 9),
-            Deed::Has(15, 0x2000_008e),
-        ],
-    ),
-    // Interrupt 0 comes before interrupt 1, into whose entry it falls.
-    (
-        0x2004_2000,
-        &[(INTERRUPT_0, 0x2000_0099), (INTERRUPT_0 + 1, 0x2000_0093)],
-        &[
-            0x4807, 0x4908, 0x2203, 0x6002, 0x2240, 0x0212, 0x600a, 0xbf30, 0xbe00, 0x2401, 0x002e,
-            0x4770, 0x2505, 0x0027, 0x4770, 0, 0xe100, 0xe000, 0xe400, 0xe000,
-        ],
-        &[
-            Deed::Pass(40),
-            Deed::Lines(2),
-            Deed::Pass(1),
-            Deed::Lines(0),
-            Deed::Pass(3),
-            Deed::Lines(1),
-            Deed::Pass(1),
-            Deed::Lines(0),
-            Deed::Pass(1),
-            Deed::Ends(Why::Bkpt(0)),
-            Deed::Has(4, 1),
-            Deed::Has(5, 5),
-            Deed::Has(6, 5),
-            Deed::Has(7, 0),
-            Deed::Has(13, 0x2004_2000),
-        ],
-    ),
-];
-
-#[test]
-fn interrupts(rt: HostRuntime) {
-    assert_eq!(rt; wrong_behind(&INTERRUPTS), None);
-}
-
-const FAULTS: [Behind; 2] = [
-    // A return with a value that no entry gives is a HardFault, and PC is that of the BX.
-    (
-        0x2004_2000,
-        &[(HARDFAULT, 0x2000_0089), (SVCALL, 0x2000_0083)],
-        &[0xdf00, 0x2000, 0x43c0, 0x4700, 0xbe00],
-        &[
-            Deed::Run(36, BKPT),
-            Deed::Has(13, 0x2004_1fc0),
-            Deed::Has(14, 0xffff_fff1),
-            Deed::Has(16, 0x8100_0003),
-            Deed::Word(0x2004_1fd8, 0x2000_0086),
-        ],
-    ),
-    // A fault inside HardFault.
-    (
-        0x2004_2000,
-        &[(HARDFAULT, 0x2000_0083)],
-        &[0xde00, 0xde01],
-        &[
-            Deed::Run(16, Some(Why::Lockup(0))),
-            Deed::Has(13, 0x2004_1fe0),
-            Deed::Has(15, 0x2000_0082),
-            Deed::Has(16, 0x100_0003),
-        ],
-    ),
-];
-
-#[test]
-fn faults(rt: HostRuntime) {
-    assert_eq!(rt; wrong_behind(&FAULTS), None);
+    assert!(rt; !core.is_asleep() && !core.has_offer());
+    let mut memory = Memory::new();
+    memory.set_word(0x2000_0000, 0xbf00);
+    assert!(rt; cycle(&mut core, &mut memory, Turn::Wait).is_none());
+    assert!(rt; core.registers()[15] == 0x2000_0002);
 }

@@ -3,6 +3,11 @@
 use rp_base::op::Op;
 use thumb_rows::decode;
 
+/// A call.
+fn bl(s: bool, i: u32, j: u8) -> Op {
+    Op::Bl { s, i, j }
+}
+
 // The words are those that GNU as 2.40 writes for `-mcpu=cortex-m0plus`, in the order of the manual's tables.
 
 #[test]
@@ -37,7 +42,7 @@ fn shift_add_and_process(rt: HostRuntime) {
         (0x43D5, 0x0000, Op::Mvn { m: 2, d: 5 }), // mvns r5, r2
     ];
     for (first, second, op) in table {
-        assert!(rt; decode(first, second) == op);
+        assert!(rt; decode(first, second) == op, "{first:x} {second:x}");
     }
 }
 
@@ -70,7 +75,7 @@ fn reach_and_transfer(rt: HostRuntime) {
         (0xAA03, 0x0000, Op::AddSp { d: 2, i: 3 }), // add r2, sp, #12
     ];
     for (first, second, op) in table {
-        assert!(rt; decode(first, second) == op);
+        assert!(rt; decode(first, second) == op, "{first:x} {second:x}");
     }
 }
 
@@ -105,59 +110,26 @@ fn miscellaneous_and_branch(rt: HostRuntime) {
         (0xDE00, 0x0000, Op::Udf { i: 0 }), // udf 0
         (0xDF05, 0x0000, Op::Svc { i: 5 }), // svc 5
         (0xE400, 0x0000, Op::B { i: 0x400 }), // b . - 2044
-        (
-            0xF000,
-            0xF800,
-            Op::Bl {
-                s: false,
-                i: 0,
-                j: 3,
-            },
-        ), // bl . + 4
-        (
-            0xF400,
-            0xF800,
-            Op::Bl {
-                s: true,
-                i: 0,
-                j: 3,
-            },
-        ), // bl . - 4194300
-        (
-            0xF112,
-            0xF1A2,
-            Op::Bl {
-                s: false,
-                i: 0x891A2,
-                j: 2,
-            },
-        ), // bl . + 0x512348, for cortex-m3
+        (0xF000, 0xF800, bl(false, 0, 3)), // bl . + 4
+        (0xF400, 0xF800, bl(true, 0, 3)), // bl . - 4194300
+        (0xF112, 0xF1A2, bl(false, 0x891A2, 2)), // bl . + 0x512348, for cortex-m3
         (0xF384, 0x8810, Op::Msr { n: 4, s: 16 }), // msr primask, r4
         (0xF3EF, 0x8509, Op::Mrs { d: 5, s: 9 }), // mrs r5, psp
         (0xF3BF, 0x8F4F, Op::Dsb), // dsb
         (0xF3BF, 0x8F5F, Op::Dmb), // dmb
         (0xF3BF, 0x8F6F, Op::Isb), // isb
+        // words that no row of the manual's tables fits, and lists of no register
+        (0xB400, 0x0000, Op::Undefined), // PUSH of nothing
+        (0xBA80, 0x0000, Op::Undefined), // between REV16 and REVSH
+        (0xB100, 0x0000, Op::Undefined), // CBZ, which ARMv6-M has not
+        (0xBF08, 0x0000, Op::Undefined), // IT, which ARMv6-M has not
+        (0xC800, 0x0000, Op::Undefined), // LDM of nothing
+        (0xF38D, 0x8810, Op::Undefined), // MSR from SP
+        (0xF3EF, 0x8F09, Op::Undefined), // MRS to PC
+        (0xE92D, 0x4010, Op::Undefined), // PUSH.W, which ARMv6-M has not
+        (0xF850, 0x1F04, Op::Undefined), // LDR.W, which ARMv6-M has not
     ];
     for (first, second, op) in table {
-        assert!(rt; decode(first, second) == op);
-    }
-}
-
-// Words that no row of the manual's tables fits, and lists of no register.
-#[test]
-fn undefined(rt: HostRuntime) {
-    let table = [
-        (0xB400, 0x0000), // PUSH of nothing
-        (0xBA80, 0x0000), // between REV16 and REVSH
-        (0xB100, 0x0000), // CBZ, which ARMv6-M has not
-        (0xBF08, 0x0000), // IT, which ARMv6-M has not
-        (0xC800, 0x0000), // LDM of nothing
-        (0xF38D, 0x8810), // MSR from SP
-        (0xF3EF, 0x8F09), // MRS to PC
-        (0xE92D, 0x4010), // PUSH.W, which ARMv6-M has not
-        (0xF850, 0x1F04), // LDR.W, which ARMv6-M has not
-    ];
-    for (first, second) in table {
-        assert!(rt; decode(first, second) == Op::Undefined);
+        assert!(rt; decode(first, second) == op, "{first:x} {second:x}");
     }
 }
