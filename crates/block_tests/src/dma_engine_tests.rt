@@ -1,9 +1,6 @@
 //! Copies worked by hand over a small memory: cycle by cycle, what the engine reads and what it writes.
 
-use dma_engine::registers::{
-    CH0_AL1_CTRL, CH0_CTRL_TRIG, CH0_READ_ADDR, CH0_TRANS_COUNT, CH0_WRITE_ADDR, CHAN_ABORT, INTE0,
-    INTF0, INTF1, INTR, INTS0, INTS1, MULTI_CHAN_TRIGGER, N_CHANNELS, TIMER0,
-};
+use crate::deeds::{Bench, byte, first_wrong, half};
 use dma_engine::{BegunTransfer, Dma};
 use lane_look::{Ask, Lane, Look, Marks, Turn, Want};
 use rp_base::map::{Spot, place, port};
@@ -104,415 +101,218 @@ fn cycle(dma: &mut Dma, memory: &mut Memory, taken: u8, outside: u32) -> (u32, u
     (address(wants[0]), address(wants[1]))
 }
 
-/// Gives a channel its four registers in order.
-fn start(dma: &mut Dma, number: u16, registers: [u32; 4]) {
-    for k in 0..4 {
-        if number < 12 {
-            dma.effect(0x40 * number + 4 * k, Some(registers[k as usize]));
-        }
-    }
+/// An engine over a memory.
+#[derive(Drop)]
+struct Copier {
+    dma: Dma,
+    memory: Memory,
 }
 
-/// An engine whose channel 0 was given its four registers in order.
-fn started(read: u32, write: u32, count: u32, ctrl: u32) -> Dma {
-    let mut dma = Dma::new();
-    start(&mut dma, 0, [read, write, count, ctrl]);
-    dma
+/// An engine in its reset state over a memory that begins with these words.
+fn over(words: &[u32]) -> Copier {
+    Copier {
+        dma: Dma::new(),
+        memory: Memory::with_words(words),
+    }
 }
 
 /// The first address of SRAM.
 const SRAM: u32 = 0x2000_0000;
 
-/// The offset of the words of channel 3.
-const CHANNEL_3: u16 = 0xc0;
-
-/// What is done to an engine, or seen of it and its memory.
-#[derive(Clone, Copy)]
-enum Deed {
-    /// A channel is given its four registers.
-    Start(u16, [u32; 4]),
-    /// A write at an offset.
-    Write(u16, u32),
-    /// What is read at an offset.
-    Reads(u16, u32),
-    /// An offset of no word.
-    Missing(u16),
-    /// The engine gets its reset state.
-    Reset,
-    /// The counts by which channels are paced.
-    Counts(u128),
-    /// A cycle, and the addresses of its read and of its write.
-    Cycle(u32, u32),
-    /// The same where a master before the engine takes a port.
-    Taken(u8, u32, u32),
-    /// The same where an access outside SRAM reads this.
-    Outside(u32, u32, u32),
-    /// A cycle, and the address of its read.
-    Fetch(u32),
-    /// A word of the memory.
-    Word(u32, u32),
-    /// The interrupt lines.
-    Lines(bool, bool),
-    /// The engine is quiet for ever, or not.
-    Idle(bool),
-    /// What a copy reads at an offset.
-    Twin(u16, u32),
-}
-
-/// What concerns the registers.
-fn acts(dma: &mut Dma, deed: &Deed) -> bool {
-    match *deed {
-        Deed::Start(number, registers) => start(dma, number, registers),
-        Deed::Write(offset, word) => return dma.effect(offset, Some(word)),
-        Deed::Reset => dma.reset(),
-        _ => {}
-    }
-    true
-}
-
-/// A cycle, and that it has these addresses.
-fn wants(dma: &mut Dma, memory: &mut Memory, with: (u8, u32), want: (u32, u32)) -> bool {
-    let (read, write) = cycle(dma, memory, with.0, with.1);
-    read == want.0 && write == want.1
-}
-
-/// What concerns the cycles.
-fn runs(dma: &mut Dma, memory: &mut Memory, deed: &Deed) -> bool {
-    match *deed {
-        Deed::Counts(counts) => {
-            memory.counts = counts;
-            true
-        }
-        Deed::Cycle(read, write) => wants(dma, memory, (8, 0), (read, write)),
-        Deed::Taken(port, read, write) => wants(dma, memory, (port, 0), (read, write)),
-        Deed::Outside(word, read, write) => wants(dma, memory, (8, word), (read, write)),
-        Deed::Fetch(read) => cycle(dma, memory, 8, 0).0 == read,
-        _ => true,
+/// The address of a text: below 1000 it counts from the start of SRAM, where 0 stands for no access.
+fn spot(address: u32) -> u32 {
+    if address != 0 && address < 0x1000 {
+        SRAM + address
+    } else {
+        address
     }
 }
 
-/// What a copy reads at an offset.
-fn copied(dma: &Dma, offset: u16) -> Option<u32> {
-    let mut twin = Dma::new();
-    twin.copy_from(dma);
-    twin.read(offset)
-}
-
-/// What is seen.
-fn shows(dma: &Dma, memory: &Memory, deed: &Deed) -> bool {
-    match *deed {
-        Deed::Reads(offset, word) => dma.read(offset) == Some(word),
-        Deed::Missing(offset) => dma.read(offset).is_none() && !dma.allows(offset, Some(0)),
-        Deed::Word(address, word) => memory.word(address) == word,
-        Deed::Lines(first, second) => dma.lines() == [first, second],
-        Deed::Idle(idle) => (dma.quiet(&BegunTransfer::nothing()) == u64::MAX) == idle,
-        Deed::Twin(offset, word) => copied(dma, offset) == Some(word),
-        _ => true,
-    }
-}
-
-/// The first of these that is not so.
-fn wrong_deed(dma: &mut Dma, memory: &mut Memory, deeds: &[Deed]) -> Option<usize> {
-    for (index, deed) in deeds.iter().enumerate() {
-        if !acts(dma, deed) || !runs(dma, memory, deed) || !shows(dma, memory, deed) {
-            return Some(index);
+impl Copier {
+    /// Gives a channel its four registers in order.
+    fn start(&mut self, words: &[u32; 8]) {
+        let registers = [SRAM + words[1] % 0x1000, spot(words[2]), words[3], words[4]];
+        for k in 0..4 {
+            if words[0] < 12 {
+                let offset = 0x40 * words[0] as u16 + 4 * k;
+                self.dma.effect(offset, Some(registers[usize::from(k)]));
+            }
         }
     }
-    None
+
+    /// A cycle in which a master before the engine takes a port, and an access outside SRAM reads `outside`, reads and writes at
+    /// these addresses.
+    fn has(&mut self, taken: u32, outside: u32, read: u32, write: u32) -> bool {
+        let found = cycle(&mut self.dma, &mut self.memory, byte(taken), outside);
+        found == (spot(read), spot(write))
+    }
+
+    /// What is seen.
+    fn shows(&self, verb: &str, words: &[u32; 8]) -> bool {
+        let offset = half(words[0]);
+        match verb {
+            "reads" => self.dma.read(offset) == Some(words[1]),
+            // an offset of READ_ADDR or WRITE_ADDR, and what is there
+            "points" => self.dma.read(offset) == Some(SRAM + words[1] % 0x1000),
+            "none" => self.dma.read(offset).is_none() && !self.dma.allows(offset, Some(0)),
+            // an address and its word
+            "word" => self.memory.word(spot(words[0])) == words[1],
+            "lines" => self.dma.lines() == [words[0] == 1, words[1] == 1],
+            "idle" => self.dma.quiet(&BegunTransfer::nothing()) == u64::MAX,
+            // what a copy reads at an offset
+            "twin" => {
+                let mut twin = Dma::new();
+                twin.copy_from(&self.dma);
+                twin.read(offset) == Some(words[1])
+            }
+            _ => false,
+        }
+    }
 }
 
-/// The first of these that is not so of a new engine and a memory that begins with these words.
-fn first_wrong(words: &[u32], deeds: &[Deed]) -> Option<usize> {
-    wrong_deed(&mut Dma::new(), &mut Memory::with_words(words), deeds)
+impl Bench for Copier {
+    fn does(&mut self, verb: &str, words: &[u32; 8]) -> bool {
+        match verb {
+            // a channel, and its READ_ADDR, WRITE_ADDR, TRANS_COUNT and CTRL_TRIG
+            "start" => self.start(words),
+            "write" => return self.dma.effect(half(words[0]), Some(words[1])),
+            "reset" => self.dma.reset(),
+            // the counts by which channels are paced: of a transmitter and of a receiver
+            "counts" => self.memory.counts = u128::from(words[0])
+                + u128::from(words[1]) * 0x100_0000,
+            // a cycle, and the addresses of its read and of its write
+            "cycle" => return self.has(8, 0, words[0], words[1]),
+            // the same where a master before the engine takes a port
+            "taken" => return self.has(words[0], 0, words[1], words[2]),
+            // the same where an access outside SRAM reads this
+            "outside" => return self.has(8, words[0], words[1], words[2]),
+            // a cycle, and the address of its read
+            "fetch" => return cycle(&mut self.dma, &mut self.memory, 8, 0).0 == spot(words[0]),
+            // any cycles
+            "pass" => {
+                for _ in 0..words[0] {
+                    cycle(&mut self.dma, &mut self.memory, 8, 0);
+                }
+            }
+            _ => return self.shows(verb, words),
+        }
+        true
+    }
 }
-
-/// Words 7 and 8 are those that are copied.
-const TWO_WORDS: [u32; 9] = [0, 0, 0, 0, 0, 0, 0, 0x1122_3344, 0x5566_7788];
 
 /// The first channel is chosen in the cycle after the trigger, and read from the next one on. The second read and the first write
 /// meet on bank 0. The sequence ends one cycle after its last write.
-const CLASH: [Deed; 14] = [
-    Deed::Start(0, [SRAM + 0x1c, SRAM + 0x80, 2, 0x001f_8039]),
-    Deed::Reads(CH0_CTRL_TRIG, 0x011f_8039),
-    Deed::Cycle(0, 0),
-    Deed::Cycle(SRAM + 0x1c, 0),
-    Deed::Cycle(SRAM + 0x20, SRAM + 0x80),
-    Deed::Cycle(0, SRAM + 0x80),
-    Deed::Cycle(0, SRAM + 0x84),
-    Deed::Cycle(0, 0),
-    Deed::Word(SRAM + 0x80, 0x1122_3344),
-    Deed::Word(SRAM + 0x84, 0x5566_7788),
-    Deed::Reads(CH0_READ_ADDR, SRAM + 0x24),
-    Deed::Reads(CH0_WRITE_ADDR, SRAM + 0x88),
-    Deed::Reads(CH0_CTRL_TRIG, 0x001f_8039),
-    Deed::Reads(INTR, 1),
-];
+const CLASH: &str = "\
+    start 0 1c 80 2 1f8039; reads 00c 11f8039; cycle 0 0; cycle 1c 0; cycle 20 80; cycle 0 80; cycle 0 84; cycle 0 0;\
+    word 80 11223344; word 84 55667788; points 000 24; points 004 88; reads 00c 1f8039; reads 400 1;";
 
 /// A core takes the bank of the second write.
-const TAKEN: [Deed; 14] = [
-    Deed::Start(0, [SRAM + 0x1c, SRAM + 0x84, 2, 0x001f_8039]),
-    Deed::Reads(CH0_CTRL_TRIG, 0x011f_8039),
-    Deed::Cycle(0, 0),
-    Deed::Cycle(SRAM + 0x1c, 0),
-    Deed::Cycle(SRAM + 0x20, SRAM + 0x84),
-    Deed::Taken(2, 0, SRAM + 0x88),
-    Deed::Cycle(0, SRAM + 0x88),
-    Deed::Cycle(0, 0),
-    Deed::Word(SRAM + 0x84, 0x1122_3344),
-    Deed::Word(SRAM + 0x88, 0x5566_7788),
-    Deed::Reads(CH0_READ_ADDR, SRAM + 0x24),
-    Deed::Reads(CH0_WRITE_ADDR, SRAM + 0x8c),
-    Deed::Reads(CH0_CTRL_TRIG, 0x001f_8039),
-    Deed::Reads(INTR, 1),
+const TAKEN: &str = "\
+    start 0 1c 84 2 1f8039; reads 00c 11f8039; cycle 0 0; cycle 1c 0; cycle 20 84; taken 2 0 88; cycle 0 88; cycle 0 0;\
+    word 84 11223344; word 88 55667788; points 000 24; points 004 8c; reads 00c 1f8039; reads 400 1;";
+
+/// What is written, and what is read then, at the same offset or an alias of it: a count that was written is not loaded yet, but at
+/// the trigger of the enabled channel. Then CHAN_ABORT, N_CHANNELS, offsets of no word, and the reset state.
+const WORDS: &str = "\
+    write 000 20000001; reads 014 20000001; write 014 20000002; reads 03c 20000002; write 018 20000006; reads 034 20000006;\
+    write 008 9; reads 01c 0; write 010 fffffffe; reads 00c 7ffffe; write 00c 8; reads 020 8; write 020 5; reads 030 5;\
+    write 01c 7; reads 024 7; write 404 ffff0fff; reads 404 fff; write 408 6; reads 40c 6; write 418 800; reads 41c 800;\
+    write 42c 10003; reads 42c 10003; write 444 1; reads 024 0; write 448 ffffffff; reads 448 c;\
+    none 001; none 300; none 410; none 434; none 44c; lines 1 1; twin 404 fff;\
+    reset; reads 404 0; idle; cycle 0 0; idle;";
+
+/// A byte; a halfword and a word, their bytes in reverse order; size 3, which acts as a word; and a ring of eight bytes for the
+/// reads, and for the writes.
+const COPIES: [&str; 6] = [
+    "start 0 1 42 1 1f8031; pass a; points 000 2; points 004 43; word 40 220000;",
+    "start 0 3 40 1 5f8035; pass a; points 000 5; points 004 42; word 40 3344;",
+    "start 0 4 41 1 5f8039; pass a; points 000 8; points 004 45; word 40 55667788;",
+    "start 0 4 40 1 1f803d; pass a; points 000 8; points 004 44; word 40 88776655;",
+    "start 0 4 40 3 1f80d9; pass a; points 000 0; points 004 40; word 40 88776655;",
+    "start 0 0 44 3 1f84e9; pass a; points 000 0; points 004 40; word 40 44332211;",
 ];
-
-#[test]
-fn unpaced_copies(rt: HostRuntime) {
-    assert_eq!(rt; first_wrong(&TWO_WORDS, &CLASH), None);
-    assert_eq!(rt; first_wrong(&TWO_WORDS, &TAKEN), None);
-}
-
-/// What is written at an offset, and what is read at another one.
-const WORDS: [(u16, u32, u16, u32); 14] = [
-    (CH0_READ_ADDR, 0x2000_0001, 0x014, 0x2000_0001),
-    (0x014, 0x2000_0002, 0x03c, 0x2000_0002),
-    (0x018, 0x2000_0006, 0x034, 0x2000_0006),
-    // a count that was written is not loaded yet
-    (CH0_TRANS_COUNT, 0x0000_0009, 0x01c, 0x0000_0000),
-    (CH0_AL1_CTRL, 0xffff_fffe, CH0_CTRL_TRIG, 0x007f_fffe),
-    (CH0_CTRL_TRIG, 0x0000_0008, 0x020, 0x0000_0008),
-    (0x020, 0x0000_0005, 0x030, 0x0000_0005),
-    // the trigger of the enabled channel, and its count
-    (0x01c, 0x0000_0007, 0x024, 0x0000_0007),
-    (INTE0, 0xffff_0fff, INTE0, 0x0000_0fff),
-    (INTF0, 0x0000_0006, INTS0, 0x0000_0006),
-    (INTF1, 0x0000_0800, INTS1, 0x0000_0800),
-    (TIMER0 + 12, 0x0001_0003, TIMER0 + 12, 0x0001_0003),
-    (CHAN_ABORT, 0x0000_0001, 0x024, 0x0000_0000),
-    (N_CHANNELS, 0xffff_ffff, N_CHANNELS, 0x0000_000c),
-];
-
-/// A word is written at an offset, and one is read at another.
-fn keeps(dma: &mut Dma, row: &(u16, u32, u16, u32)) -> bool {
-    let (offset, written, other, read) = *row;
-    dma.effect(offset, Some(written)) && dma.read(other) == Some(read)
-}
-
-/// What is seen after the words, and in the reset state.
-const SEEN: [Deed; 12] = [
-    Deed::Missing(0x001),
-    Deed::Missing(0x300),
-    Deed::Missing(0x410),
-    Deed::Missing(0x434),
-    Deed::Missing(0x44c),
-    Deed::Lines(true, true),
-    Deed::Twin(INTE0, 0xfff),
-    Deed::Reset,
-    Deed::Reads(INTE0, 0),
-    Deed::Idle(true),
-    Deed::Cycle(0, 0),
-    Deed::Idle(true),
-];
-
-#[test]
-fn words(rt: HostRuntime) {
-    let mut dma = Dma::new();
-    for row in WORDS {
-        assert!(rt; keeps(&mut dma, &row), "{:x}", row.0);
-    }
-    let mut memory = Memory::with_words(&[]);
-    assert_eq!(rt; wrong_deed(&mut dma, &mut memory, &SEEN), None);
-}
-
-/// CTRL, the low bytes of READ and WRITE, COUNT; READ and WRITE after the copy; the word at 20000040 then.
-const COPIES: [(u32, u32, u32, u32, u32, u32, u32); 6] = [
-    // a byte
-    (0x001f_8031, 0x01, 0x42, 1, 0x02, 0x43, 0x0022_0000),
-    // a halfword, and a word, their bytes in reverse order
-    (0x005f_8035, 0x03, 0x40, 1, 0x05, 0x42, 0x0000_3344),
-    (0x005f_8039, 0x04, 0x41, 1, 0x08, 0x45, 0x5566_7788),
-    // size 3 acts as a word
-    (0x001f_803d, 0x04, 0x40, 1, 0x08, 0x44, 0x8877_6655),
-    // a ring of eight bytes for the reads, and for the writes
-    (0x001f_80d9, 0x04, 0x40, 3, 0x00, 0x40, 0x8877_6655),
-    (0x001f_84e9, 0x00, 0x44, 3, 0x00, 0x40, 0x4433_2211),
-];
-
-/// The copy of a row ends so.
-fn copies(row: &(u32, u32, u32, u32, u32, u32, u32)) -> bool {
-    let (ctrl, read, write, count, after_read, after_write, word) = *row;
-    let mut memory = Memory::with_words(&[0x4433_2211, 0x8877_6655]);
-    let mut dma = started(
-        SRAM.wrapping_add(read),
-        SRAM.wrapping_add(write),
-        count,
-        ctrl,
-    );
-    for _ in 0..10 {
-        cycle(&mut dma, &mut memory, 8, 0);
-    }
-    dma.read(CH0_READ_ADDR) == Some(SRAM.wrapping_add(after_read))
-        && dma.read(CH0_WRITE_ADDR) == Some(SRAM.wrapping_add(after_write))
-        && memory.word(SRAM + 0x40) == word
-}
-
-#[test]
-fn sizes_and_rings(rt: HostRuntime) {
-    for row in COPIES {
-        assert!(rt; copies(&row), "{:x}", row.0);
-    }
-}
 
 /// Channel 3 waits for channel 0, which is chained to it, and is quiet: the fourth cycle after the read is that of channel 3. A 0
 /// in a trigger word raises the interrupt of a quiet channel, and starts nothing.
-const CHAINED: [Deed; 20] = [
-    Deed::Start(3, [SRAM + 0xc, SRAM + 0x80, 1, 0x003f_9808]),
-    Deed::Write(CHANNEL_3 + CH0_AL1_CTRL, 0x003f_9809),
-    Deed::Start(0, [SRAM, SRAM + 0x84, 1, 0x001f_9809]),
-    Deed::Cycle(0, 0),
-    Deed::Cycle(SRAM, 0),
-    Deed::Cycle(0, SRAM + 0x84),
-    Deed::Cycle(0, 0),
-    Deed::Cycle(0, 0),
-    Deed::Cycle(SRAM + 0xc, 0),
-    Deed::Cycle(0, SRAM + 0x80),
-    Deed::Cycle(0, 0),
-    Deed::Reads(INTR, 1),
-    Deed::Write(CHANNEL_3 + 0x1c, 0),
-    Deed::Reads(INTR, 9),
-    Deed::Reads(CHANNEL_3 + CH0_CTRL_TRIG, 0x003f_9809),
-    Deed::Write(INTS0, 1),
-    Deed::Reads(INTR, 8),
-    Deed::Write(MULTI_CHAN_TRIGGER, 9),
-    Deed::Reads(CH0_CTRL_TRIG, 0x011f_9809),
-    Deed::Reads(CHANNEL_3 + CH0_CTRL_TRIG, 0x013f_9809),
-];
-
-#[test]
-fn chains_and_triggers(rt: HostRuntime) {
-    assert_eq!(rt; first_wrong(&[1, 2, 3, 4], &CHAINED), None);
-}
+const CHAINED: &str = "\
+    start 3 c 80 1 3f9808; write 0d0 3f9809; start 0 0 84 1 1f9809;\
+    cycle 0 0; cycle 20000000 0; cycle 0 84; cycle 0 0; cycle 0 0; cycle c 0; cycle 0 80; cycle 0 0;\
+    reads 400 1; write 0dc 0; reads 400 9; reads 0cc 3f9809; write 40c 1; reads 400 8;\
+    write 430 9; reads 00c 11f9809; reads 0cc 13f9809;";
 
 /// Channels 1, 2 and 3, each chained to itself; channel 2 has a high priority. At its abort channel 3 has two transfers in flight:
 /// the one that is chosen now and one whose write waits.
-const ABORTED: [Deed; 18] = [
-    Deed::Start(1, [SRAM + 0x4, SRAM + 0x80, 2, 0x001f_8809]),
-    Deed::Start(2, [SRAM + 0x8, SRAM + 0x90, 2, 0x001f_900b]),
-    Deed::Start(3, [SRAM + 0xc, SRAM + 0xa0, 9, 0x001f_9809]),
-    Deed::Fetch(0),
-    Deed::Fetch(SRAM + 0x8),
-    Deed::Fetch(SRAM + 0x8),
-    Deed::Fetch(SRAM + 0xc),
-    Deed::Fetch(SRAM + 0x4),
-    Deed::Fetch(SRAM + 0xc),
-    Deed::Fetch(SRAM + 0x4),
-    Deed::Fetch(SRAM + 0xc),
-    Deed::Write(CHAN_ABORT, 8),
-    Deed::Reads(CHANNEL_3 + CH0_TRANS_COUNT, 0),
-    Deed::Cycle(SRAM + 0xc, SRAM + 0xa0),
-    Deed::Cycle(0, SRAM + 0xa0),
-    Deed::Cycle(0, 0),
-    Deed::Reads(CHANNEL_3 + CH0_CTRL_TRIG, 0x001f_9809),
-    Deed::Reads(INTR, 6),
-];
-
-#[test]
-fn priorities_and_aborts(rt: HostRuntime) {
-    assert_eq!(rt; first_wrong(&[1, 2, 3, 4], &ABORTED), None);
-}
+const ABORTED: &str = "\
+    start 1 4 80 2 1f8809; start 2 8 90 2 1f900b; start 3 c a0 9 1f9809;\
+    fetch 0; fetch 8; fetch 8; fetch c; fetch 4; fetch c; fetch 4; fetch c;\
+    write 444 8; reads 0c8 0; cycle c a0; cycle 0 a0; cycle 0 0; reads 0cc 1f9809; reads 400 6;";
 
 /// A transmitter with two free entries, which fill, and one of which is free again in the seventh cycle.
-const TRANSMITTER: [Deed; 14] = [
-    Deed::Start(0, [SRAM, 0x5020_0010, 9, 0x0000_0019]),
-    Deed::Counts(2),
-    Deed::Cycle(0, 0),
-    Deed::Cycle(SRAM, 0),
-    Deed::Cycle(SRAM + 4, 0x5020_0010),
-    Deed::Counts(1),
-    Deed::Cycle(0, 0x5020_0010),
-    Deed::Counts(0),
-    Deed::Cycle(0, 0),
-    Deed::Cycle(0, 0),
-    Deed::Counts(1),
-    Deed::Cycle(0, 0),
-    Deed::Cycle(SRAM + 8, 0),
-    Deed::Cycle(0, 0x5020_0010),
-];
+const TRANSMITTER: &str = "\
+    start 0 0 50200010 9 19; counts 2; cycle 0 0; cycle 20000000 0; cycle 4 50200010; counts 1; cycle 0 50200010;\
+    counts 0; cycle 0 0; cycle 0 0; counts 1; cycle 0 0; cycle 8 0; cycle 0 50200010;";
 
 /// A receiver with one word, read once while it stands there.
-const RECEIVER: [Deed; 7] = [
-    Deed::Counts(0x100_0000),
-    Deed::Start(0, [0x5020_0020, SRAM + 0x80, 9, 0x0002_0029]),
-    Deed::Outside(0xabcd, 0, 0),
-    Deed::Outside(0xabcd, 0x5020_0020, 0),
-    Deed::Counts(0),
-    Deed::Outside(0xabcd, 0, SRAM + 0x80),
-    Deed::Word(SRAM + 0x80, 0xabcd),
-];
+const RECEIVER: &str = "\
+    counts 0 1; write 000 50200020; write 004 20000080; write 008 9; write 00c 20029;\
+    outside abcd 0 0; outside abcd 50200020 0; counts 0; outside abcd 0 80; word 80 abcd;";
+
+/// TIMER3 gives one credit in three cycles, at the end of cycles 2, 5 and 8: each read follows two cycles later.
+const PACED: &str = "\
+    start 0 0 80 9 1f0009; write 42c 10003; fetch 0; fetch 0; fetch 0; fetch 0; fetch 20000000;\
+    fetch 0; fetch 0; fetch 20000000; fetch 0; fetch 0; fetch 20000000; fetch 0;";
 
 #[test]
-fn pacing(rt: HostRuntime) {
-    assert_eq!(rt; first_wrong(&[7, 8, 9], &TRANSMITTER), None);
-    assert_eq!(rt; first_wrong(&[7, 8, 9], &RECEIVER), None);
+fn cycles(rt: HostRuntime) {
+    let words = [0, 2, 3, 4, 0, 0, 0, 0x1122_3344, 0x5566_7788];
+    for text in [
+        CLASH,
+        TAKEN,
+        WORDS,
+        CHAINED,
+        ABORTED,
+        TRANSMITTER,
+        RECEIVER,
+        PACED,
+    ] {
+        assert_eq!(rt; first_wrong(&mut over(&words), text), None);
+    }
+    for text in COPIES {
+        assert_eq!(rt;
+            first_wrong(&mut over(&[0x4433_2211, 0x8877_6655]), text),
+            None
+        );
+    }
 }
 
-/// One credit in three cycles, at the end of cycles 2, 5 and 8: each read follows two cycles later.
-const PACED: [Deed; 14] = [
-    Deed::Start(0, [SRAM, SRAM + 0x80, 9, 0x001f_0009]),
-    Deed::Write(TIMER0 + 12, 0x0001_0003),
-    Deed::Fetch(0),
-    Deed::Fetch(0),
-    Deed::Fetch(0),
-    Deed::Fetch(0),
-    Deed::Fetch(SRAM),
-    Deed::Fetch(0),
-    Deed::Fetch(0),
-    Deed::Fetch(SRAM),
-    Deed::Fetch(0),
-    Deed::Fetch(0),
-    Deed::Fetch(SRAM),
-    Deed::Fetch(0),
-];
-
-#[test]
-fn timers(rt: HostRuntime) {
-    assert_eq!(rt; first_wrong(&[7, 8, 9], &PACED), None);
+/// What the engine wants in the cycle of this number after the start of a copy of one word.
+fn wants(read: u32, write: u32, number: u32) -> [Want; 2] {
+    let mut copier = over(&[7]);
+    for (offset, word) in [(0x0, read), (0x4, write), (0x8, 1), (0xc, 0x001f_8009)] {
+        copier.dma.effect(offset, Some(word));
+    }
+    for _ in 0..number {
+        cycle(&mut copier.dma, &mut copier.memory, 8, 0);
+    }
+    Dma::wants(&copier.dma.begin(&(), 0, &mut copier.memory))
 }
 
-/// A read from there is the engine's stop.
-fn is_stopped(read: u32, stop: u32) -> bool {
-    let mut memory = Memory::with_words(&[7]);
-    let mut dma = started(read, SRAM + 0x80, 1, 0x001f_8009);
-    cycle(&mut dma, &mut memory, 8, 0);
-    let begun = dma.begin(&(), 1, &mut memory);
-    Dma::wants(&begun)[0] == Want::Stopped(Why::Outside(Master::DmaRead, stop))
-}
-
-/// A write to there goes outward.
-fn is_outward(address: u32) -> bool {
-    let mut memory = Memory::with_words(&[7]);
-    let mut dma = started(SRAM, address, 1, 0x001f_8009);
-    cycle(&mut dma, &mut memory, 8, 0);
-    cycle(&mut dma, &mut memory, 8, 0);
-    let begun = dma.begin(&(), 2, &mut memory);
-    let request = Request {
-        address,
-        size: Size::Word,
-        write: Some(7),
-    };
-    Dma::wants(&begun)[1] == Want::Outward(request)
-}
-
+/// A read outside is a stop, at the word of its address, and a write goes outward.
 #[test]
 fn outside(rt: HostRuntime) {
-    for (read, stop) in [
-        (0xd000_0000, 0xd000_0000),
-        (0xe000_e012, 0xe000_e010),
-        (0x1000_0000, 0x1000_0000),
-    ] {
-        assert!(rt; is_stopped(read, stop), "{read:x}");
+    for read in [0xd000_0000, 0xe000_e012, 0x1000_0000] {
+        let stop = Want::Stopped(Why::Outside(Master::DmaRead, read & !3));
+        assert!(rt; wants(read, SRAM + 0x80, 1)[0] == stop, "{read:x}");
     }
-    for write in [0x4009_9000, 0x5000_0400] {
-        assert!(rt; is_outward(write), "{write:x}");
+    for address in [0x4009_9000, 0x5000_0400] {
+        let request = Request {
+            address,
+            size: Size::Word,
+            write: Some(7),
+        };
+        assert!(rt;
+            wants(SRAM, address, 2)[1] == Want::Outward(request),
+            "{address:x}"
+        );
     }
 }

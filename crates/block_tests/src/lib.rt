@@ -3,6 +3,10 @@
 
 pub mod counter;
 #[cfg(test)]
+mod deeds;
+#[cfg(test)]
+mod device_tests;
+#[cfg(test)]
 mod dma_engine_tests;
 #[cfg(test)]
 mod io_bank_tests;
@@ -13,12 +17,8 @@ mod pio_block_tests;
 #[cfg(test)]
 mod pio_machine_tests;
 #[cfg(test)]
-mod pwm_tests;
-#[cfg(test)]
 mod rp_timer_tests;
 #[cfg(test)]
 mod rp_uart_tests;
 #[cfg(test)]
 mod sio_block_tests;
-#[cfg(test)]
-mod startup_tests;

@@ -2,24 +2,9 @@
 
 ghost use Rattle.std.specs.Prelude.{◌<◌};
 
+use crate::deeds::{Bench, byte, first_wrong, half};
 use pio_machine::settings::Settings;
 use pio_machine::{Done, Machine1, Memory, Seen, Waiting};
-use std::process::Abort;
-
-/// What a program sees where all pins are low.
-fn seen(program: &[u16; 4]) -> Seen {
-    let mut memory = Memory::new();
-    memory.write(0, program[0]);
-    memory.write(1, program[1]);
-    memory.write(2, program[2]);
-    memory.write(3, program[3]);
-    Seen {
-        memory,
-        inputs: [0, 0],
-        bypass: 0,
-        flags: 0,
-    }
-}
 
 /// A cycle of the machine of that number.
 fn tick(machine: &mut Machine1, number: u8, seen: &Seen, done: &mut Done)
@@ -29,454 +14,283 @@ fn tick(machine: &mut Machine1, number: u8, seen: &Seen, done: &mut Done)
     pio_machine::tick(machine, &settings, number, seen, done);
 }
 
-/// A word, and then PC, X, Y, both shift registers and both counts.
-type Row = (u16, u8, u32, u32, u32, u32, u8, u8);
-
-/// Words written to INSTR of a machine that is not enabled, at address 7 with X 5, Y 0, 8 bits of 12345678 in the ISR and 4
-/// bits out of the OSR, which has 9abcdef0.
-const WORDS: [Row; 20] = [
-    // jmp !x 3; jmp x-- 3; jmp !y 3; jmp y-- 3; jmp x!=y 3; jmp !osre 3
-    (0x0023, 7, 5, 0, 0x1234_5678, 0x9abc_def0, 8, 4),
-    (0x0043, 3, 4, 0, 0x1234_5678, 0x9abc_def0, 8, 4),
-    (0x0063, 3, 5, 0, 0x1234_5678, 0x9abc_def0, 8, 4),
-    (0x0083, 7, 5, 0xffff_ffff, 0x1234_5678, 0x9abc_def0, 8, 4),
-    (0x00a3, 3, 5, 0, 0x1234_5678, 0x9abc_def0, 8, 4),
-    (0x00e3, 3, 5, 0, 0x1234_5678, 0x9abc_def0, 8, 4),
-    // in x, 4; in y, 32
-    (0x4024, 7, 5, 0, 0x5123_4567, 0x9abc_def0, 12, 4),
-    (0x4040, 7, 5, 0, 0, 0x9abc_def0, 32, 4),
-    // out x, 8; out y, 32; out isr, 8; out pc, 6
-    (0x6028, 7, 0xf0, 0, 0x1234_5678, 0x009a_bcde, 8, 12),
-    (0x6040, 7, 5, 0x9abc_def0, 0x1234_5678, 0, 8, 32),
-    (0x60c8, 7, 5, 0, 0xf0, 0x009a_bcde, 8, 12),
-    (0x60a6, 16, 5, 0, 0x1234_5678, 0x026a_f37b, 8, 10),
-    // pull noblock; pull ifempty block
-    (0x8080, 7, 5, 0, 0x1234_5678, 5, 8, 0),
-    (0x80e0, 7, 5, 0, 0x1234_5678, 0x9abc_def0, 8, 4),
-    // mov isr, x; mov x, !x; mov x, ::x; mov pc, x
-    (0xa0c1, 7, 5, 0, 5, 0x9abc_def0, 0, 4),
-    (0xa029, 7, 0xffff_fffa, 0, 0x1234_5678, 0x9abc_def0, 8, 4),
-    (0xa031, 7, 0xa000_0000, 0, 0x1234_5678, 0x9abc_def0, 8, 4),
-    (0xa0a1, 5, 5, 0, 0x1234_5678, 0x9abc_def0, 8, 4),
-    // set y, 31; a reserved word
-    (0xe05f, 7, 5, 31, 0x1234_5678, 0x9abc_def0, 8, 4),
-    (0x8001, 7, 5, 0, 0x1234_5678, 0x9abc_def0, 8, 4),
-];
-
-/// The word of the row is gone after a cycle, and leaves this.
-fn leaves(row: &Row) -> bool {
-    let (word, pc, x, y, isr, osr, isr_count, osr_count) = *row;
-    let mut machine = Machine1::new();
-    machine.pc = 7;
-    machine.x = 5;
-    machine.isr = 0x1234_5678;
-    machine.isr_count = 8;
-    machine.osr = 0x9abc_def0;
-    machine.osr_count = 4;
-    machine.waiting = Some(Waiting::forced(word));
-    tick(&mut machine, 0, &seen(&[0; 4]), &mut Done::new());
-    machine.waiting.is_none()
-        && (machine.pc, machine.x, machine.y) == (pc, x, y)
-        && (machine.isr, machine.isr_count) == (isr, isr_count)
-        && (machine.osr, machine.osr_count) == (osr, osr_count)
+/// A machine, its number, what it sees, and what its last cycle did.
+#[derive(Drop)]
+struct Alone {
+    machine: Machine1,
+    number: u8,
+    seen: Seen,
+    done: Done,
 }
 
-/// The first row that is not so.
-fn first_wrong(rows: &[Row]) -> Option<usize> {
-    for (index, row) in rows.iter().enumerate() {
-        if !leaves(row) {
-            return Some(index);
+/// A machine in its reset state, with no program, where all pins are low.
+fn at_reset() -> Alone {
+    Alone {
+        machine: Machine1::new(),
+        number: 0,
+        seen: Seen {
+            memory: Memory::new(),
+            inputs: [0, 0],
+            bypass: 0,
+            flags: 0,
+        },
+        done: Done::new(),
+    }
+}
+
+impl Alone {
+    /// A cycle.
+    fn cycle(&mut self) {
+        self.done = Done::new();
+        if self.number < 4 {
+            tick(&mut self.machine, self.number, &self.seen, &mut self.done);
         }
     }
-    None
+
+    /// A cycle drives pin 0 so, or writes no level of it.
+    fn levels(&mut self, mask: u32, level: u32) -> bool {
+        self.cycle();
+        self.done.level_mask & 1 == mask && self.done.levels & 1 == level
+    }
+
+    /// What is done to it.
+    fn acts(&mut self, verb: &str, words: &[u32; 8]) -> bool {
+        let machine = &mut self.machine;
+        let first = words[0];
+        match verb {
+            "enable" => machine.enabled = first == 1,
+            "clkdiv" => machine.clkdiv = first,
+            "execctrl" => machine.execctrl = first,
+            "shiftctrl" => machine.shiftctrl = first,
+            "pinctrl" => machine.pinctrl = first,
+            "x" => machine.x = first,
+            "y" => machine.y = first,
+            // a shift register and its count
+            "isr" => {
+                machine.isr = first;
+                machine.isr_count = byte(words[1]);
+            }
+            "osr" => {
+                machine.osr = first;
+                machine.osr_count = byte(words[1]);
+            }
+            "pc" => machine.pc = (first % 32) as u8,
+            "word" => machine.waiting = Some(Waiting::forced(half(first))),
+            "give" => {
+                if machine.tx.level() < 4 {
+                    machine.tx.push(first);
+                }
+            }
+            "fill" => {
+                for _ in 0..4 {
+                    if machine.rx.level() < 4 {
+                        machine.rx.push(9);
+                    }
+                }
+            }
+            "empty" => machine.rx.clear(),
+            "clear" => machine.rx_stall = false,
+            "restart" => machine.restart(),
+            "copy" => {
+                let mut copy = Machine1::new();
+                copy.copy_from(machine);
+                *machine = copy;
+            }
+            _ => return false,
+        }
+        true
+    }
+
+    /// What is seen of it.
+    fn shows(&self, verb: &str, words: &[u32; 8]) -> bool {
+        let machine = &self.machine;
+        let [first, second, third, fourth, fifth, sixth, seventh, _] = *words;
+        match verb {
+            // PC, X, Y, both shift registers and both counts
+            "has" => {
+                machine.waiting.is_none()
+                    && [u32::from(machine.pc), machine.x, machine.y] == [first, second, third]
+                    && [machine.isr, machine.osr] == [fourth, fifth]
+                    && [u32::from(machine.isr_count), u32::from(machine.osr_count)]
+                        == [sixth, seventh]
+            }
+            "at" => u32::from(machine.pc) == first,
+            "isr=" => machine.isr == first,
+            "y=" => machine.y == first,
+            "out" => u32::from(machine.osr_count) == first,
+            // how many words the RX FIFO has, and the first one
+            "level" => u32::from(machine.rx.level()) == first && machine.rx.first() == second,
+            // RXSTALL, and that the word at PC has shifted
+            "stalled" => {
+                machine.rx_stall == (first == 1) && machine.progress.shifted == (second == 1)
+            }
+            // TXSTALL of an empty TX FIFO
+            "starved" => machine.tx_stall && machine.tx.level() == 0,
+            // the depths of both FIFOs, and that both are full
+            "depths" => {
+                [u32::from(machine.tx_depth()), u32::from(machine.rx_depth())] == [first, second]
+                    && [machine.is_tx_full(), machine.is_rx_full()] == [third == 1; 2]
+            }
+            // the word that waits as one that was executed
+            "executes" => match machine.waiting {
+                Some(waiting) => u32::from(waiting.word) == first && !waiting.forced,
+                None => false,
+            },
+            // the flags that the last cycle sets and clears
+            "irqs" => [u32::from(self.done.set), u32::from(self.done.clear)] == [first, second],
+            // the mask and the levels, and the mask and the enables
+            "pins" => {
+                [self.done.level_mask, self.done.levels] == [first, second]
+                    && [self.done.enable_mask, self.done.enables] == [third, fourth]
+            }
+            _ => false,
+        }
+    }
 }
+
+impl Bench for Alone {
+    fn does(&mut self, verb: &str, words: &[u32; 8]) -> bool {
+        match verb {
+            // the number of the machine
+            "number" => self.number = byte(words[0]),
+            // a program from address 0 on
+            "program" => {
+                for k in 0..8 {
+                    self.seen.memory.write(k, half(words[usize::from(k)]));
+                }
+            }
+            // the inputs of now and behind the synchronisers, and what passes by those
+            "inputs" => {
+                self.seen.inputs = [words[0], words[1]];
+                self.seen.bypass = words[2];
+            }
+            "flags" => self.seen.flags = byte(words[0]),
+            "cycles" => {
+                for _ in 0..words[0] {
+                    self.cycle();
+                }
+            }
+            // a cycle that writes no level of pin 0, a low one or a high one
+            "keeps" => return self.levels(0, 0),
+            "low" => return self.levels(1, 0),
+            "high" => return self.levels(1, 1),
+            "took" => return self.machine.rx.pull() == Some(words[0]),
+            _ => return self.acts(verb, words) || self.shows(verb, words),
+        }
+        true
+    }
+}
+
+/// Words written to INSTR of a machine that is not enabled, at address 7 with X 5, Y 0, 8 bits of 12345678 in the ISR and 4
+/// bits out of the OSR, which has 9abcdef0; and PC, X, Y, both shift registers and both counts then.
+const WORDS: [(u16, &str); 20] = [
+    // jmp !x 3; jmp x-- 3; jmp !y 3; jmp y-- 3; jmp x!=y 3; jmp !osre 3
+    (0x0023, "has 7 5 0 12345678 9abcdef0 8 4"),
+    (0x0043, "has 3 4 0 12345678 9abcdef0 8 4"),
+    (0x0063, "has 3 5 0 12345678 9abcdef0 8 4"),
+    (0x0083, "has 7 5 ffffffff 12345678 9abcdef0 8 4"),
+    (0x00a3, "has 3 5 0 12345678 9abcdef0 8 4"),
+    (0x00e3, "has 3 5 0 12345678 9abcdef0 8 4"),
+    // in x, 4; in y, 32
+    (0x4024, "has 7 5 0 51234567 9abcdef0 c 4"),
+    (0x4040, "has 7 5 0 0 9abcdef0 20 4"),
+    // out x, 8; out y, 32; out isr, 8; out pc, 6
+    (0x6028, "has 7 f0 0 12345678 9abcde 8 c"),
+    (0x6040, "has 7 5 9abcdef0 12345678 0 8 20"),
+    (0x60c8, "has 7 5 0 f0 9abcde 8 c"),
+    (0x60a6, "has 10 5 0 12345678 26af37b 8 a"),
+    // pull noblock; pull ifempty block
+    (0x8080, "has 7 5 0 12345678 5 8 0"),
+    (0x80e0, "has 7 5 0 12345678 9abcdef0 8 4"),
+    // mov isr, x; mov x, !x; mov x, ::x; mov pc, x
+    (0xa0c1, "has 7 5 0 5 9abcdef0 0 4"),
+    (0xa029, "has 7 fffffffa 0 12345678 9abcdef0 8 4"),
+    (0xa031, "has 7 a0000000 0 12345678 9abcdef0 8 4"),
+    (0xa0a1, "has 5 5 0 12345678 9abcdef0 8 4"),
+    // set y, 31; a reserved word
+    (0xe05f, "has 7 5 1f 12345678 9abcdef0 8 4"),
+    (0x8001, "has 7 5 0 12345678 9abcdef0 8 4"),
+];
 
 #[test]
 fn single_words(rt: HostRuntime) {
-    assert_eq!(rt; first_wrong(&WORDS), None);
-}
-
-/// Runs a machine for some cycles, whose levels of pin 0 are `levels` from the first one on, where `.` says that none was
-/// written.
-fn run(rt: &impl Abort, machine: &mut Machine1, seen: &Seen, levels: &[u8]) {
-    for (cycle, level) in levels.iter().enumerate() {
-        let mut done = Done::new();
-        tick(machine, 0, seen, &mut done);
-        let found = match (done.level_mask & 1, done.levels & 1) {
-            (0, _) => b'.',
-            (_, 0) => b'0',
-            _ => b'1',
-        };
-        assert_eq!(rt; found, *level, "cycle {cycle}");
+    for (word, text) in WORDS {
+        let mut alone = at_reset();
+        let start = "pc 7; x 5; isr 12345678 8; osr 9abcdef0 4";
+        assert_eq!(rt; first_wrong(&mut alone, start), None);
+        alone.machine.waiting = Some(Waiting::forced(word));
+        alone.cycle();
+        assert_eq!(rt; first_wrong(&mut alone, text), None);
     }
 }
 
-// set pindirs, 1; set pins, 1 [1]; set pins, 0 [2]; jmp 0
-#[test]
-fn blinks(rt: HostRuntime) {
-    let seen = seen(&[0xe081, 0xe101, 0xe200, 0]);
-    let mut machine = Machine1::new();
-    run(&rt, &mut machine, &seen, b"...");
-    machine.enabled = true;
-    run(&rt, &mut machine, &seen, b".1.0....1.0..");
-    // at a divider of 2.5 two ticks take five cycles
-    let mut machine = Machine1::new();
-    machine.enabled = true;
-    machine.clkdiv = 0x0002_8000;
-    run(&rt, &mut machine, &seen, b"..1....0............1");
-}
+/// set pindirs, 1; set pins, 1 [1]; set pins, 0 [2]; jmp 0: not enabled, enabled, and at a divider of 2.5, where two ticks take five
+/// cycles.
+const BLINKS: &str = "\
+    program e081 e101 e200 0; keeps; keeps; keeps; enable 1;\
+    keeps; high; keeps; low; keeps; keeps; keeps; keeps; high; keeps; low; keeps; keeps;";
 
-// The program for WS2812 lamps of the RP2040 Datasheet, 3.6.2, where a bit takes ten cycles: out x, 1 side 0 [2];
-// jmp !x 3 side 1 [1]; jmp 0 side 1 [4]; nop side 0 [4].
-#[test]
-fn lamp_bits(rt: HostRuntime) {
-    let seen = seen(&[0x6221, 0x1123, 0x1400, 0xa442]);
-    let mut machine = Machine1::new();
-    machine.enabled = true;
-    machine.execctrl = 0x3000;
-    machine.pinctrl = 0x2000_0000;
-    // autopull at 24 bits, to the left
-    machine.shiftctrl = 0x3002_0000;
-    run(&rt, &mut machine, &seen, b"000");
-    assert!(rt; machine.tx_stall && machine.tx.level() == 0);
-    machine.tx.push(0x8000_0000);
-    run(&rt, &mut machine, &seen, b"0");
-    assert_eq!(rt; machine.osr_count, 0);
-    run(&rt, &mut machine, &seen, b"0..1.1....0..1.0....0..1.");
-}
+const SLOWER: &str = "\
+    program e081 e101 e200 0; enable 1; clkdiv 28000;\
+    keeps; keeps; high; keeps; keeps; keeps; keeps; low; keeps; keeps; keeps; keeps; keeps; keeps; keeps; keeps; keeps;\
+    keeps; keeps; keeps; high;";
 
-/// What is done to a machine, or seen of it.
-#[derive(Clone, Copy)]
-enum Deed {
-    /// CTRL enables it, or not.
-    Enable(bool),
-    /// SHIFTCTRL.
-    Shifts(u32),
-    /// X and Y.
-    Scratch(u32, u32),
-    /// Four nines are put into the RX FIFO.
-    Nines,
-    /// The RX FIFO gives this word.
-    Took(u32),
-    /// The RX FIFO is emptied.
-    Empty,
-    /// A word is written to INSTR.
-    Word(u16),
-    /// FDEBUG.RXSTALL is cleared.
-    Clear,
-    /// SM_RESTART.
-    Restart,
-    /// A copy goes on instead.
-    Copy,
-    /// So many cycles.
-    Cycles(u8),
-    /// A cycle with these flags, which sets and clears those.
-    Flags(u8, u8, u8),
-    /// PC.
-    Counter(u8),
-    /// The ISR.
-    Isr(u32),
-    /// Y.
-    Y(u32),
-    /// How many bits were shifted out of the OSR.
-    Out(u8),
-    /// How many words the RX FIFO has, and the first one.
-    Level(u8, u32),
-    /// RXSTALL, and that the word at PC has shifted.
-    Stalled(bool, bool),
-    /// The depths of both FIFOs, and that both are full.
-    Depths(u8, u8, bool),
-}
-
-/// Four nines are put into an empty FIFO.
-fn fill(machine: &mut Machine1) -> bool {
-    for _ in 0..4 {
-        if machine.rx.level() >= 4 {
-            return false;
-        }
-        machine.rx.push(9);
-    }
-    true
-}
-
-/// A copy goes on instead of the machine.
-fn replace(machine: &mut Machine1) {
-    let mut copy = Machine1::new();
-    copy.copy_from(machine);
-    *machine = copy;
-}
-
-/// What is done to its registers.
-fn sets(machine: &mut Machine1, deed: &Deed) -> bool {
-    match *deed {
-        Deed::Enable(enabled) => machine.enabled = enabled,
-        Deed::Shifts(word) => machine.shiftctrl = word,
-        Deed::Scratch(x, y) => {
-            machine.x = x;
-            machine.y = y;
-        }
-        Deed::Nines => return fill(machine),
-        Deed::Took(word) => return machine.rx.pull() == Some(word),
-        Deed::Empty => machine.rx.clear(),
-        Deed::Word(word) => machine.waiting = Some(Waiting::forced(word)),
-        Deed::Clear => machine.rx_stall = false,
-        Deed::Restart => machine.restart(),
-        Deed::Copy => replace(machine),
-        _ => {}
-    }
-    true
-}
-
-/// What is seen of it.
-fn shows(machine: &Machine1, deed: &Deed) -> bool {
-    match *deed {
-        Deed::Counter(pc) => machine.pc == pc,
-        Deed::Isr(isr) => machine.isr == isr,
-        Deed::Y(y) => machine.y == y,
-        Deed::Out(count) => machine.osr_count == count,
-        Deed::Level(level, first) => machine.rx.level() == level && machine.rx.first() == first,
-        Deed::Stalled(stalled, shifted) => {
-            machine.rx_stall == stalled && machine.progress.shifted == shifted
-        }
-        Deed::Depths(tx, rx, full) => {
-            (machine.tx_depth(), machine.rx_depth()) == (tx, rx)
-                && (machine.is_tx_full(), machine.is_rx_full()) == (full, full)
-        }
-        _ => true,
-    }
-}
-
-/// Its cycles.
-fn runs(machine: &mut Machine1, seen: &mut Seen, deed: &Deed) -> bool {
-    match *deed {
-        Deed::Cycles(count) => {
-            for _ in 0..count {
-                tick(machine, 0, seen, &mut Done::new());
-            }
-            true
-        }
-        Deed::Flags(flags, set, clear) => {
-            let mut done = Done::new();
-            seen.flags = flags;
-            tick(machine, 0, seen, &mut done);
-            done.set == set && done.clear == clear
-        }
-        _ => true,
-    }
-}
-
-/// The first of these that is not so, of an enabled machine that runs this program, with one more word at address 5.
-fn first_fault(program: &[u16; 4], fifth: u16, deeds: &[Deed]) -> Option<usize> {
-    let mut seen = seen(program);
-    seen.memory.write(5, fifth);
-    let mut machine = Machine1::new();
-    machine.enabled = true;
-    for (index, deed) in deeds.iter().enumerate() {
-        let so = sets(&mut machine, deed)
-            && runs(&mut machine, &mut seen, deed)
-            && shows(&machine, deed);
-        if !so {
-            return Some(index);
-        }
-    }
-    None
-}
+/// The program for WS2812 lamps of the RP2040 Datasheet, 3.6.2, where a bit takes ten cycles: out x, 1 side 0 [2];
+/// jmp !x 3 side 1 [1]; jmp 0 side 1 [4]; nop side 0 [4]. It has autopull at 24 bits, to the left.
+const LAMPS: &str = "\
+    program 6221 1123 1400 a442; enable 1; execctrl 3000; pinctrl 20000000; shiftctrl 30020000;\
+    low; low; low; starved; give 80000000; low; out 0;\
+    low; keeps; keeps; high; keeps; high; keeps; keeps; keeps; keeps;\
+    low; keeps; keeps; high; keeps; low; keeps; keeps; keeps; keeps;\
+    low; keeps; keeps; high; keeps;";
 
 /// IN of 32 bits under autopush shifts once, also where it stalls; and PUSH tells a full FIFO: in y, 32; push noblock; set y,
 /// 2; jmp 0.
-const STALLS: [Deed; 24] = [
-    Deed::Scratch(0, 1),
-    Deed::Shifts(0x000d_0000),
-    Deed::Nines,
-    Deed::Cycles(2),
-    Deed::Stalled(true, true),
-    Deed::Isr(1),
-    Deed::Scratch(0, 7),
-    Deed::Took(9),
-    Deed::Cycles(1),
-    Deed::Level(4, 9),
-    Deed::Counter(1),
-    Deed::Clear,
-    Deed::Cycles(2),
-    Deed::Stalled(true, false),
-    Deed::Y(2),
-    Deed::Restart,
-    Deed::Out(32),
-    Deed::Copy,
-    Deed::Level(4, 9),
-    Deed::Empty,
-    Deed::Depths(4, 4, false),
-    Deed::Shifts(0xc000_0000),
-    Deed::Depths(0, 0, true),
-    Deed::Level(0, 0),
-];
+const STALLS: &str = "\
+    program 4040 8000 e042 0; enable 1; y 1; shiftctrl d0000; fill; cycles 2; stalled 1 1; isr= 1;\
+    y 7; took 9; cycles 1; level 4 9; at 1; clear; cycles 2; stalled 1 0; y= 2;\
+    restart; out 20; copy; level 4 9; empty; depths 4 4 0; shiftctrl c0000000; depths 0 0 1; level 0 0;";
 
-#[test]
-fn stalls(rt: HostRuntime) {
-    let program = [0x4040, 0x8000, 0xe042, 0];
-    assert_eq!(rt; first_fault(&program, 0, &STALLS), None);
-}
+/// irq wait 2 rel by machine 3 waits for flag 1, which wait 1 irq 1 clears; the waiting word of mov exec and its side-set: irq wait
+/// 2 rel; wait 1 irq 1; mov exec, x; jmp 0.
+const FLAGS: &str = "\
+    program c032 20c1 a081 0; enable 1; number 3; x e041;\
+    cycles 1; irqs 2 0; at 0; flags 2; cycles 1; irqs 0 0; at 0; flags 0; cycles 1; irqs 0 0; at 1; cycles 1; irqs 0 0; at 1;\
+    flags 2; cycles 1; irqs 0 2; at 2; flags 0; cycles 1; irqs 0 0; at 3; executes e041; cycles 1; y= 1; at 3;";
 
-/// The flags of a cycle of machine 3, what it sets and clears, and PC after it.
-const FLAGS: [(u8, u8, u8, u8); 6] = [
-    (0, 2, 0, 0),
-    (2, 0, 0, 0),
-    (0, 0, 0, 1),
-    (0, 0, 0, 1),
-    (2, 0, 2, 2),
-    (0, 0, 0, 3),
-];
-
-/// A cycle of machine 3 is as its row says.
-fn passes(machine: &mut Machine1, seen: &mut Seen, row: &(u8, u8, u8, u8)) -> bool {
-    let (flags, set, clear, pc) = *row;
-    let mut done = Done::new();
-    seen.flags = flags;
-    tick(machine, 3, seen, &mut done);
-    done.set == set && done.clear == clear && machine.pc == pc
-}
-
-/// The word e041 waits as one that was executed, sets Y to 1 and leaves PC.
-fn executes(machine: &mut Machine1, seen: &Seen) -> bool {
-    let waits = match machine.waiting {
-        Some(waiting) => waiting.word == 0xe041 && !waiting.forced,
-        None => false,
-    };
-    tick(machine, 3, seen, &mut Done::new());
-    waits && machine.y == 1 && machine.pc == 3
-}
-
-// irq wait 2 rel by machine 3 waits for flag 1, which wait 1 irq 1 clears; the waiting word of mov exec and its side-set
-#[test]
-fn flags_and_executed_words(rt: HostRuntime) {
-    // irq wait 2 rel; wait 1 irq 1; mov exec, x; jmp 0
-    let mut seen = seen(&[0xc032, 0x20c1, 0xa081, 0]);
-    let mut machine = Machine1::new();
-    machine.enabled = true;
-    machine.x = 0xe041;
-    for (index, row) in FLAGS.iter().enumerate() {
-        assert!(rt; passes(&mut machine, &mut seen, row), "row {index}");
-    }
-    assert!(rt; executes(&mut machine, &seen));
-}
-
-/// A cycle of machine 1, and the levels and enables that it writes, each with its mask.
-fn writes(machine: &mut Machine1, seen: &Seen, levels: (u32, u32), enables: (u32, u32)) -> bool {
-    let mut done = Done::new();
-    tick(machine, 1, seen, &mut done);
-    done.level_mask == levels.0
-        && done.levels == levels.1
-        && done.enable_mask == enables.0
-        && done.enables == enables.1
-}
-
-// Pins go on after pin 31 at pin 0: in pins, 3, of which pin 0 is read before its synchroniser; set pins, 5; and out pindirs,
-// 2 with a side-set of one pin, which wins.
-#[test]
-fn pins_wrap(rt: HostRuntime) {
-    let mut seen = seen(&[0x4003, 0xe005, 0x6082, 0]);
-    seen.inputs = [1, 0x8000_0002];
-    seen.bypass = 1;
-    let mut machine = Machine1::new();
-    machine.enabled = true;
-    machine.shiftctrl = 0;
-    // SET_COUNT 3, IN_BASE and SET_BASE 31
-    machine.pinctrl = (3 << 26) | (31 << 15) | (31 << 5);
-    let none = (0, 0);
-    let read = writes(&mut machine, &seen, none, none) && machine.isr == 7;
-    let levels = (0x8000_0003, 0x8000_0002);
-    assert!(rt; read && writes(&mut machine, &seen, levels, none));
-    // SIDESET_COUNT 1, OUT_COUNT 2, SIDESET_BASE 0, OUT_BASE 31; SIDE_PINDIR
-    machine.pinctrl = (1 << 29) | (2 << 20) | 31;
-    machine.execctrl = 0x2001_f000;
-    machine.osr = 0xc000_0000;
-    machine.osr_count = 0;
-    let enables = (0x8000_0001, 0x8000_0000);
-    assert!(rt; writes(&mut machine, &seen, none, enables));
-    // a side-set that is optional, and not asked for: jmp 0 with delay 0
-    machine.execctrl = 0x6001_f000;
-    machine.pinctrl = 2 << 29;
-    assert!(rt; writes(&mut machine, &seen, none, none) && machine.pc == 0);
-}
+/// Pins go on after pin 31 at pin 0: in pins, 3, of which pin 0 is read before its synchroniser; set pins, 5; and out pindirs,
+/// 2 with a side-set of one pin, which wins; and a side-set that is optional, and not asked for: jmp 0 with delay 0.
+const WRAPPED: &str = "\
+    program 4003 e005 6082 0; enable 1; number 1; inputs 1 80000002 1; shiftctrl 0; pinctrl c0f83e0;\
+    cycles 1; pins 0 0 0 0; isr= 7; cycles 1; pins 80000003 80000002 0 0;\
+    pinctrl 2020001f; execctrl 2001f000; osr c0000000 0; cycles 1; pins 0 0 80000001 80000000;\
+    execctrl 6001f000; pinctrl 40000000; cycles 1; pins 0 0 0 0; at 0;";
 
 /// A fetched in y, 32 stalls, and a written jmp 5 leads to in x, 8, which shifts.
-const JUMP: [Deed; 13] = [
-    Deed::Scratch(7, 3),
-    Deed::Shifts(0x0001_0000),
-    Deed::Nines,
-    Deed::Cycles(2),
-    Deed::Isr(3),
-    Deed::Word(0x0005),
-    Deed::Cycles(2),
-    Deed::Took(9),
-    Deed::Cycles(1),
-    Deed::Took(9),
-    Deed::Took(9),
-    Deed::Took(9),
-    Deed::Took(0x307),
-];
+const JUMP: &str = "\
+    program 4040 0 0 0 0 4028; enable 1; x 7; y 3; shiftctrl 10000; fill; cycles 2; isr= 3;\
+    word 5; cycles 2; took 9; cycles 1; took 9; took 9; took 9; took 307;";
 
 /// A written in x, 32 in place of a written in y, 32 that stalls shifts itself.
-const NEWER: [Deed; 16] = [
-    Deed::Scratch(7, 3),
-    Deed::Shifts(0x0001_0000),
-    Deed::Nines,
-    Deed::Enable(false),
-    Deed::Word(0x4040),
-    Deed::Cycles(2),
-    Deed::Isr(3),
-    Deed::Word(0x4020),
-    Deed::Cycles(2),
-    Deed::Isr(7),
-    Deed::Took(9),
-    Deed::Cycles(1),
-    Deed::Took(9),
-    Deed::Took(9),
-    Deed::Took(9),
-    Deed::Took(7),
-];
+const NEWER: &str = "\
+    program 4040 0 0 0 0 4028; x 7; y 3; shiftctrl 10000; fill; word 4040; cycles 2; isr= 3;\
+    word 4020; cycles 2; isr= 7; took 9; cycles 1; took 9; took 9; took 9; took 7;";
 
 /// A written in x, 8 over a fetched in y, 32 that stalls shifts once, and the fetched one does not shift again.
-const OVER: [Deed; 15] = [
-    Deed::Scratch(7, 3),
-    Deed::Shifts(0x0001_0000),
-    Deed::Nines,
-    Deed::Cycles(2),
-    Deed::Word(0x4028),
-    Deed::Cycles(2),
-    Deed::Took(9),
-    Deed::Cycles(1),
-    Deed::Took(9),
-    Deed::Took(9),
-    Deed::Took(9),
-    Deed::Took(0x307),
-    Deed::Cycles(1),
-    Deed::Counter(1),
-    Deed::Isr(0),
-];
-
-// Each word has its own memory of what it did: in y, 32; at address 5 in x, 8.
-#[test]
-fn memories(rt: HostRuntime) {
-    let program = [0x4040, 0, 0, 0];
-    assert_eq!(rt; first_fault(&program, 0x4028, &JUMP), None);
-    assert_eq!(rt; first_fault(&program, 0x4028, &NEWER), None);
-    assert_eq!(rt; first_fault(&program, 0x4028, &OVER), None);
-}
+const OVER: &str = "\
+    program 4040 0 0 0 0 4028; enable 1; x 7; y 3; shiftctrl 10000; fill; cycles 2; word 4028; cycles 2;\
+    took 9; cycles 1; took 9; took 9; took 9; took 307; cycles 1; at 1; isr= 0;";
 
 /// A written irq wait 1 over a fetched irq wait 0 that stalls raises flag 1, and flag 0 is not raised again.
-const RAISED: [Deed; 8] = [
-    Deed::Flags(0, 1, 0),
-    Deed::Word(0xc021),
-    Deed::Flags(1, 2, 0),
-    Deed::Flags(3, 0, 0),
-    Deed::Flags(1, 0, 0),
-    Deed::Flags(1, 0, 0),
-    Deed::Flags(0, 0, 0),
-    Deed::Counter(1),
-];
+const RAISED: &str = "\
+    program c020 0 0 0; enable 1; cycles 1; irqs 1 0; word c021; flags 1; cycles 1; irqs 2 0; flags 3; cycles 1; irqs 0 0;\
+    flags 1; cycles 1; irqs 0 0; cycles 1; irqs 0 0; flags 0; cycles 1; irqs 0 0; at 1;";
 
 #[test]
-fn memories_of_flags(rt: HostRuntime) {
-    assert_eq!(rt; first_fault(&[0xc020, 0, 0, 0], 0, &RAISED), None);
+fn programs(rt: HostRuntime) {
+    for text in [
+        BLINKS, SLOWER, LAMPS, STALLS, FLAGS, WRAPPED, JUMP, NEWER, OVER, RAISED,
+    ] {
+        assert_eq!(rt; first_wrong(&mut at_reset(), text), None);
+    }
 }

@@ -1,87 +1,65 @@
-//! Words as the datasheet gives them, and the latch, two alarms and the pause over a few microseconds.
+//! Words as the datasheet gives them (4.6.5), and the latch, two alarms and the pause over a few microseconds.
 
+use crate::deeds::{Bench, first_wrong, half};
 use rp_timer::Timer;
-use rp_timer::registers::{
-    ALARM0, ALARM2, ALARM3, ARMED, DBGPAUSE, INTE, INTF, INTR, INTS, PAUSE, TIMEHR, TIMEHW, TIMELR,
-    TIMELW, TIMERAWH, TIMERAWL,
-};
 
-/// Before which cycle an access is made, its register, what is written if it is a write, and what is read after it.
-const ACCESSES: [(u64, u16, Option<u32>, u32); 32] = [
-    (0, TIMELW, Some(0xffff_fffe), 0),
-    (0, TIMEHW, Some(0x0000_0001), 0),
-    (0, TIMEHR, Some(0xffff_ffff), 0),
-    (0, TIMELR, Some(0x0000_0000), 0xffff_fffe),
-    (0, TIMERAWH, Some(0x0000_0000), 1),
-    (0, TIMERAWL, Some(0x0000_0000), 0xffff_fffe),
-    (0, ALARM0, Some(0x1234_5678), 0x1234_5678),
-    (0, ALARM3, Some(0x9abc_def0), 0x9abc_def0),
-    (0, ARMED, Some(0x0000_0000), 9),
-    (0, ARMED, Some(0xffff_fff1), 8),
-    (0, DBGPAUSE, Some(0xffff_ffff), 0xffff_ffff),
-    (0, PAUSE, Some(0xffff_fffe), 0),
-    (0, INTR, Some(0xffff_ffff), 0),
-    (0, INTE, Some(0xffff_ffff), 0xf),
-    (0, INTF, Some(0xffff_fff2), 2),
-    (0, INTS, Some(0xffff_ffff), 2),
-    (0, INTF, Some(0x0000_0000), 0),
-    // alarm 0 has the low word that stands now, and alarm 2 the one of three microseconds later
-    (0, ALARM0, Some(0xffff_fffe), 0xffff_fffe),
-    (0, ALARM2, Some(0x0000_0001), 1),
-    (0, ARMED, None, 13),
-    (124, TIMERAWL, None, 0xffff_fffe),
-    (125, TIMELR, None, 0xffff_ffff),
-    (250, TIMERAWL, None, 0),
-    (250, TIMERAWH, None, 2),
-    (250, TIMEHR, None, 1),
-    (374, INTS, None, 0),
-    (375, INTS, None, 4),
-    (375, ARMED, None, 9),
-    (375, INTE, Some(0x0000_000b), 11),
-    (375, INTS, None, 0),
-    (375, PAUSE, Some(0x0000_0001), 1),
-    (500, TIMERAWL, None, 1),
-];
-
-/// Offsets of no word.
-const MISSING: [u16; 5] = [0x02, 0x11, 0x1e, 0x44, 0x100];
-
-/// An access is allowed and done, and gives this word.
-fn is_done(timer: &mut Timer, offset: u16, write: Option<u32>, read: u32) -> bool {
-    timer.allows(offset, write) && timer.effect(offset, write) && timer.read(offset) == Some(read)
+/// A timer, and its next cycle.
+#[derive(Drop)]
+struct Running {
+    timer: Timer,
+    next: u32,
 }
 
-/// The first access that is not so.
-fn first_wrong(timer: &mut Timer) -> Option<usize> {
-    let mut next = 0;
-    for (index, (cycle, offset, write, read)) in ACCESSES.iter().enumerate() {
-        for number in next..*cycle {
-            timer.step(number);
-        }
-        next = *cycle;
-        if !is_done(timer, *offset, *write, *read) {
-            return Some(index);
+impl Bench for Running {
+    fn does(&mut self, verb: &str, words: &[u32; 8]) -> bool {
+        let offset = half(words[0]);
+        let timer = &mut self.timer;
+        match verb {
+            // an offset, what is written there, and what is read then
+            "keeps" => {
+                let write = Some(words[1]);
+                timer.allows(offset, write)
+                    && timer.effect(offset, write)
+                    && timer.read(offset) == Some(words[2])
+            }
+            // an offset, and what is read there, with what it does
+            "reads" => timer.effect(offset, None) && timer.read(offset) == Some(words[1]),
+            "none" => {
+                !timer.allows(offset, None)
+                    && !timer.effect(offset, Some(1))
+                    && timer.read(offset).is_none()
+            }
+            // the cycles before this one
+            "to" => {
+                for cycle in self.next..words[0] {
+                    timer.step(u64::from(cycle));
+                }
+                self.next = words[0];
+                true
+            }
+            "lines" => timer.lines() == words[0],
+            _ => false,
         }
     }
-    None
 }
+
+/// Each word; then alarm 0 has the low word that stands now, and alarm 2 the one of three microseconds later, each 125 cycles.
+const TEXT: &str = "\
+    none 02; none 11; none 1e; none 44; none 100;\
+    keeps 04 fffffffe 0; keeps 00 1 0; keeps 08 ffffffff 0; keeps 0c 0 fffffffe; keeps 24 0 1; keeps 28 0 fffffffe;\
+    keeps 10 12345678 12345678; keeps 1c 9abcdef0 9abcdef0; keeps 20 0 9; keeps 20 fffffff1 8;\
+    keeps 2c ffffffff ffffffff; keeps 30 fffffffe 0; keeps 34 ffffffff 0;\
+    keeps 38 ffffffff f; keeps 3c fffffff2 2; keeps 40 ffffffff 2; keeps 3c 0 0;\
+    keeps 10 fffffffe fffffffe; keeps 18 1 1; reads 20 d;\
+    to #124; reads 28 fffffffe; to #125; reads 0c ffffffff; to #250; reads 28 0; reads 24 2; reads 08 1;\
+    to #374; reads 40 0; to #375; reads 40 4; reads 20 9; keeps 38 b b; reads 40 0;\
+    keeps 30 1 1; to #500; reads 28 1; lines 0;";
 
 #[test]
-fn accesses(rt: HostRuntime) {
-    let mut timer = Timer::new();
-    assert_eq!(rt; first_wrong(&mut timer), None);
-    assert_eq!(rt; timer.lines(), 0);
-}
-
-/// No word is at this offset.
-fn is_missing(timer: &mut Timer, offset: u16) -> bool {
-    !timer.allows(offset, None) && !timer.effect(offset, Some(1)) && timer.read(offset).is_none()
-}
-
-#[test]
-fn missing(rt: HostRuntime) {
-    let mut timer = Timer::new();
-    for offset in MISSING {
-        assert!(rt; is_missing(&mut timer, offset), "{offset:x}");
-    }
+fn words_and_alarms(rt: HostRuntime) {
+    let mut running = Running {
+        timer: Timer::new(),
+        next: 0,
+    };
+    assert_eq!(rt; first_wrong(&mut running, TEXT), None);
 }

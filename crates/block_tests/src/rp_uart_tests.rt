@@ -1,102 +1,19 @@
-//! Registers as the manuals give them, bytes sent at 115200 baud, frames that are received, and interrupts.
+//! Registers as the manuals give them (4.2.8), bytes sent at 115200 baud, frames that are received, and interrupts.
 
-use rp_uart::registers::{CR, DMACR, DR, FBRD, FR, IBRD, ICR, IFLS, IMSC, LCR_H, MIS, RIS, RSR};
+use crate::deeds::{Bench, byte, first_wrong, half};
 use rp_uart::uart::Uart;
 
-/// Offsets, and what is read there after reset.
-const RESET: [(u16, u32); 4] = [(FR, 0x90), (CR, 0x300), (IFLS, 0x12), (RIS, 0x00)];
-
-/// Offsets, what is written there, and what is read then.
-const WORDS: [(u16, u32, u32); 14] = [
-    (DR, 0x1ff, 0x00),
-    (RSR, 0xff, 0x00),
-    (FR, 0x00, 0x38),
-    (IBRD, 0xffff_ffff, 0xffff),
-    (FBRD, 0xffff_ffff, 0x3f),
-    (LCR_H, 0xffff_ffff, 0x7e),
-    (LCR_H, 0x20, 0x20),
-    (CR, 0xffff_ffff, 0x381),
-    (IFLS, 0xffff_ffff, 0x3f),
-    (IMSC, 0xffff_ffff, 0x7f0),
-    (RIS, 0xffff_ffff, 0x00),
-    (MIS, 0xffff_ffff, 0x00),
-    (ICR, 0xffff_ffff, 0x00),
-    (DMACR, 0xffff_ffff, 0x03),
-];
-
-/// Offsets of no word.
-const MISSING: [u16; 7] = [0x08, 0x01, 0x1c, 0x20, 0x25, 0x4c, 0xfe0];
-
-/// The cycles of the writes of a program at 115200 baud and 125 MHz that sends `Hello`, and what it writes where.
-const WRITES: [(u32, u16, u32); 9] = [
-    (7, IBRD, 0x43),
-    (13, FBRD, 0x34),
-    (19, LCR_H, 0x70),
-    (26, CR, 0x301),
-    (32, DR, 0x48),
-    (38, DR, 0x65),
-    (44, DR, 0x6c),
-    (49, DR, 0x6c),
-    (55, DR, 0x6f),
-];
-
-/// The cycles in which its bytes have ended, each 10 bits of 1085 cycles after the one before.
-const SENT: [(u32, u8); 5] = [
-    (10883, 0x48),
-    (21733, 0x65),
-    (32583, 0x6c),
-    (43433, 0x6c),
-    (54283, 0x6f),
-];
-
-/// What is written to UARTLCR_H, the levels of a frame from the lowest bit and for how many cycles,
-/// 16 for each, and what is read from UARTDR.
-const FRAMES: [(u32, u64, u32, u32); 7] = [
-    (0x70, 0x290, 160, 0x048),
-    (0x16, 0x0e6, 128, 0x013),
-    (0x16, 0x0a6, 128, 0x213),
-    (0x5a, 0x782, 176, 0x041),
-    (0x70, 0x490, 176, 0x148),
-    (0x70, 0x800, 192, 0x500),
-    (0x02, 0x080, 128, 0x200),
-];
-
-/// What a UART of one byte a FIFO tells: the levels of RX from the lowest bit and for how many cycles, 16 for each, then an
-/// access, as its register and what is written if it is a write, and then what is read where.
-const TOLD: [(u64, u32, u16, Option<u32>, u16, u32); 14] = [
-    (ONES, 0, IMSC, Some(0x10), IMSC, 0x10),
-    // TX comes as the byte leaves the FIFO, and RX is not masked
-    (ONES, 0, DR, Some(0x48), RIS, 0x00),
-    (ONES, 1, FR, None, RIS, 0x20),
-    // the second byte is lost, which the third one tells
-    (0x290, 160, FR, None, MIS, 0x10),
-    (0x290, 160, FR, None, RIS, 0x430),
-    (ONES, 0, FR, None, RSR, 0x08),
-    (ONES, 0, DR, None, RIS, 0x420),
-    (ONES, 0, RSR, Some(0x00), RSR, 0x00),
-    (ONES, 0, ICR, Some(0x420), RIS, 0x00),
-    (0x290, 160, FR, None, DR, 0x848),
-    // 32 bits after the middle of the stop bit, where the byte ended, the timeout comes, once
-    (ONES, 504, FR, None, RIS, 0x10),
-    (ONES, 1, FR, None, RIS, 0x50),
-    (ONES, 0, ICR, Some(0x40), RIS, 0x10),
-    (ONES, 768, FR, None, RIS, 0x10),
-];
-
-/// A high line.
-const ONES: u64 = 0xffff_ffff_ffff_ffff;
-
-/// A UART whose bits last 16 cycles.
+/// A UART whose bits last 16 cycles, with these words in UARTLCR_H and UARTCR.
 fn fast(line_control: u32, control: u32) -> Uart {
     let mut uart = Uart::new();
-    for (offset, word) in [(IBRD, 1), (LCR_H, line_control), (CR, control)] {
+    for (offset, word) in [(0x24, 1), (0x2c, line_control), (0x30, control)] {
         uart.effect(offset, Some(word));
     }
     uart
 }
 
 /// Steps a UART so often through the levels of a number from the lowest bit, each for 16 cycles.
-fn hear(uart: &mut Uart, levels: u64, cycles: u32) {
+fn hear(uart: &mut Uart, levels: u32, cycles: u32) {
     let mut rest = levels;
     for cycle in 0..cycles {
         let _ = uart.step(rest % 2 == 1);
@@ -106,93 +23,31 @@ fn hear(uart: &mut Uart, levels: u64, cycles: u32) {
     }
 }
 
-/// A word that is written is kept so.
-fn keeps(uart: &mut Uart, row: &(u16, u32, u32)) -> bool {
-    let (offset, written, read) = *row;
-    uart.allows(offset, Some(written))
-        && uart.effect(offset, Some(written))
-        && uart.read(offset) == Some(read)
-}
-
-/// No word is at this offset.
-fn is_missing(uart: &mut Uart, offset: u16) -> bool {
-    !uart.allows(offset, None) && !uart.effect(offset, None) && uart.read(offset).is_none()
-}
-
-#[test]
-fn words(rt: HostRuntime) {
-    let mut uart = Uart::new();
-    for (offset, read) in RESET {
-        assert!(rt; uart.read(offset) == Some(read), "{offset:x}");
-    }
-    for row in WORDS {
-        assert!(rt; keeps(&mut uart, &row), "{:x}", row.0);
-    }
-    for offset in MISSING {
-        assert!(rt; is_missing(&mut uart, offset), "{offset:x}");
-    }
-}
-
-/// The byte that ends in a cycle.
-fn ended(cycle: u32) -> Option<u8> {
-    for (at, byte) in SENT {
-        if at == cycle {
-            return Some(byte);
+/// So often no byte has ended, where RX is high.
+fn sends_none(uart: &mut Uart, cycles: u32) -> bool {
+    for _ in 0..cycles {
+        if uart.step(true).is_some() {
+            return false;
         }
     }
-    None
-}
-
-/// Does what the program writes in a cycle.
-fn writes(uart: &mut Uart, cycle: u32) {
-    for (at, offset, word) in WRITES {
-        if at == cycle {
-            uart.effect(offset, Some(word));
-        }
-    }
-}
-
-/// The first cycle in which another byte ends than is to.
-fn first_other(uart: &mut Uart) -> Option<u32> {
-    for cycle in 0..60000 {
-        if uart.step(true) != ended(cycle) {
-            return Some(cycle);
-        }
-        writes(uart, cycle);
-    }
-    None
-}
-
-#[test]
-fn hello(rt: HostRuntime) {
-    let mut uart = Uart::new();
-    assert_eq!(rt; first_other(&mut uart), None);
-    assert!(rt; uart.read(FR) == Some(0x90));
+    true
 }
 
 /// A frame is read so, and leaves nothing.
-fn hears(row: &(u32, u64, u32, u32)) -> bool {
-    let (line_control, levels, cycles, read) = *row;
-    let mut uart = fast(line_control, 0x201);
-    hear(&mut uart, levels, cycles);
-    let word = uart.read(DR);
-    uart.effect(DR, None)
-        && word == Some(read)
-        && uart.read(RSR) == Some(read >> 8)
-        && uart.read(FR) == Some(0x90)
-}
-
-#[test]
-fn frames(rt: HostRuntime) {
-    for row in FRAMES {
-        assert!(rt; hears(&row), "{:x}", row.1);
-    }
+fn hears(words: &[u32; 8]) -> bool {
+    let mut uart = fast(words[0], 0x201);
+    hear(&mut uart, words[1], words[2]);
+    let word = uart.read(0x00);
+    uart.effect(0x00, None)
+        && word == Some(words[3])
+        && uart.read(0x04) == Some(words[3] >> 8)
+        && uart.read(0x18) == Some(0x90)
 }
 
 /// Two bytes are sent and come back, the second one to a copy.
 fn comes_back(line_control: u32) -> bool {
     let mut uart = fast(line_control, 0x381);
-    for (offset, word) in [(DMACR, 3), (DR, 0x15), (DR, 0x0a)] {
+    for (offset, word) in [(0x48, 3), (0x00, 0x15), (0x00, 0x0a)] {
         uart.effect(offset, Some(word));
     }
     let before = uart.pacing() == [30, 0];
@@ -200,33 +55,93 @@ fn comes_back(line_control: u32) -> bool {
     let low = !uart.out();
     hear(&mut uart, 0, 400);
     let after = uart.pacing() == [32, 2];
-    let first = uart.read(DR);
-    uart.effect(DR, None);
+    let first = uart.read(0x00);
+    uart.effect(0x00, None);
     let mut twin = Uart::new();
     twin.copy_from(&uart);
-    before && low && after && first == Some(0x15) && twin.read(DR) == Some(0x0a)
+    before && low && after && first == Some(0x15) && twin.read(0x00) == Some(0x0a)
 }
 
-#[test]
-fn loopback(rt: HostRuntime) {
-    for line_control in [0x10, 0x36, 0x5a, 0x7e] {
-        assert!(rt; comes_back(line_control), "{line_control:x}");
+impl Bench for Uart {
+    fn does(&mut self, verb: &str, words: &[u32; 8]) -> bool {
+        let offset = half(words[0]);
+        let write = Some(words[1]);
+        match verb {
+            // an offset, what is written there, and what is read then
+            "keeps" => {
+                self.allows(offset, write)
+                    && self.effect(offset, write)
+                    && self.read(offset) == Some(words[2])
+            }
+            "write" => self.effect(offset, write),
+            "take" => self.effect(offset, None),
+            "reads" => {
+                let line = self.read(0x40) != Some(0);
+                self.read(offset) == write && self.line() == line
+            }
+            "none" => {
+                !self.allows(offset, None)
+                    && !self.effect(offset, None)
+                    && self.read(offset).is_none()
+            }
+            "fast" => {
+                self.copy_from(&fast(words[0], words[1]));
+                true
+            }
+            // the levels of RX, and for how many cycles
+            "hear" => {
+                hear(self, words[0], words[1]);
+                true
+            }
+            // RX is high for so many cycles
+            "high" => {
+                for _ in 0..words[0] {
+                    let _ = self.step(true);
+                }
+                true
+            }
+            "quiet" => sends_none(self, words[0]),
+            "sent" => self.step(true) == Some(byte(words[0])),
+            // UARTLCR_H, the levels of a frame and for how many cycles, and what is read from UARTDR
+            "frame" => hears(words),
+            "back" => comes_back(words[0]),
+            _ => false,
+        }
     }
 }
 
-/// What a row says is told.
-fn tells(uart: &mut Uart, row: &(u64, u32, u16, Option<u32>, u16, u32)) -> bool {
-    let (levels, cycles, offset, write, told, read) = *row;
-    hear(uart, levels, cycles);
-    uart.effect(offset, write);
-    let line = uart.read(MIS) != Some(0);
-    uart.read(told) == Some(read) && uart.line() == line
-}
+/// What is read after reset, what each word keeps of a write, and offsets of no word.
+const WORDS: &str = "\
+    reads 18 90; reads 30 300; reads 34 12; reads 3c 0;\
+    keeps 00 1ff 0; keeps 04 ff 0; keeps 18 0 38; keeps 24 ffffffff ffff; keeps 28 ffffffff 3f;\
+    keeps 2c ffffffff 7e; keeps 2c 20 20; keeps 30 ffffffff 381; keeps 34 ffffffff 3f; keeps 38 ffffffff 7f0;\
+    keeps 3c ffffffff 0; keeps 40 ffffffff 0; keeps 44 ffffffff 0; keeps 48 ffffffff 3;\
+    none 08; none 01; none 1c; none 20; none 25; none 4c; none fe0;";
+
+/// A program at 115200 baud and 125 MHz sends `Hello`, each byte 10 bits of 1085 cycles after the one before.
+const HELLO: &str = "\
+    quiet 8; write 24 43; quiet 6; write 28 34; quiet 6; write 2c 70; quiet 7; write 30 301; quiet 6; write 00 48;\
+    quiet 6; write 00 65; quiet 6; write 00 6c; quiet 5; write 00 6c; quiet 6; write 00 6f;\
+    quiet #10827; sent 48; quiet #10849; sent 65; quiet #10849; sent 6c; quiet #10849; sent 6c; quiet #10849; sent 6f; quiet #5716;\
+    reads 18 90;";
+
+/// Frames of several formats, and what comes back of those that are sent.
+const FRAMES: &str = "\
+    frame 70 290 #160 48; frame 16 e6 #128 13; frame 16 a6 #128 213; frame 5a 782 #176 41; frame 70 490 #176 148;\
+    frame 70 800 #192 500; frame 02 80 #128 200;\
+    back 10; back 36; back 5a; back 7e;";
+
+/// A UART of one byte a FIFO. TX comes as the byte leaves the FIFO, and RX is not masked. A second byte is lost, which the third one
+/// tells. 32 bits after the middle of the stop bit, where the byte ended, the timeout comes, once.
+const TOLD: &str = "\
+    fast 60 301; write 38 10; reads 38 10; write 00 48; reads 3c 0; high 1; reads 3c 20;\
+    hear 290 #160; reads 40 10; hear 290 #160; reads 3c 430; reads 04 8; take 00; reads 3c 420;\
+    write 04 0; reads 04 0; write 44 420; reads 3c 0; hear 290 #160; reads 00 848;\
+    high #504; reads 3c 10; high 1; reads 3c 50; write 44 40; reads 3c 10; high #768; reads 3c 10;";
 
 #[test]
-fn told(rt: HostRuntime) {
-    let mut uart = fast(0x60, 0x301);
-    for (index, row) in TOLD.iter().enumerate() {
-        assert!(rt; tells(&mut uart, row), "row {index}");
+fn words_and_frames(rt: HostRuntime) {
+    for text in [WORDS, HELLO, FRAMES, TOLD] {
+        assert_eq!(rt; first_wrong(&mut Uart::new(), text), None);
     }
 }
