@@ -53,8 +53,8 @@ impl Alone {
         self.done.level_mask & 1 == mask && self.done.levels & 1 == level
     }
 
-    /// What is done to it.
-    fn acts(&mut self, verb: &str, words: &[u32; 8]) -> bool {
+    /// What its registers are set to.
+    fn sets(&mut self, verb: &str, words: &[u32; 8]) -> bool {
         let machine = &mut self.machine;
         let first = words[0];
         match verb {
@@ -76,9 +76,19 @@ impl Alone {
             }
             "pc" => machine.pc = (first % 32) as u8,
             "word" => machine.waiting = Some(Waiting::forced(half(first))),
+            _ => return false,
+        }
+        true
+    }
+
+    /// What is done to the rest of it.
+    fn acts(&mut self, verb: &str, words: &[u32; 8]) -> bool {
+        let machine = &mut self.machine;
+        match verb {
+            // a word into the TX FIFO, and four nines into the RX FIFO
             "give" => {
                 if machine.tx.level() < 4 {
-                    machine.tx.push(first);
+                    machine.tx.push(words[0]);
                 }
             }
             "fill" => {
@@ -89,6 +99,7 @@ impl Alone {
                 }
             }
             "empty" => machine.rx.clear(),
+            // RXSTALL
             "clear" => machine.rx_stall = false,
             "restart" => machine.restart(),
             "copy" => {
@@ -101,8 +112,8 @@ impl Alone {
         true
     }
 
-    /// What is seen of it.
-    fn shows(&self, verb: &str, words: &[u32; 8]) -> bool {
+    /// What its registers are.
+    fn has(&self, verb: &str, words: &[u32; 8]) -> bool {
         let machine = &self.machine;
         let [first, second, third, fourth, fifth, sixth, seventh, _] = *words;
         match verb {
@@ -111,13 +122,28 @@ impl Alone {
                 machine.waiting.is_none()
                     && [u32::from(machine.pc), machine.x, machine.y] == [first, second, third]
                     && [machine.isr, machine.osr] == [fourth, fifth]
-                    && [u32::from(machine.isr_count), u32::from(machine.osr_count)]
-                        == [sixth, seventh]
+                    && u32::from(machine.isr_count) == sixth
+                    && u32::from(machine.osr_count) == seventh
             }
             "at" => u32::from(machine.pc) == first,
             "isr=" => machine.isr == first,
             "y=" => machine.y == first,
             "out" => u32::from(machine.osr_count) == first,
+            // the word that waits as one that was executed
+            "executes" => match machine.waiting {
+                Some(waiting) => u32::from(waiting.word) == first && !waiting.forced,
+                None => false,
+            },
+            _ => false,
+        }
+    }
+
+    /// What else is seen of it.
+    fn shows(&self, verb: &str, words: &[u32; 8]) -> bool {
+        let machine = &self.machine;
+        let done = &self.done;
+        let [first, second, third, fourth, ..] = *words;
+        match verb {
             // how many words the RX FIFO has, and the first one
             "level" => u32::from(machine.rx.level()) == first && machine.rx.first() == second,
             // RXSTALL, and that the word at PC has shifted
@@ -131,17 +157,12 @@ impl Alone {
                 [u32::from(machine.tx_depth()), u32::from(machine.rx_depth())] == [first, second]
                     && [machine.is_tx_full(), machine.is_rx_full()] == [third == 1; 2]
             }
-            // the word that waits as one that was executed
-            "executes" => match machine.waiting {
-                Some(waiting) => u32::from(waiting.word) == first && !waiting.forced,
-                None => false,
-            },
             // the flags that the last cycle sets and clears
-            "irqs" => [u32::from(self.done.set), u32::from(self.done.clear)] == [first, second],
+            "irqs" => [u32::from(done.set), u32::from(done.clear)] == [first, second],
             // the mask and the levels, and the mask and the enables
             "pins" => {
-                [self.done.level_mask, self.done.levels] == [first, second]
-                    && [self.done.enable_mask, self.done.enables] == [third, fourth]
+                [done.level_mask, done.levels] == [first, second]
+                    && [done.enable_mask, done.enables] == [third, fourth]
             }
             _ => false,
         }
@@ -175,7 +196,12 @@ impl Bench for Alone {
             "low" => return self.levels(1, 0),
             "high" => return self.levels(1, 1),
             "took" => return self.machine.rx.pull() == Some(words[0]),
-            _ => return self.acts(verb, words) || self.shows(verb, words),
+            _ => {
+                return self.sets(verb, words)
+                    || self.acts(verb, words)
+                    || self.has(verb, words)
+                    || self.shows(verb, words);
+            }
         }
         true
     }

@@ -62,51 +62,53 @@ fn comes_back(line_control: u32) -> bool {
     before && low && after && first == Some(0x15) && twin.read(0x00) == Some(0x0a)
 }
 
+/// What concerns a word.
+fn does_word(uart: &mut Uart, verb: &str, words: &[u32; 8]) -> bool {
+    let offset = half(words[0]);
+    let write = Some(words[1]);
+    match verb {
+        // an offset, what is written there, and what is read then
+        "keeps" => {
+            uart.allows(offset, write)
+                && uart.effect(offset, write)
+                && uart.read(offset) == Some(words[2])
+        }
+        "write" => uart.effect(offset, write),
+        "take" => uart.effect(offset, None),
+        // what is read, while the interrupt line is as UARTMIS has it
+        "reads" => {
+            let line = uart.read(0x40) != Some(0);
+            uart.read(offset) == write && uart.line() == line
+        }
+        "none" => {
+            !uart.allows(offset, None) && !uart.effect(offset, None) && uart.read(offset).is_none()
+        }
+        _ => false,
+    }
+}
+
 impl Bench for Uart {
     fn does(&mut self, verb: &str, words: &[u32; 8]) -> bool {
-        let offset = half(words[0]);
-        let write = Some(words[1]);
         match verb {
-            // an offset, what is written there, and what is read then
-            "keeps" => {
-                self.allows(offset, write)
-                    && self.effect(offset, write)
-                    && self.read(offset) == Some(words[2])
-            }
-            "write" => self.effect(offset, write),
-            "take" => self.effect(offset, None),
-            "reads" => {
-                let line = self.read(0x40) != Some(0);
-                self.read(offset) == write && self.line() == line
-            }
-            "none" => {
-                !self.allows(offset, None)
-                    && !self.effect(offset, None)
-                    && self.read(offset).is_none()
-            }
-            "fast" => {
-                self.copy_from(&fast(words[0], words[1]));
-                true
-            }
+            // UARTLCR_H and UARTCR of one whose bits last 16 cycles
+            "fast" => self.copy_from(&fast(words[0], words[1])),
             // the levels of RX, and for how many cycles
-            "hear" => {
-                hear(self, words[0], words[1]);
-                true
-            }
+            "hear" => hear(self, words[0], words[1]),
             // RX is high for so many cycles
             "high" => {
                 for _ in 0..words[0] {
                     let _ = self.step(true);
                 }
-                true
             }
-            "quiet" => sends_none(self, words[0]),
-            "sent" => self.step(true) == Some(byte(words[0])),
+            // the same, and no byte ends in them; and a cycle in which this one does
+            "quiet" => return sends_none(self, words[0]),
+            "sent" => return self.step(true) == Some(byte(words[0])),
             // UARTLCR_H, the levels of a frame and for how many cycles, and what is read from UARTDR
-            "frame" => hears(words),
-            "back" => comes_back(words[0]),
-            _ => false,
+            "frame" => return hears(words),
+            "back" => return comes_back(words[0]),
+            _ => return does_word(self, verb, words),
         }
+        true
     }
 }
 

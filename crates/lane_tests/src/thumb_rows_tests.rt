@@ -110,6 +110,15 @@ fn miscellaneous_and_branch(rt: HostRuntime) {
         (0xDE00, 0x0000, Op::Udf { i: 0 }), // udf 0
         (0xDF05, 0x0000, Op::Svc { i: 5 }), // svc 5
         (0xE400, 0x0000, Op::B { i: 0x400 }), // b . - 2044
+    ];
+    for (first, second, op) in table {
+        assert!(rt; decode(first, second) == op, "{first:x} {second:x}");
+    }
+}
+
+#[test]
+fn long_and_undefined(rt: HostRuntime) {
+    let table = [
         (0xF000, 0xF800, bl(false, 0, 3)), // bl . + 4
         (0xF400, 0xF800, bl(true, 0, 3)), // bl . - 4194300
         (0xF112, 0xF1A2, bl(false, 0x891A2, 2)), // bl . + 0x512348, for cortex-m3
