@@ -77,8 +77,8 @@ impl Machine {
     }
 
     /// A cycle in which core 0 has begun this, where that is an access to SRAM, or one that waits for the peripherals. False where it is none
-    /// of these, and then nothing changes.
-    #[inline(always)]
+    /// of these, and then nothing changes. It stands out of line, so that the loop has room for the cycles without one.
+    #[inline(never)]
     #[tactic(auto, unfolding(crate::specs::Inward::inward_next))]
     fn reach_onward(&mut self, core0: &Doing, marks: &mut Marks) -> bool
         requires number { self.old.cycle < 2 ^ 64 - 1 }
