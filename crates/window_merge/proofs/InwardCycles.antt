@@ -1,9 +1,10 @@
--- The first cycles of a window, as long as core 0 alone is at work in SRAM beside lanes that are quiet: the start answers each lane as
--- the machine does.
-use Rattle.std.proofs.Common.{◌≡◌, ℕ, zero, suc, ◌+◌, ◌<◌, ◌≤◌, ◌==◌, ◌||◌, nat_eq, not, inl, inr, add-one, Bool, true, false, if◌then◌else◌, List, [], ◌∷◌, ◌++◌, length, length-append, Option, Some, None, refl, sym, ap, subst, ◌∙◌, arith}
+-- Cycles of a window as long as core 0 alone is at work in SRAM beside lanes that are quiet: the start answers each lane as the machine does.
+use Rattle.std.proofs.Common.{◌≡◌, ℕ, zero, suc, ◌+◌, ◌<◌, ◌≤◌, ◌==◌, ◌||◌, ◌&&◌, nat_eq, not, inl, inr, add-one, Bool, true, false, if◌then◌else◌, List, [], ◌∷◌, ◌++◌, length, length-append, Option, Some, None, refl, sym, ap, subst, ◌∙◌, arith}
 use Rattle.std.specs.Prelude.{slice_index}
 use Rattle.std.specs.List.{list_any}
+use Rattle.std.proofs.lemmas.Bool.{eqb-true}
 use Rattle.std.proofs.lemmas.Bool.Decides.{eqb_tells}
+use Rattle.std.proofs.lemmas.List.{append-nil, append_assoc}
 use Rattle.rp_base.specs.declared.Request.{Request}
 use Rattle.rp_base.specs.declared.Master.TheVariants.{DmaRead}
 use Rattle.rp_base.specs.declared.map.Spot.{Spot}
@@ -55,14 +56,15 @@ use Rattle.quiet_run.proofs.GoneOn.{HasBegun}
 use Rattle.quiet_run.proofs.Passing.{fewer}
 use Rattle.window_merge.specs.declared.notes.Notes.{Notes}
 use Rattle.window_merge.specs.declared.start.Start.{Start}
-use Rattle.window_merge.specs.Notes.{no_notes, noted_by, seen_of, HasRoom}
+use Rattle.window_merge.specs.Notes.{is_clean, no_notes, noted_by, seen_of, HasRoom}
 use Rattle.window_merge.specs.Start.{start_of, guess, begun_from, differs_from, ends_wanted, goes_by, goes_first, goes_on}
 use Rattle.window_merge.specs.Window.{is_port_of, clash, longest}
 use Rattle.window_merge.specs.Merging.{wants_of, marks_in}
-use Rattle.window_merge.specs.Inward.{noted_in, noted_core0, noted_inward, same_marks, GoesAsAlone, KeepsInward}
+use Rattle.window_merge.specs.Inward.{noted_in, noted_core0, noted_inward, same_marks, sees_sram, GoesAsAlone, KeepsInward}
 use Rattle.window_merge.proofs.Agree.{itself}
 use Rattle.window_merge.specs.Lanes.{is_launching}
-use Rattle.window_merge.proofs.Passing.{HasFew, few_on, First, passes_first}
+use Rattle.window_merge.proofs.Passing.{both_true, either_true, room_on, First, passes_first}
+use Rattle.window_merge.proofs.Windows.{or_true}
 use Rattle.window_merge.proofs.Starting.{HasLines, lines0, lines1, lines2, lines3, lines4, lines5, guess_is}
 
 -- ---- what is asked is answered alike
@@ -139,6 +141,10 @@ requests_none : (answer : Ask → ℕ) (s : Engine) → dma.want_of (answered an
 unfolding dma_asks.asks
 requests_none answer s e = requests_by answer (list_any waits_for_counts s.channels) s e
 
+pub reads_none : (s : State) → dma.want_of (begun s).dma.read ≡ want.Nothing → next_request s.dma.block ≡ None
+unfolding begun
+reads_none s e = requests_none (answer_of 2 s) s.dma.block e
+
 read_asks : (f g : Ask → ℕ) (counts : ℕ) (s : Engine) → next_request s ≡ None → AsksAlike f g (asks_read counts s)
 unfolding asks_read
 read_asks f g counts s e = subst (λ (next : Option Request). AsksAlike f g (asks_for counts (write_begun s) next)) (sym e) tt
@@ -203,17 +209,21 @@ alike_first s = record {
 pub goes_first_on : (s : State) → goes_on (start_of s) no_notes s ≡ goes_first s
 goes_first_on s = goes_alike (start_of s) no_notes s (alike_first s)
 
--- where core 0 alone writes, core 1 sleeps and the DMA engine reads nothing
-sees_own : (notes : Notes) (sram : List ℕ) (i : ℕ) → notes.core1 ≡ [] → notes.dma ≡ [] → seen_of 0 notes sram i ≡ slice_index sram i
-sees_own notes sram i e1 e2 = rw (e1, e2) refl
+-- where the cores that are awake see SRAM as it is, and the DMA engine reads nothing
+sees_clean : (lane : ℕ) (notes : Notes) (sram : List ℕ) (i : ℕ) → is_clean lane notes ≡ true → seen_of lane notes sram i ≡ slice_index sram i
+sees_clean lane notes sram i e = rw e refl
 
-alike_by : (notes : Notes) (s : State) → notes.core1 ≡ [] → notes.dma ≡ [] → s.core1.asleep ≡ true → next_request s.dma.block ≡ None → AreAlike (start_of s) notes s
-alike_by notes s e1 e2 asleep none =
+pub alike_by : (notes : Notes) (s : State) → sees_sram notes s ≡ true → next_request s.dma.block ≡ None → AreAlike (start_of s) notes s
+alike_by notes s sees none =
     let same : (lane : ℕ) (question : Ask) → HasLines lane s → guess lane (start_of s) (slice_index s.sram) question ≡ answer_of lane s question =
     λ lane question lines. guess_is lane s (slice_index s.sram) s.sram question lines (λ i lt. refl) in
+    let both = both_true (is_clean 0 notes) (s.core1.asleep || is_clean 1 notes) sees in
     record {
-      core0 = all_asked _ _ _ (λ q. guess_is 0 s (seen_of 0 notes s.sram) s.sram q (lines0 s) (λ i lt. sees_own notes s.sram i e1 e2));
-      core1 = asleep_asks _ _ s.core1 s.cycle asleep;
+      core0 = all_asked _ _ _ (λ q. guess_is 0 s (seen_of 0 notes s.sram) s.sram q (lines0 s) (λ i lt. sees_clean 0 notes s.sram i both.0));
+      core1 = elim (either_true s.core1.asleep (is_clean 1 notes) both.1) [
+        | inl asleep ↦ asleep_asks _ _ s.core1 s.cycle asleep
+        | inr clean ↦ all_asked _ _ _ (λ q. guess_is 1 s (seen_of 1 notes s.sram) s.sram q (lines1 s) (λ i lt. sees_clean 1 notes s.sram i clean))
+      ];
       dma = dma_asks_alike _ _ s.dma.block none (same 2 ask.Pacing (lines2 s));
       pio0 = pio_asks _ _ s.pio0.block (same 3 ask.Inputs (lines3 s));
       pio1 = pio_asks _ _ s.pio1.block (same 4 ask.Inputs (lines4 s));
@@ -259,8 +269,9 @@ goes_by_alone s p h keeps =
 
 -- ---- cycle after cycle
 
--- core 0 has gone on alone for so many cycles from the start of a window on
-pub record IsOnward (w : Setting) (s : State) (n : ℕ) : Type 0 where
+-- core 0 has gone on alone for so many cycles from a state of a window on, before which this was noted
+pub record IsOnward (w : Setting) (m : Notes) (s : State) (n : ℕ) : Type 0 where
+  pub sees : sees_sram m s ≡ true
   pub goes : GoesAlone s
   pub known : s.outer.sio ≡ pins_of s.sio
   pub blocks : AreBlocksQuiet s n
@@ -269,8 +280,8 @@ pub record IsOnward (w : Setting) (s : State) (n : ℕ) : Type 0 where
   pub keeps : KeepsInward s n
   pub limit : s.cycle + n ≤ w.limit
 
-at_onward : (w : Setting) (s : State) (n k : ℕ) → IsOnward w s n → k ≤ n → states w s k ≡ onward_after w s k
-at_onward w s n k h le =
+at_onward : (w : Setting) (m : Notes) (s : State) (n k : ℕ) → IsOnward w m s n → k ≤ n → states w s k ≡ onward_after w s k
+at_onward w m s n k h le =
     let limit = h.limit in
     (core0_goes_on_alone w s k h.goes h.known (fewer_cycles s n k h.blocks le) (fewer w (begun s).outer s.outer n k h.quiet le) (λ j lt. h.inward j (omega arith)) (omega arith)).state
 
@@ -283,6 +294,10 @@ unfolding inward_after
 lines_inward s zero = (refl, refl)
 lines_inward s (suc k) = (lines_stay _ _ _ ∙ (lines_inward s k).0, lines_stay1 _ _ _ ∙ (lines_inward s k).1)
 
+-- no frame ends, and the pads have these levels
+abbrev pub mark_with : ℕ → Mark
+mark_with pads = record { uart = None ∷ None ∷ []; pads = pads }
+
 -- what is known in one of the cycles
 record StandsOnward (w : Setting) (s : State) (k : ℕ) : Type 0 where
   start : start_of (onward_after w s k) ≡ start_of s
@@ -290,14 +305,24 @@ record StandsOnward (w : Setting) (s : State) (k : ℕ) : Type 0 where
   reads : next_request (onward_after w s k).dma.block ≡ None
   alone : IsCore0Alone (onward_after w s k) (blocks_after (suc k) s)
   wants : core.want_of (begun (onward_after w s k)).core0 ≡ core0_want (inward_after k s)
-  mark : mark w (onward_after w s k) ≡ record { uart = None ∷ None ∷ []; pads = s.outer.pads.current }
+  mark : mark w (onward_after w s k) ≡ mark_with s.outer.pads.current
 
 pub starts_by : (a b : Start) → a.lines0 ≡ b.lines0 → a.lines1 ≡ b.lines1 → a.pacing ≡ b.pacing → a.inputs ≡ b.inputs → a.pio0 ≡ b.pio0 → a.pio1 ≡ b.pio1 → a ≡ b
 starts_by a b e0 e1 e2 e3 e4 e5 = rw (← e0, ← e1, ← e2, ← e3, ← e4, ← e5) refl
 
-stands_onward : (w : Setting) (s : State) (n k : ℕ) → IsOnward w s n → k < n → StandsOnward w s k
+pub same_start : (a b : Start)
+    → ((a.lines0 == b.lines0) && ((a.lines1 == b.lines1) && ((a.pacing == b.pacing) && ((a.inputs == b.inputs) && ((a.pio0 == b.pio0) && (a.pio1 == b.pio1)))))) ≡ true → a ≡ b
+same_start a b e =
+    let p0 = both_true (a.lines0 == b.lines0) _ e in
+    let p1 = both_true (a.lines1 == b.lines1) _ p0.1 in
+    let p2 = both_true (a.pacing == b.pacing) _ p1.1 in
+    let p3 = both_true (a.inputs == b.inputs) _ p2.1 in
+    let p4 = both_true (a.pio0 == b.pio0) (a.pio1 == b.pio1) p3.1 in
+    starts_by a b (eqb-true _ _ p0.0) (eqb-true _ _ p1.0) (eqb-true _ _ p2.0) (eqb-true _ _ p3.0) (eqb-true _ _ p4.0) (eqb-true _ _ p4.1)
+
+stands_onward : (w : Setting) (m : Notes) (s : State) (n k : ℕ) → IsOnward w m s n → k < n → StandsOnward w s k
 unfolding mark inputs_of
-stands_onward w s n k h lt =
+stands_onward w m s n k h lt =
     let le : k ≤ n = omega arith in
     let t = inward_after k s in
     let p = blocks_after k s in
@@ -324,7 +349,7 @@ stands_onward w s n k h lt =
       start = starts_by (start_of u) (start_of s) (lines_on t u 0 refl here ∙ (lines_inward s k).0) (lines_on t u 1 refl here ∙ (lines_inward s k).1) (pacing_on s u on)
           (ap packed_pair inputs) (outs_on s u 0 on) (outs_on s u 1 on);
       asleep = stays.alone.asleep;
-      reads = requests_none (answer_of 2 u) u.dma.block (first_want _ _ (h.blocks.dma.wants k lt (answer_of 2 u) (pacing_on s u on)));
+      reads = reads_none u (first_want _ _ alone.wants);
       alone = alone;
       wants = ap core.want_of (begun_same p o t tells);
       mark = ap (λ (x : SeenOutputs). outer.marked w o x) seen ∙ h.quiet.mark k lt;
@@ -334,54 +359,72 @@ stands_onward w s n k h lt =
     outer_inputs_of x = inputs_of_pads x.pads x.pads.current ∷ inputs_of_pads x.pads x.pads.second ∷ []
 
 -- core 0 alone writes
-own_notes : (s : State) (k : ℕ) → ((noted_inward k s).core1 ≡ []) × ((noted_inward k s).dma ≡ [])
+own_notes : (m : Notes) (s : State) (k : ℕ) → ((noted_inward m k s).core1 ≡ m.core1) × ((noted_inward m k s).dma ≡ m.dma)
 unfolding noted_inward
-own_notes s zero = (refl, refl)
-own_notes s (suc k) = own_notes s k
+own_notes m s zero = (refl, refl)
+own_notes m s (suc k) = own_notes m s k
 
-alike_onward : (w : Setting) (s : State) (n k : ℕ) → IsOnward w s n → k < n → AreAlike (start_of s) (noted_inward k s) (onward_after w s k)
-alike_onward w s n k h lt =
-    let x = stands_onward w s n k h lt in
-    let own = own_notes s k in
-    subst (λ (start : Start). AreAlike start (noted_inward k s) (onward_after w s k)) x.start (alike_by (noted_inward k s) (onward_after w s k) own.0 own.1 x.asleep x.reads)
+sees_onward : (w : Setting) (m : Notes) (s : State) (n k : ℕ) → IsOnward w m s n → k < n → sees_sram (noted_inward m k s) (onward_after w s k) ≡ true
+sees_onward w m s n k h lt =
+    let own = own_notes m s k in
+    let sees = both_true (is_clean 0 m) (s.core1.asleep || is_clean 1 m) h.sees in
+    rw (own.0, own.1, (stands_onward w m s n k h lt).asleep) (rw sees.0 refl)
 
-begun_onward : (w : Setting) (s : State) (n k : ℕ) (notes : Notes) (now : State) → IsOnward w s n → k < n → notes ≡ noted_inward k s → now ≡ onward_after w s k
+alike_onward : (w : Setting) (m : Notes) (s : State) (n k : ℕ) → IsOnward w m s n → k < n → AreAlike (start_of s) (noted_inward m k s) (onward_after w s k)
+alike_onward w m s n k h lt =
+    let x = stands_onward w m s n k h lt in
+    subst (λ (start : Start). AreAlike start (noted_inward m k s) (onward_after w s k)) x.start (alike_by (noted_inward m k s) (onward_after w s k) (sees_onward w m s n k h lt) x.reads)
+
+begun_onward : (w : Setting) (m : Notes) (s : State) (n k : ℕ) (notes : Notes) (now : State) → IsOnward w m s n → k < n → notes ≡ noted_inward m k s → now ≡ onward_after w s k
     → wanted (begun_from (start_of s) notes now) ≡ beside (core0_want (inward_after k s))
-begun_onward w s n k notes now h lt en es =
-    let x = stands_onward w s n k h lt in
+begun_onward w m s n k notes now h lt en es =
+    let x = stands_onward w m s n k h lt in
     ap (λ (m : Notes). wanted (begun_from (start_of s) m now)) en
-    ∙ ap (λ (u : State). wanted (begun_from (start_of s) (noted_inward k s) u)) es
-    ∙ ap wanted (begun_alike (start_of s) (noted_inward k s) (onward_after w s k) (alike_onward w s n k h lt))
+    ∙ ap (λ (u : State). wanted (begun_from (start_of s) (noted_inward m k s) u)) es
+    ∙ ap wanted (begun_alike (start_of s) (noted_inward m k s) (onward_after w s k) (alike_onward w m s n k h lt))
     ∙ wanted_alone (onward_after w s k) (blocks_after (suc k) s) x.alone
     ∙ ap beside x.wants
 
-pub notes_onward : (w : Setting) (s : State) (n k : ℕ) → IsOnward w s n → k ≤ n → noted_in w s k ≡ noted_inward k s
+pub notes_onward : (w : Setting) (m : Notes) (s : State) (n k : ℕ) → IsOnward w m s n → k ≤ n → noted_in w (start_of s) m s k ≡ noted_inward m k s
 unfolding noted_in noted_inward
-notes_onward w s n zero h le = refl
-notes_onward w s n (suc k) h le =
+notes_onward w m s n zero h le = refl
+notes_onward w m s n (suc k) h le =
     let lt : k < n = omega arith in
-    let same = notes_onward w s n k h (omega arith) in
-    let here = at_onward w s n k h (omega arith) in
-    ap (λ (xs : List Wanted). noted_by xs (states w s k).sram (noted_in w s k)) (begun_onward w s n k (noted_in w s k) (states w s k) h lt same here)
-    ∙ ap (λ (u : State). noted_by (beside (core0_want (inward_after k s))) u.sram (noted_in w s k)) here
+    let same = notes_onward w m s n k h (omega arith) in
+    let here = at_onward w m s n k h (omega arith) in
+    let noted = noted_in w (start_of s) m s k in
+    ap (λ (xs : List Wanted). noted_by xs (states w s k).sram noted) (begun_onward w m s n k noted (states w s k) h lt same here)
+    ∙ ap (λ (u : State). noted_by (beside (core0_want (inward_after k s))) u.sram noted) here
     ∙ ap (noted_by (beside (core0_want (inward_after k s))) (inward_after k s).sram) same
 
-pub goes_as_alone : (w : Setting) (s : State) (n : ℕ) → IsOnward w s n → GoesAsAlone w s n
-goes_as_alone w s n h k lt =
-    let x = stands_onward w s n k h lt in
+pub goes_as_alone : (w : Setting) (m : Notes) (s : State) (n : ℕ) → IsOnward w m s n → GoesAsAlone w (start_of s) m s n
+goes_as_alone w m s n h k lt =
+    let x = stands_onward w m s n k h lt in
     let u = onward_after w s k in
-    ap (λ (m : Notes). goes_on (start_of s) m (states w s k)) (notes_onward w s n k h (omega arith))
-    ∙ ap (goes_on (start_of s) (noted_inward k s)) (at_onward w s n k h (omega arith))
-    ∙ goes_alike (start_of s) (noted_inward k s) u (alike_onward w s n k h lt)
+    ap (λ (m : Notes). goes_on (start_of s) m (states w s k)) (notes_onward w m s n k h (omega arith))
+    ∙ ap (goes_on (start_of s) (noted_inward m k s)) (at_onward w m s n k h (omega arith))
+    ∙ goes_alike (start_of s) (noted_inward m k s) u (alike_onward w m s n k h lt)
     ∙ goes_by_alone u (blocks_after (suc k) s) x.alone (ap ends_want x.wants ∙ h.keeps k lt)
 
-pub marks_onward : (w : Setting) (s : State) (n k : ℕ) → IsOnward w s n → k ≤ n → marks_in w s k ≡ same_marks k (record { uart = None ∷ None ∷ []; pads = s.outer.pads.current })
+-- cycles that leave the same mark
+pub same_mark : (w : Setting) (s : State) (m : Mark) (n k : ℕ) → ((j : ℕ) → j < n → mark w (states w s j) ≡ m) → k ≤ n → marks_in w s k ≡ same_marks k m
 unfolding marks_in same_marks
-marks_onward w s n zero h le = refl
-marks_onward w s n (suc k) h le =
-    let m : Mark = record { uart = None ∷ None ∷ []; pads = s.outer.pads.current } in
-    let one : mark w (states w s k) ≡ m = ap (mark w) (at_onward w s n k h (omega arith)) ∙ (stands_onward w s n k h (omega arith)).mark in
-    ap (λ (x : Mark). marks_in w s k ++ x ∷ []) one ∙ ap (λ (ms : List Mark). ms ++ m ∷ []) (marks_onward w s n k h (omega arith))
+same_mark w s m n zero h le = refl
+same_mark w s m n (suc k) h le =
+    ap (λ (x : Mark). marks_in w s k ++ x ∷ []) (h k (omega arith)) ∙ ap (λ (ms : List Mark). ms ++ m ∷ []) (same_mark w s m n k h (omega arith))
+
+-- with the levels of the pads, which stay
+pub marked_same : (w : Setting) (s t : State) (n pads : ℕ) (marks marks' : List Mark) → ((k : ℕ) → k < n → mark w (states w s k) ≡ mark_with s.outer.pads.current)
+    → t.outer.pads.current ≡ s.outer.pads.current → pads ≡ t.outer.pads.current → marks' ≡ marks ++ same_marks n (mark_with pads) → marks' ≡ marks ++ marks_in w s n
+marked_same w s t n pads marks marks' each stay e_pads e =
+    e ∙ ap (λ p. marks ++ same_marks n (mark_with p)) (e_pads ∙ stay)
+    ∙ ap (λ (ms : List Mark). marks ++ ms) (sym (same_mark w s (mark_with s.outer.pads.current) n n each (omega arith)))
+
+pub marked_onward : (w : Setting) (m : Notes) (s t : State) (n pads : ℕ) (marks marks' : List Mark) → IsOnward w m s n → t ≡ states w s n → pads ≡ t.outer.pads.current
+    → marks' ≡ marks ++ same_marks n (mark_with pads) → marks' ≡ marks ++ marks_in w s n
+marked_onward w m s t n pads marks marks' h e_state e_pads e =
+    marked_same w s t n pads marks marks' (λ k lt. ap (mark w) (at_onward w m s n k h (omega arith)) ∙ (stands_onward w m s n k h lt).mark)
+    (ap (λ (x : State). x.outer.pads.current) (e_state ∙ at_onward w m s n n h (omega arith)) ∙ ap (λ (b : Bank). b.current) (h.quiet.pads n (omega arith))) e_pads e
 
 -- ---- what is noted of core 0 on the way
 
@@ -398,54 +441,57 @@ keeps_on s t n h e ends k lt = elim (eqb_tells k n) [
   | inr other ↦ h k (let ne = other.1 in omega (arith, ne))
 ]
 
-pub noted_on : (s t : State) (n : ℕ) (notes notes' : Notes) → notes ≡ noted_inward n s → t ≡ inward_after n s → notes' ≡ noted_core0 (core0_want t) t.sram notes → notes' ≡ noted_inward (n + 1) s
+pub noted_on : (m : Notes) (s t : State) (n : ℕ) (notes notes' : Notes) → notes ≡ noted_inward m n s → t ≡ inward_after n s → notes' ≡ noted_core0 (core0_want t) t.sram notes → notes' ≡ noted_inward m (n + 1) s
 unfolding noted_inward
-noted_on s t n notes notes' e_notes e more =
+noted_on m s t n notes notes' e_notes e more =
     more ∙ ap (λ (m : Notes). noted_core0 (core0_want t) t.sram m) e_notes
-    ∙ ap (λ (x : State). noted_core0 (core0_want x) x.sram (noted_inward n s)) e ∙ ap (λ (k : ℕ). noted_inward k s) (sym (add-one n))
+    ∙ ap (λ (x : State). noted_core0 (core0_want x) x.sram (noted_inward m n s)) e ∙ ap (λ (k : ℕ). noted_inward m k s) (sym (add-one n))
 
-pub few_noted : (k : ℕ) (x : Want) (sram : List ℕ) (notes notes' : Notes) → HasFew k notes → notes' ≡ noted_core0 x sram notes → HasFew (k + 1) notes'
-few_noted k x sram notes notes' h e = subst (HasFew (k + 1)) (sym e) (few_on k x want.Nothing want.Nothing sram notes h)
-
-pub noted_none : (s : State) (notes : Notes) → notes ≡ no_notes → notes ≡ noted_inward 0 s
+pub noted_none : (m : Notes) (s : State) → m ≡ noted_inward m 0 s
 unfolding noted_inward
-noted_none s notes e = e
+noted_none m s = refl
 
-pub few_none : (notes : Notes) → notes ≡ no_notes → HasFew 0 notes
-few_none notes e =
-    subst (HasFew 0) (sym e) (record { originals = omega arith; core0 = omega arith; core1 = omega arith; dma = omega arith })
+pub room_fewer : (notes : Notes) (room more : ℕ) → HasRoom notes room → more ≤ room → HasRoom notes more
+room_fewer notes room more h le =
+    record { originals = omega (arith, le, h.originals); core0 = omega (arith, le, h.core0); core1 = omega (arith, le, h.core1); dma = omega (arith, le, h.dma) }
+
+pub room_noted : (x : Want) (sram : List ℕ) (notes notes' : Notes) (room more : ℕ) → HasRoom notes room → more + 3 ≤ room → notes' ≡ noted_core0 x sram notes → HasRoom notes' more
+room_noted x sram notes notes' room more h le e = subst (λ (n : Notes). HasRoom n more) (sym e) (room_on x want.Nothing want.Nothing sram notes room more h le)
 
 -- ---- the same mark again and again
 
-abbrev pub mark_with : ℕ → Mark
-mark_with pads = record { uart = None ∷ None ∷ []; pads = pads }
+-- so many are behind these
+pub record AreSame (mark : Mark) (k : ℕ) (first marks : List Mark) : Type 0 where
+  pub same : marks ≡ first ++ same_marks k mark
+  pub count : length marks ≡ length first + k
 
--- so many are there
-pub record AreSame (mark : Mark) (k : ℕ) (marks : List Mark) : Type 0 where
-  pub same : marks ≡ same_marks k mark
-  pub count : length marks ≡ k
-
-pub same_none : (mark : Mark) (marks : List Mark) → marks ≡ [] → AreSame mark 0 marks
+pub same_none : (mark : Mark) (marks : List Mark) → AreSame mark 0 marks marks
 unfolding same_marks
-same_none mark marks e = record { same = e; count = ap length e }
+same_none mark marks = record { same = sym (append-nil marks); count = omega arith }
 
-pub same_more : (mark : Mark) (k : ℕ) (marks marks' : List Mark) → AreSame mark k marks → marks' ≡ marks ++ mark ∷ [] → AreSame mark (k + 1) marks'
+pub same_more : (mark : Mark) (k : ℕ) (first marks marks' : List Mark) → AreSame mark k first marks → marks' ≡ marks ++ mark ∷ [] → AreSame mark (k + 1) first marks'
 unfolding same_marks
-same_more mark k marks marks' h e = record {
-  same = e ∙ ap (λ (ms : List Mark). ms ++ mark ∷ []) h.same ∙ ap (λ (j : ℕ). same_marks j mark) (sym (add-one k));
-  count = ap length e ∙ length-append marks (mark ∷ []) ∙ ap (λ (j : ℕ). j + 1) h.count;
+same_more mark k first marks marks' h e = record {
+  same = e ∙ ap (λ (ms : List Mark). ms ++ mark ∷ []) h.same ∙ append_assoc first (same_marks k mark) (mark ∷ [])
+      ∙ ap (λ (j : ℕ). first ++ same_marks j mark) (sym (add-one k));
+  count = let more = ap length e ∙ length-append marks (mark ∷ []) in let count = h.count in omega (arith, more, count);
 }
 
 -- ---- what the calls leave
 
-pub no_noted : (w : Setting) (s : State) (notes : Notes) → notes ≡ no_notes → notes ≡ noted_in w s 0
+pub no_noted : (w : Setting) (start : Start) (m : Notes) (s : State) → m ≡ noted_in w start m s 0
 unfolding noted_in
-no_noted w s notes e = e
+no_noted w start m s = refl
 
-pub is_onward : (w : Setting) (s : State) (seen : SeenOutputs) (most done : ℕ) → HasBegun w s seen most → done ≤ most → StaysInward s done → KeepsInward s done → IsOnward w s done
-is_onward w s seen most done h le inward keeps =
+pub none_marked : (w : Setting) (s : State) (marks : List Mark) → marks ≡ marks ++ marks_in w s 0
+unfolding marks_in
+none_marked w s marks = sym (append-nil marks)
+
+pub is_onward : (w : Setting) (m : Notes) (s : State) (seen : SeenOutputs) (most done : ℕ) → sees_sram m s ≡ true → HasBegun w s seen most → done ≤ most → StaysInward s done → KeepsInward s done → IsOnward w m s done
+is_onward w m s seen most done sees h le inward keeps =
     let limit = h.limit in
     record {
+      sees = sees;
       goes = h.goes;
       known = h.known;
       blocks = fewer_cycles s most done h.blocks le;
@@ -455,56 +501,58 @@ is_onward w s seen most done h le inward keeps =
       limit = omega arith;
     }
 
-pub marked_onward : (w : Setting) (s t : State) (n pads : ℕ) (marks : List Mark) → IsOnward w s n → t ≡ states w s n → pads ≡ t.outer.pads.current
-    → marks ≡ same_marks n (record { uart = None ∷ None ∷ []; pads = pads }) → marks ≡ marks_in w s n
-marked_onward w s t n pads marks h e_state e_pads e =
-    let same : pads ≡ s.outer.pads.current = e_pads ∙ ap (λ (x : State). x.outer.pads.current) (e_state ∙ at_onward w s n n h (omega arith)) ∙ ap (λ (b : Bank). b.current) (h.quiet.pads n (omega arith)) in
-    e ∙ ap (λ p. same_marks n (record { uart = None ∷ None ∷ []; pads = p })) same ∙ sym (marks_onward w s n n h (omega arith))
-
 -- ---- the first cycle, where it is not one of these
 
+-- at the start of a window each core sees SRAM as it is, and there is room
+pub sees_first : (s : State) (notes : Notes) → notes ≡ no_notes → sees_sram notes s ≡ true
+sees_first s notes e = rw e (or_true s.core1.asleep)
+
+pub unmarked : (w : Setting) (s : State) (n : ℕ) (marks marks' : List Mark) → marks ≡ [] → marks' ≡ marks ++ marks_in w s n → marks' ≡ marks_in w s n
+unmarked w s n marks marks' none e = e ∙ ap (λ (ms : List Mark). ms ++ marks_in w s n) none
+
 -- nothing has changed
-pub record IsBack (s i : State) (notes : Notes) (marks : List Mark) : Type 0 where
+pub record IsBack (m : Notes) (s i : State) (notes : Notes) (marks : List Mark) : Type 0 where
   pub state : i ≡ s
-  pub notes_are : notes ≡ no_notes
+  pub notes_are : notes ≡ m
   pub marks_are : marks ≡ []
 
-pub is_back : (w : Setting) (s i : State) (done : ℕ) (notes : Notes) (marks : List Mark) → (0 < done → ⊥) → i ≡ states w s done → notes ≡ noted_in w s done → marks ≡ marks_in w s done → IsBack s i notes marks
+pub is_back : (w : Setting) (m : Notes) (s i : State) (done : ℕ) (notes : Notes) (marks : List Mark) → (0 < done → ⊥) → i ≡ states w s done → notes ≡ noted_in w (start_of s) m s done → marks ≡ marks_in w s done
+    → IsBack m s i notes marks
 unfolding states noted_in marks_in
-is_back w s i zero notes marks none e_state e_notes e_marks = record { state = e_state; notes_are = e_notes; marks_are = e_marks }
-is_back w s i (suc done) notes marks none e_state e_notes e_marks = absurd (none (omega arith))
+is_back w m s i zero notes marks none e_state e_notes e_marks = record { state = e_state; notes_are = e_notes; marks_are = e_marks }
+is_back w m s i (suc done) notes marks none e_state e_notes e_marks = absurd (none (omega arith))
 
-pub room_none : (notes : Notes) → notes ≡ no_notes → HasRoom notes 3
-room_none notes e =
-    subst (λ (n : Notes). HasRoom n 3) (sym e) (record { originals = omega arith; core0 = omega arith; core1 = omega arith; dma = omega arith })
+pub room_none : (notes : Notes) (more : ℕ) → notes ≡ no_notes → more ≤ 1024 → HasRoom notes more
+room_none notes more e le =
+    subst (λ (n : Notes). HasRoom n more) (sym e) (record { originals = omega (arith, le); core0 = omega (arith, le); core1 = omega (arith, le); dma = omega (arith, le) })
 
 -- it goes
-pub record HasBegunOne (w : Setting) (s now : State) (notes : Notes) (marks : List Mark) : Type 0 where
+pub record HasBegunOne (w : Setting) (m : Notes) (s now : State) (notes : Notes) (marks : List Mark) : Type 0 where
   pub state : now ≡ states w s 1
-  pub goes : GoesAsAlone w s 1
-  pub notes_are : notes ≡ noted_in w s 1
+  pub goes : GoesAsAlone w (start_of s) m s 1
+  pub notes_are : notes ≡ noted_in w (start_of s) m s 1
   pub marks_are : marks ≡ marks_in w s 1
 
-noted_one : (w : Setting) (s : State) → noted_by (wanted (begun s)) s.sram no_notes ≡ noted_in w s 1
+noted_one : (w : Setting) (s : State) → noted_by (wanted (begun s)) s.sram no_notes ≡ noted_in w (start_of s) no_notes s 1
 unfolding noted_in states
 noted_one w s = ap (λ (b : Begun). noted_by (wanted b) s.sram no_notes) (sym (begun_alike (start_of s) no_notes s (alike_first s)))
 
-goes_one : (w : Setting) (s : State) → goes_first s ≡ true → GoesAsAlone w s 1
+goes_one : (w : Setting) (s : State) → goes_first s ≡ true → GoesAsAlone w (start_of s) no_notes s 1
 unfolding noted_in states
 goes_one w s goes zero lt = goes_first_on s ∙ goes
 goes_one w s goes (suc k) lt = absurd (omega arith)
 
-pub begun_one : (w : Setting) (s i : State) (notes : Notes) (marks : List Mark) (b : Begun) (now' : State) (notes' : Notes) (marks' : List Mark) → First s [] → is_launching s.core1 ≡ false → 0 < longest w s → goes_first s ≡ true
-    → IsBack s i notes marks → b ≡ begun s → now' ≡ next_by w b (wanted b) i → notes' ≡ noted_by (wanted b) i.sram notes → marks' ≡ marks ++ outer.marked w i.outer b.outer ∷ [] → HasBegunOne w s now' notes' marks'
-begun_one w s i notes marks b now' notes' marks' first calm lt goes back e_begun e_now e_notes e_marks =
-    let noted : notes' ≡ noted_by (wanted (begun s)) s.sram no_notes = e_notes ∙ rw (back.state, back.notes_are, e_begun) refl in
+pub begun_one : (w : Setting) (m : Notes) (s i : State) (notes : Notes) (marks : List Mark) (b : Begun) (now' : State) (notes' : Notes) (marks' : List Mark) → m ≡ no_notes → First s [] → is_launching s.core1 ≡ false → 0 < longest w s → goes_first s ≡ true
+    → IsBack m s i notes marks → b ≡ begun s → now' ≡ next_by w b (wanted b) i → notes' ≡ noted_by (wanted b) i.sram notes → marks' ≡ marks ++ outer.marked w i.outer b.outer ∷ [] → HasBegunOne w m s now' notes' marks'
+begun_one w m s i notes marks b now' notes' marks' none first calm lt goes back e_begun e_now e_notes e_marks =
+    let noted : notes' ≡ noted_by (wanted (begun s)) s.sram no_notes = e_notes ∙ rw (back.state, back.notes_are, none, e_begun) refl in
     let p = passes_first w s (start_of s) [] true now' notes' marks' first calm lt (sym goes) refl refl
     (e_now ∙ rw (back.state, e_begun) refl)
     (e_marks ∙ rw (back.marks_are, back.state, e_begun) refl)
     noted in
     record {
       state = p.stands.is_states;
-      goes = goes_one w s goes;
-      notes_are = noted ∙ noted_one w s;
+      goes = subst (λ (n : Notes). GoesAsAlone w (start_of s) n s 1) (sym none) (goes_one w s goes);
+      notes_are = noted ∙ noted_one w s ∙ ap (λ (n : Notes). noted_in w (start_of s) n s 1) (sym none);
       marks_are = p.stands.is_marks;
     }

@@ -1,7 +1,8 @@
 -- A window in one pass: in each cycle the lanes begin what their runs alone begin, and the pass ends where the window closes.
-use Rattle.std.proofs.Common.{◌≡◌, ◌≢◌, ℕ, zero, suc, ◌+◌, ◌*◌, ◌<◌, ◌≤◌, ◌==◌, ◌||◌, ◌&&◌, ◌⊎◌, Bool, true, false, not, if◌then◌else◌, inl, inr, List, [], ◌∷◌, ◌++◌, length, refl, ap, sym, ◌∙◌, subst, add-one, arith}
+use Rattle.std.proofs.Common.{◌≡◌, ◌≢◌, ℕ, zero, suc, ◌+◌, ◌-◌, ◌*◌, ◌<◌, ◌≤◌, ◌==◌, ◌||◌, ◌&&◌, ◌⊎◌, Bool, true, false, not, if◌then◌else◌, inl, inr, List, [], ◌∷◌, ◌++◌, length, refl, ap, sym, ◌∙◌, subst, add-one, arith}
 use Rattle.std.specs.Prelude.{slice_index}
-use Rattle.std.proofs.lemmas.Bool.Decides.{eqb_tells}
+use Rattle.std.proofs.lemmas.Bool.Decides.{eqb_tells, leb_tells}
+use Rattle.std.proofs.lemmas.List.{append-nil, append_assoc}
 use Rattle.lane_look.specs.Asking.{Asking, answered}
 use Rattle.lane_look.specs.declared.lane.Ask.{Ask}
 use Rattle.lane_look.specs.declared.lane.Want.{Want}
@@ -25,8 +26,9 @@ use Rattle.rp_machine.specs.declared.deed.Deed.{Deed}
 use Rattle.rp_machine.specs.declared.deed.Deed.TheVariants as deed
 use Rattle.rp_machine.specs.State.{State}
 use Rattle.rp_machine.specs.Answers.{answer_of}
-use Rattle.rp_machine.specs.Cycle.{begun, wanted, stored, next_by}
+use Rattle.rp_machine.specs.Cycle.{begun, wanted, stored, next_by, mark}
 use Rattle.rp_machine.specs.Run.{states}
+use Rattle.rp_machine.proofs.Joining.{runs_follow}
 use Rattle.window_merge.specs.Lanes.{core_lane, dma_lane, pio_lane, peripheral_lane, around, is_launching, core1_bound, runs_of}
 use Rattle.window_merge.specs.Window.{longest, ends_in, clash, window_length}
 use Rattle.rp_machine.specs.Laws.{KnowsSio}
@@ -142,7 +144,7 @@ begins_first : (w : Setting) (s : State) → Begins w s 0 s (begun s)
 unfolding begun alone
 begins_first w s = record { core0 = refl; core1 = refl; dma = refl; pio0 = refl; pio1 = refl; outer = refl }
 
-either_true : (a b : Bool) → a || b ≡ true → (a ≡ true) ⊎ (b ≡ true)
+pub either_true : (a b : Bool) → a || b ≡ true → (a ≡ true) ⊎ (b ≡ true)
 either_true true b e = inl refl
 either_true false b e = inr e
 
@@ -304,13 +306,6 @@ gone_on w s k now rests marks b d goes now' marks' t h differ calm lt e is_true 
 abbrev sram_alone : {S B : Type 0} → Meaning (Unit {0}) S B → ℕ → S → State → ℕ → List ℕ
 sram_alone m lane before s k = (alone m (around lane) tt before s.cycle s k).around.sram
 
--- at most three words for each cycle
-pub record HasFew (k : ℕ) (notes : Notes) : Type 0 where
-  pub originals : length notes.originals ≤ 3 * k
-  pub core0 : length notes.core0 ≤ 3 * k
-  pub core1 : length notes.core1 ≤ 3 * k
-  pub dma : length notes.dma ≤ 3 * k
-
 -- after k cycles
 pub record Follows (s : State) (k : ℕ) (now : State) (start : Start) (notes : Notes) : Type 0 where
   pub is_start : start ≡ start_of s
@@ -323,7 +318,7 @@ pub record Follows (s : State) (k : ℕ) (now : State) (start : Start) (notes : 
   pub clean1 : notes.core0 ≡ [] → notes.dma ≡ [] → sram_alone core_lane 1 s.core1 s k ≡ now.sram
   pub clean2 : notes.core0 ≡ [] → notes.core1 ≡ [] → sram_alone dma_lane 2 s.dma.block s k ≡ now.sram
   pub clean : notes.core0 ≡ [] → notes.core1 ≡ [] → notes.dma ≡ [] → s.sram ≡ now.sram
-  pub few : HasFew k notes
+  pub room : k ≤ 256 → HasRoom notes (3 * (256 - k))
 
 pub follows_first : (s : State) (start : Start) → start ≡ start_of s → length s.sram ≡ 67584 → Follows s 0 s start no_notes
 unfolding patched alone
@@ -338,12 +333,12 @@ follows_first s start e long = record {
   clean1 = λ e0 e2. refl;
   clean2 = λ e0 e1. refl;
   clean = λ e0 e1 e2. refl;
-  few = record { originals = omega arith; core0 = omega arith; core1 = omega arith; dma = omega arith };
+  room = λ le. record { originals = omega arith; core0 = omega arith; core1 = omega arith; dma = omega arith };
 }
 
 -- ---- what a lane sees
 
-both_true : (a b : Bool) → a && b ≡ true → (a ≡ true) × (b ≡ true)
+pub both_true : (a b : Bool) → a && b ≡ true → (a ≡ true) × (b ≡ true)
 both_true true b e = (refl, e)
 both_true false b e = absurd (cc e)
 
@@ -489,11 +484,9 @@ dma_stores before s n k state cycle rest did t at h =
     ∙ ap (sram_after (dma.want_of did.write)) (stored_sram (dma.want_of did.read) r.around ∙ read_rests (dma.want_of did.read) r.around.sram reads)
     ∙ sym (after_want (dma.want_of did.write) r.around.sram)
 
-three_more : (k m n : ℕ) → m ≤ 3 * k → n ≤ m + 3 → n ≤ 3 * (k + 1)
-three_more k m n le few = omega (arith, le, few)
-
-pub few_on : (k : ℕ) (v0 v1 v : Want) (sram : List ℕ) (notes : Notes) → HasFew k notes → HasFew (k + 1) (noted v0 v1 v sram notes)
-few_on k v0 v1 v sram notes h =
+-- a cycle notes at most three words
+pub room_on : (v0 v1 v : Want) (sram : List ℕ) (notes : Notes) (room more : ℕ) → HasRoom notes room → more + 3 ≤ room → HasRoom (noted v0 v1 v sram notes) more
+room_on v0 v1 v sram notes room more h le =
     let o0 = with_word-length (original_word sram (write_of v0)) notes.originals in
     let o1 = with_word-length (original_word sram (write_of v1)) (with_word (original_word sram (write_of v0)) notes.originals) in
     let o2 = with_word-length (original_word sram (write_of v)) (with_word (original_word sram (write_of v1)) (with_word (original_word sram (write_of v0)) notes.originals)) in
@@ -501,10 +494,10 @@ few_on k v0 v1 v sram notes h =
     let c1 = with_word-length (own_word (seen_of 1 notes sram) (write_of v1)) notes.core1 in
     let c2 = with_word-length (own_word (seen_of 2 notes sram) (write_of v)) notes.dma in
     record {
-      originals = three_more k (length notes.originals) _ h.originals (omega (arith, o0, o1, o2));
-      core0 = three_more k (length notes.core0) _ h.core0 (omega (arith, c0));
-      core1 = three_more k (length notes.core1) _ h.core1 (omega (arith, c1));
-      dma = three_more k (length notes.dma) _ h.dma (omega (arith, c2));
+      originals = omega (arith, le, h.originals, o0, o1, o2);
+      core0 = omega (arith, le, h.core0, c0);
+      core1 = omega (arith, le, h.core1, c1);
+      dma = omega (arith, le, h.dma, c2);
     }
 
 -- what the machine's SRAM is then
@@ -563,7 +556,7 @@ follows_by w s k now rests marks start notes b now' t h f calm e =
           let s1 = still notes.core1 (seen_of 1 notes now.sram) d1 e1 in
           let s2 = still notes.dma (seen_of 2 notes now.sram) d e2 in
           f.clean s0.before s1.before s2.before ∙ sym (left ∙ s2.same (stored d1 (stored d0 now.sram)) ∙ s1.same (stored d0 now.sram) ∙ s0.same now.sram);
-      few = few_on k v0 v1 v now.sram notes f.few;
+      room = λ le. room_on v0 v1 v now.sram notes (3 * (256 - k)) (3 * (256 - (k + 1))) (f.room (omega (arith, le))) (omega (arith, le));
     }
 
 noted_all : (b : Begun) (sram : List ℕ) (notes : Notes) → noted_by (wanted b) sram notes ≡ noted (core.want_of b.core0) (core.want_of b.core1) (dma.want_of b.dma.write) sram notes
@@ -649,29 +642,92 @@ passes_later w s k now start notes marks goes now' notes' marks' p calm lt e_goe
       follows = subst (λ (x : Notes). Follows s (k + 1) now' start x) (sym (e ∙ noted_all b now.sram notes)) f;
     }
 
--- as far as each cycle goes as the lanes go alone
-passes_on : (w : Setting) (s : State) (k : ℕ) (now : State) (notes : Notes) (marks : List Mark) → Passes w s k now (start_of s) notes marks → is_launching s.core1 ≡ false → k < longest w s
-    → goes_on (start_of s) notes now ≡ true → now ≡ states w s k → notes ≡ noted_in w s k
-    → Passes w s (suc k) (states w s (suc k)) (start_of s) (noted_in w s (suc k)) (marks_in w s (suc k))
-unfolding noted_in
-passes_on w s k now notes marks p calm lt goes e_now e_notes =
-    let b = begun_from (start_of s) notes now in
-    let q = passes_later w s k now (start_of s) notes marks true (next_by w b (wanted b) now) (noted_by (wanted b) now.sram notes) (marks ++ outer.marked w now.outer b.outer ∷ []) p calm lt (sym goes) refl refl refl refl in
-    let one : k + 1 ≡ suc k = omega arith in
-    let noted : noted_by (wanted b) now.sram notes ≡ noted_in w s (suc k) =
-    ap (λ (x : State). noted_by (wanted (begun_from (start_of s) notes x)) x.sram notes) e_now
-    ∙ ap (λ (n : Notes). noted_by (wanted (begun_from (start_of s) n (states w s k))) (states w s k).sram n) e_notes in
-    subst (λ (j : ℕ). Passes w s j (states w s j) (start_of s) (noted_in w s (suc k)) (marks_in w s j)) one
-    (subst (λ (n : Notes). Passes w s (k + 1) (states w s (k + 1)) (start_of s) n (marks_in w s (k + 1))) noted
-    (subst (λ (ms : List Mark). Passes w s (k + 1) (states w s (k + 1)) (start_of s) (noted_by (wanted b) now.sram notes) ms) q.stands.is_marks
-    (subst (λ (x : State). Passes w s (k + 1) x (start_of s) (noted_by (wanted b) now.sram notes) (marks ++ outer.marked w now.outer b.outer ∷ [])) q.stands.is_states q)))
+-- at the window's start
+pub passes_none : (w : Setting) (s : State) → First s [] → Passes w s 0 s (start_of s) no_notes []
+passes_none w s h = record { rests = whole_talks w s; stands = stands_here w s [] h; follows = follows_first s (start_of s) refl h.long }
 
-pub passes_through : (w : Setting) (s : State) (n k : ℕ) → First s [] → is_launching s.core1 ≡ false → n ≤ longest w s → GoesAsAlone w s n → k ≤ n
-    → Passes w s k (states w s k) (start_of s) (noted_in w s k) (marks_in w s k)
+-- where so many cycles go on from here
+pub record Along (w : Setting) (s : State) (k : ℕ) (now : State) (start : Start) (notes : Notes) (marks : List Mark) (n : ℕ) : Type 0 where
+  pub passes : Passes w s k now start notes marks
+  pub calm : is_launching s.core1 ≡ false
+  pub within : k + n ≤ longest w s
+  pub goes : GoesAsAlone w start notes now n
+
+passes_at : (w : Setting) (s : State) (k k' : ℕ) (now now' : State) (start : Start) (notes : Notes) (marks marks' : List Mark) → Passes w s k now start notes marks → k ≡ k' → now ≡ now' → marks ≡ marks'
+    → Passes w s k' now' start notes marks'
+passes_at w s k k' now now' start notes marks marks' p e_k e_now e_marks =
+    subst (λ (j : ℕ). Passes w s j now' start notes marks') e_k
+    (subst (λ (x : State). Passes w s k x start notes marks') e_now (subst (λ (ms : List Mark). Passes w s k now start notes ms) e_marks p))
+
+states_follow : (w : Setting) (s now : State) (k n : ℕ) → now ≡ states w s k → states w s (k + n) ≡ states w now n
+states_follow w s now k n e = (runs_follow w s k n).state ∙ ap (λ (x : State). states w x n) (sym e)
+
+marks_follow : (w : Setting) (s now : State) (k n : ℕ) (marks : List Mark) → now ≡ states w s k → marks ≡ marks_in w s k → marks_in w s (k + n) ≡ marks ++ marks_in w now n
+unfolding marks_in
+marks_follow w s now k zero marks e e_marks = let none : k + 0 ≡ k = omega arith in ap (marks_in w s) none ∙ sym e_marks ∙ sym (append-nil marks)
+marks_follow w s now k (suc n) marks e e_marks =
+    let more : k + suc n ≡ suc (k + n) = omega arith in
+    ap (marks_in w s) more
+    ∙ ap (λ (ms : List Mark). ms ++ mark w (states w s (k + n)) ∷ []) (marks_follow w s now k n marks e e_marks)
+    ∙ ap (λ (x : State). (marks ++ marks_in w now n) ++ mark w x ∷ []) (states_follow w s now k n e)
+    ∙ append_assoc marks (marks_in w now n) (mark w (states w now n) ∷ [])
+
+-- as far as each of them goes as the lanes go alone
+pub passes_along : (w : Setting) (s : State) (k : ℕ) (now : State) (start : Start) (notes : Notes) (marks : List Mark) (n j : ℕ) → Along w s k now start notes marks n → j ≤ n
+    → Passes w s (k + j) (states w now j) start (noted_in w start notes now j) (marks ++ marks_in w now j)
 unfolding states noted_in marks_in
-passes_through w s n zero h calm fits goes le = record { rests = whole_talks w s; stands = stands_here w s [] h; follows = follows_first s (start_of s) refl h.long }
-passes_through w s n (suc k) h calm fits goes le =
-    passes_on w s k (states w s k) (noted_in w s k) (marks_in w s k) (passes_through w s n k h calm fits goes (omega arith)) calm (omega arith) (goes k (omega arith)) refl refl
+passes_along w s k now start notes marks n zero h le = let none : k ≡ k + 0 = omega arith in passes_at w s k (k + 0) now now start notes marks _ h.passes none refl (sym (append-nil marks))
+passes_along w s k now start notes marks n (suc j) h le =
+    let p = passes_along w s k now start notes marks n j h (omega arith) in
+    let here = states w now j in
+    let before = noted_in w start notes now j in
+    let b = begun_from start before here in
+    let within = h.within in
+    let q = passes_later w s (k + j) here start before (marks ++ marks_in w now j) true (next_by w b (wanted b) here) (noted_by (wanted b) here.sram before) ((marks ++ marks_in w now j) ++ outer.marked w here.outer b.outer ∷ []) p h.calm
+    (omega (arith, le, within)) (sym (h.goes j (omega arith))) refl refl refl refl in
+    let more : k + j + 1 ≡ k + suc j = omega arith in
+    let e = h.passes.stands.is_states in
+    passes_at w s (k + j + 1) (k + suc j) _ (states w now (suc j)) start (noted_by (wanted b) here.sram before) _ (marks ++ marks_in w now (suc j)) q more
+    (q.stands.is_states ∙ ap (states w s) more ∙ states_follow w s now k (suc j) e)
+    (q.stands.is_marks ∙ ap (marks_in w s) more ∙ marks_follow w s now k (suc j) marks e h.passes.stands.is_marks)
+
+pub along_by : (w : Setting) (s : State) (k : ℕ) (now : State) (start start' : Start) (notes : Notes) (marks : List Mark) (n : ℕ) (now' : State) (notes' : Notes) (marks' : List Mark) → Along w s k now start notes marks n → start' ≡ start
+    → now' ≡ states w now n → notes' ≡ noted_in w start notes now n → marks' ≡ marks ++ marks_in w now n → Passes w s (k + n) now' start' notes' marks'
+along_by w s k now start start' notes marks n now' notes' marks' h e_start e_now e_notes e_marks =
+    rw (e_start, e_now, e_notes, e_marks) (passes_along w s k now start notes marks n n h (omega arith))
+
+-- what is left of a window ends at the limit at the latest
+longest_fits : (w : Setting) (s : State) → longest w s ≤ w.limit - s.cycle
+longest_fits w s = elim (leb_tells (w.limit - s.cycle) 256) [
+  | inl h ↦ rw h.0 (omega arith)
+  | inr h ↦ let more = h.1 in rw h.0 (omega (arith, more))
+]
+
+pub within_limit : (w : Setting) (s : State) (cycle k left : ℕ) → s.cycle ≤ w.limit → cycle ≡ s.cycle + k → k + left ≤ longest w s → cycle + left ≤ w.limit
+within_limit w s cycle k left limit at le = let fits = longest_fits w s in omega (arith, fits, limit, at, le)
+
+-- behind cycles that were gone over at once, some or none
+pub along_more : (w : Setting) (s : State) (k : ℕ) (now : State) (start : Start) (notes : Notes) (marks : List Mark) (most more : ℕ) (now' : State) (notes' : Notes) (marks' : List Mark) → Passes w s k now start notes marks
+    → is_launching s.core1 ≡ false → most ≡ longest w s → k < most → more ≤ most - k → GoesAsAlone w start notes now more → now' ≡ states w now more → notes' ≡ noted_in w start notes now more → marks' ≡ marks ++ marks_in w now more
+    → Passes w s (k + more) now' start notes' marks'
+along_more w s k now start notes marks most more now' notes' marks' p calm e_most lt le goes e_now e_notes e_marks =
+    along_by w s k now start start notes marks more now' notes' marks' (record { passes = p; calm = calm; within = omega (arith, e_most, lt, le); goes = goes }) refl e_now e_notes e_marks
+
+pub along_none : (w : Setting) (s : State) (k : ℕ) (now : State) (start : Start) (notes : Notes) (marks : List Mark) (most more : ℕ) (now' : State) (notes' : Notes) (marks' : List Mark) → more ≡ 0 → Passes w s k now start notes marks
+    → is_launching s.core1 ≡ false → most ≡ longest w s → k < most → more ≤ most - k → GoesAsAlone w start notes now more → now' ≡ states w now more → notes' ≡ noted_in w start notes now more → marks' ≡ marks ++ marks_in w now more
+    → Passes w s k now' start notes' marks'
+along_none w s k now start notes marks most more now' notes' marks' none p calm e_most lt le goes e_now e_notes e_marks =
+    let all : k + more ≡ k = omega (arith, none) in
+    subst (λ (j : ℕ). Passes w s j now' start notes' marks') all (along_more w s k now start notes marks most more now' notes' marks' p calm e_most lt le goes e_now e_notes e_marks)
+
+-- from the window's start
+pub along_first : (w : Setting) (s : State) (start : Start) (none : Notes) (n : ℕ) (now : State) (notes : Notes) (marks : List Mark) → First s [] → is_launching s.core1 ≡ false → n ≤ longest w s → start ≡ start_of s → none ≡ no_notes
+    → GoesAsAlone w (start_of s) none s n → now ≡ states w s n → notes ≡ noted_in w (start_of s) none s n → marks ≡ marks_in w s n → Passes w s n now start notes marks
+along_first w s start none n now notes marks first calm le e_start e_none goes e_now e_notes e_marks =
+    let begins : Passes w s 0 s (start_of s) none [] = subst (λ (m : Notes). Passes w s 0 s (start_of s) m []) (sym e_none) (passes_none w s first) in
+    let all : 0 + n ≡ n = omega arith in
+    subst (λ (k : ℕ). Passes w s k now start notes marks) all
+    (along_by w s 0 s (start_of s) start none [] n now notes marks (record { passes = begins; calm = calm; within = omega (arith, le); goes = goes }) e_start e_now e_notes e_marks)
 
 pub closed_later : (w : Setting) (s : State) (k : ℕ) (now : State) (start : Start) (notes : Notes) (marks : List Mark) (goes : Bool)
     → Passes w s k now start notes marks → is_launching s.core1 ≡ false → k < longest w s
@@ -683,11 +739,16 @@ closed_later w s k now start notes marks goes p calm lt e_goes is_false =
 pub closed_full : (w : Setting) (s : State) (k : ℕ) (now : State) (start : Start) (notes : Notes) (marks : List Mark) → Passes w s k now start notes marks → k ≡ longest w s → k ≡ window_length w s
 closed_full w s k now start notes marks p e = ends_full w s (whole w s) k now p.rests marks p.stands e
 
--- there is room for the notes of one more cycle
-pub has_room : (s : State) (k : ℕ) (now : State) (start : Start) (notes : Notes) → Follows s k now start notes → k < 256 → HasRoom notes 3
-has_room s k now start notes f lt =
-    let h = f.few in
-    record { originals = omega (arith, h.originals, lt); core0 = omega (arith, h.core0, lt); core1 = omega (arith, h.core1, lt); dma = omega (arith, h.dma, lt) }
+-- there is room for the notes of so many more cycles
+pub has_room : (s : State) (k : ℕ) (now : State) (start : Start) (notes : Notes) (n more : ℕ) → Follows s k now start notes → k + n ≤ 256 → more ≤ 3 * n → HasRoom notes more
+has_room s k now start notes n more f le few =
+    let h = f.room (omega (arith, le)) in
+    record {
+      originals = omega (arith, h.originals, le, few);
+      core0 = omega (arith, h.core0, le, few);
+      core1 = omega (arith, h.core1, le, few);
+      dma = omega (arith, h.dma, le, few);
+    }
 
 -- before the first cycle
 pub no_states : (w : Setting) (s : State) → s ≡ states w s 0

@@ -490,7 +490,7 @@ tries_at w s runs k now rests marks ended h t below e is_false =
 
 -- ---- at the length of each run alone a run ends
 
-or_true : (b : Bool) → (b || true) ≡ true
+pub or_true : (b : Bool) → (b || true) ≡ true
 or_true true = refl
 or_true false = refl
 

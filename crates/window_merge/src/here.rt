@@ -6,25 +6,28 @@ ghost use Rattle.bus_fabric.specs.State.{has_hold};
 ghost use Rattle.rp_machine.specs.Cycle.{begun};
 ghost use Rattle.rp_machine.specs.Run.{states};
 ghost use Rattle.window_merge.specs.Lanes.{is_launching};
-ghost use Rattle.window_merge.specs.Start.{goes_first};
+ghost use Rattle.window_merge.specs.Notes.{no_notes};
+ghost use Rattle.window_merge.specs.Start.{start_of, goes_first};
 ghost use Rattle.window_merge.specs.Inward.{noted_in, GoesAsAlone};
 ghost use Rattle.window_merge.specs.Window.{longest, window_length};
 ghost use Rattle.window_merge.specs.Merging.{marks_in};
 
-use crate::inward::go_inward;
+use crate::inward::{go_inward, go_inward_later};
 use crate::merge::{fact_copies_are_known, longest};
 use crate::notes::Notes;
 use crate::pass::{goes_by, is_launching, step_noted, try_later};
 use crate::start::Start;
 use lane_look::{Device, Marks};
 use outer_lane::World;
+use quiet_run::Pace;
 use rp_machine::begun::Begun;
 use rp_machine::wanted::all_wanted;
 use rp_machine::{Machine, Steps};
 use std::sync::ledger::Ledger;
 
 /// Begins a window of at most so many cycles, the first of which goes: it goes over them as long as nobody has anything to do, or core 0
-/// alone is at work in SRAM beside lanes that are quiet, and else does one. Gives how many it has gone over. `lanes` has what the lanes begin in the first one.
+/// alone is at work in SRAM beside lanes that are quiet, and else does one. Gives how many it has gone over. `lanes` has what the lanes
+/// begin in the first one.
 #[inline(never)]
 fn begin<X: Device, L: Ledger>(
     machine: &mut Machine,
@@ -39,6 +42,7 @@ fn begin<X: Device, L: Ledger>(
     requires most { most ≡ longest (setting X.meaning world.now) machine.old }
     requires limit { machine.old.cycle ≤ world.now.limit }
     requires number { machine.old.cycle + most < 2 ^ 64 }
+    requires none { notes.old ≡ no_notes }
     requires marks { marks.old ≡ [] }
     requires free { has_hold machine.old.fabric ≡ false }
     requires launching { is_launching machine.old.core1 ≡ false }
@@ -47,13 +51,14 @@ fn begin<X: Device, L: Ledger>(
     ensures some { 0 < result }
     ensures most { result ≤ most }
     ensures state { machine.new ≡ states (setting X.meaning world.now) machine.old result }
-    ensures goes { GoesAsAlone (setting X.meaning world.now) machine.old result }
-    ensures notes { notes.new ≡ noted_in (setting X.meaning world.now) machine.old result }
+    ensures goes { GoesAsAlone (setting X.meaning world.now) (start_of machine.old) notes.old
+        machine.old result }
+    ensures notes { notes.new ≡ noted_in (setting X.meaning world.now) (start_of machine.old)
+        notes.old machine.old result }
     ensures marks { marks.new ≡ marks_in (setting X.meaning world.now) machine.old result }
     ensures steps { steps.new ≡ steps.old + result }
 {
     fact_copies_are_known(machine);
-    notes.clear();
     let done = go_inward(machine, world, notes, most, marks, steps);
     if done > 0 {
         return done;
@@ -93,12 +98,22 @@ fn go<X: Device, L: Ledger>(
 {
     fact_copies_are_known(machine);
     let start = Start::of(machine);
-    let done = begin(machine, world, notes, lanes, most, marks, steps);
-    for k in done..most {
+    let mut pace = Pace::default();
+    notes.clear();
+    let mut k = begin(machine, world, notes, lanes, most, marks, steps);
+    pace.note(machine.number(), 0);
+    'cycles: while k < most {
+        let left = most - k;
+        let more = go_inward_later(machine, world, &start, notes, &mut pace, left, marks, steps);
+        if more > 0 {
+            k += more;
+            continue 'cycles;
+        }
         if !try_later(machine, world, &start, notes, lanes, marks) {
             return k;
         }
         steps.tick();
+        k += 1;
     }
     machine.begin_into(world, lanes);
     most

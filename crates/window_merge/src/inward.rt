@@ -1,22 +1,24 @@
-//! The first cycles of a window, as long as core 0 alone is at work in SRAM beside lanes that are quiet, which lie behind and are brought
-//! up once, or nobody has anything to do.
+//! Cycles of a window as long as core 0 alone is at work in SRAM beside lanes that are quiet, which lie behind and are brought up once, or
+//! nobody has anything to do.
 
-ghost use Rattle.std.specs.Prelude.{◌≡◌, ◌+◌, ◌-◌, ◌^◌, ◌<◌, ◌≤◌, ◌∷◌, [], None, false, true};
+ghost use Rattle.std.specs.Prelude.{◌≡◌, ◌+◌, ◌-◌, ◌*◌, ◌^◌, ◌<◌, ◌≤◌, ◌∷◌, ◌++◌, [], None, false, true, length};
 ghost use Rattle.lane_look.specs.Alone.{ends_want};
 ghost use Rattle.outer_lane.specs.Setting.{setting};
 ghost use Rattle.rp_machine.specs.Answers.{lines_of};
 ghost use Rattle.rp_machine.specs.Inward.{core0_want, goes_inward, inward_cycle, inward_after, StaysInward};
 ghost use Rattle.rp_machine.specs.Run.{states};
-ghost use Rattle.window_merge.specs.Inward.{noted_in, noted_core0, noted_inward, same_marks, GoesAsAlone, KeepsInward};
+ghost use Rattle.window_merge.specs.Inward.{noted_in, noted_core0, noted_inward, same_marks, sees_sram, GoesAsAlone, KeepsInward};
 ghost use Rattle.window_merge.specs.Merging.{marks_in};
-ghost use Rattle.window_merge.specs.Notes.{no_notes, HasRoom};
+ghost use Rattle.window_merge.specs.Notes.{HasRoom};
+ghost use Rattle.window_merge.specs.Start.{start_of};
 
 use crate::notes::Notes;
+use crate::start::Start;
 use crate::walk::ends_want;
 use lane_look::{Device, Lane, Mark, Marks};
 use m0_core::{Core, Doing};
 use outer_lane::World;
-use quiet_run::{bring_up, pass_waiting};
+use quiet_run::{Pace, bring_up, pass_waiting};
 use rp_machine::{Machine, Steps, fact_limit_is_bounded};
 use std::sync::ledger::Ledger;
 
@@ -68,13 +70,12 @@ fn note_onward<L: Ledger>(
     steps: &mut Steps<L>,
 ) -> u64
     requires number { machine.old.cycle + most < 2 ^ 64 }
-    requires few { most ≤ 256 }
-    requires notes { notes.old ≡ no_notes }
+    requires room { HasRoom notes.old (3 * most) }
     ensures most { result ≤ most }
     ensures state { machine.new ≡ inward_after result machine.old }
     ensures inward { StaysInward machine.old result }
     ensures keeps { KeepsInward machine.old result }
-    ensures notes { notes.new ≡ noted_inward result machine.old }
+    ensures notes { notes.new ≡ noted_inward notes.old result machine.old }
     ensures marks { marks.new ≡ marks.old }
     ensures steps { steps.new ≡ steps.old + result }
 {
@@ -93,9 +94,9 @@ fn note_onward<L: Ledger>(
 
 /// Marks so many cycles in which no frame ends and the pads have these levels.
 fn mark_each(marks: &mut Marks, pads: u32, n: u64)
-    requires none { marks.old ≡ [] }
-    requires few { n ≤ 256 }
-    ensures { marks.new ≡ same_marks n (record { uart = None ∷ None ∷ []; pads = pads }) }
+    requires { length marks.old + n ≤ 256 }
+    ensures { marks.new ≡ marks.old ++ same_marks n
+        (record { uart = None ∷ None ∷ []; pads = pads }) }
 {
     let mark = Mark {
         uart: [None, None],
@@ -106,23 +107,27 @@ fn mark_each(marks: &mut Marks, pads: u32, n: u64)
     }
 }
 
-/// Moves the machine over the first cycles of a window of at most so many, as long as nobody has anything to do. How many they were.
+/// Moves the machine over at most so many cycles of a window, as long as nobody has anything to do. How many they were.
 #[inline(never)]
 fn go_waiting<X: Device, L: Ledger>(
     machine: &mut Machine,
     world: &World<'_, X>,
+    notes: &Notes,
     most: u16,
     marks: &mut Marks,
     steps: &mut Steps<L>,
 ) -> u16
     requires number { machine.old.cycle + most ≤ world.now.limit }
-    requires few { most ≤ 256 }
-    requires marks { marks.old ≡ [] }
+    requires few { length marks.old + most ≤ 256 }
+    requires sees { sees_sram notes.now machine.old ≡ true }
     ensures most { result ≤ most }
     ensures state { machine.new ≡ states (setting X.meaning world.now) machine.old result }
-    ensures goes { GoesAsAlone (setting X.meaning world.now) machine.old result }
-    ensures notes { noted_in (setting X.meaning world.now) machine.old result ≡ no_notes }
-    ensures marks { marks.new ≡ marks_in (setting X.meaning world.now) machine.old result }
+    ensures goes { GoesAsAlone (setting X.meaning world.now) (start_of machine.old) notes.now
+        machine.old result }
+    ensures notes { noted_in (setting X.meaning world.now) (start_of machine.old) notes.now
+        machine.old result ≡ notes.now }
+    ensures marks { marks.new ≡ marks.old ++ marks_in (setting X.meaning world.now) machine.old
+        result }
     ensures steps { steps.new ≡ steps.old + result }
 {
     fact_limit_is_bounded(world);
@@ -132,8 +137,8 @@ fn go_waiting<X: Device, L: Ledger>(
     done as u16
 }
 
-/// Moves the machine over the first cycles of a window of at most so many, as long as core 0 alone is at work in SRAM beside lanes that are
-/// quiet, or nobody has anything to do. How many they were.
+/// Moves the machine over at most so many cycles of a window, as long as core 0 alone is at work in SRAM beside lanes that are quiet, or
+/// nobody has anything to do. How many they were.
 #[inline(never)]
 pub(crate) fn go_inward<X: Device, L: Ledger>(
     machine: &mut Machine,
@@ -144,19 +149,22 @@ pub(crate) fn go_inward<X: Device, L: Ledger>(
     steps: &mut Steps<L>,
 ) -> u16
     requires number { machine.old.cycle + most ≤ world.now.limit }
-    requires few { most ≤ 256 }
-    requires notes { notes.old ≡ no_notes }
-    requires marks { marks.old ≡ [] }
+    requires few { length marks.old + most ≤ 256 }
+    requires room { HasRoom notes.old (3 * most) }
+    requires sees { sees_sram notes.old machine.old ≡ true }
     ensures most { result ≤ most }
     ensures state { machine.new ≡ states (setting X.meaning world.now) machine.old result }
-    ensures goes { GoesAsAlone (setting X.meaning world.now) machine.old result }
-    ensures notes { notes.new ≡ noted_in (setting X.meaning world.now) machine.old result }
-    ensures marks { marks.new ≡ marks_in (setting X.meaning world.now) machine.old result }
+    ensures goes { GoesAsAlone (setting X.meaning world.now) (start_of machine.old) notes.old
+        machine.old result }
+    ensures notes { notes.new ≡ noted_in (setting X.meaning world.now) (start_of machine.old)
+        notes.old machine.old result }
+    ensures marks { marks.new ≡ marks.old ++ marks_in (setting X.meaning world.now) machine.old
+        result }
     ensures steps { steps.new ≡ steps.old + result }
 {
     fact_limit_is_bounded(world);
     if machine.core0.is_waiting() {
-        return go_waiting(machine, world, most, marks, steps);
+        return go_waiting(machine, world, notes, most, marks, steps);
     }
     if !machine.core1.is_asleep() || machine.sio.offers() {
         return 0;
@@ -173,4 +181,75 @@ pub(crate) fn go_inward<X: Device, L: Ledger>(
     bring_up(machine, world, &seen, done);
     mark_each(marks, machine.pads(), done);
     done as u16
+}
+
+/// The cores that are awake see SRAM as it is: no other lane wrote.
+#[inline(always)]
+fn sees_sram(machine: &Machine, notes: &Notes) -> bool
+    ensures { result ≡ sees_sram notes.now machine.now }
+{
+    notes.is_clean(0) && (machine.core1.is_asleep() || notes.is_clean(1))
+}
+
+/// The same behind some cycles of a window, where each answer is still that of the window's start.
+fn go_where_same<X: Device, L: Ledger>(
+    machine: &mut Machine,
+    world: &World<'_, X>,
+    start: &Start,
+    notes: &mut Notes,
+    most: u16,
+    marks: &mut Marks,
+    steps: &mut Steps<L>,
+) -> u16
+    requires number { machine.old.cycle + most ≤ world.now.limit }
+    requires few { length marks.old + most ≤ 256 }
+    requires room { HasRoom notes.old (3 * most) }
+    ensures most { result ≤ most }
+    ensures state { machine.new ≡ states (setting X.meaning world.now) machine.old result }
+    ensures goes { GoesAsAlone (setting X.meaning world.now) start.now notes.old machine.old
+        result }
+    ensures notes { notes.new ≡ noted_in (setting X.meaning world.now) start.now notes.old
+        machine.old result }
+    ensures marks { marks.new ≡ marks.old ++ marks_in (setting X.meaning world.now) machine.old
+        result }
+    ensures steps { steps.new ≡ steps.old + result }
+{
+    if machine.quiet_blocks() == 0 || !sees_sram(machine, notes) || !start.is_of(machine) {
+        return 0;
+    }
+    go_inward(machine, world, notes, most, marks, steps)
+}
+
+/// The same, where a try is due.
+#[inline(always)]
+pub(crate) fn go_inward_later<X: Device, L: Ledger>(
+    machine: &mut Machine,
+    world: &World<'_, X>,
+    start: &Start,
+    notes: &mut Notes,
+    pace: &mut Pace,
+    most: u16,
+    marks: &mut Marks,
+    steps: &mut Steps<L>,
+) -> u16
+    requires number { machine.old.cycle + most ≤ world.now.limit }
+    requires few { length marks.old + most ≤ 256 }
+    requires room { HasRoom notes.old (3 * most) }
+    ensures most { result ≤ most }
+    ensures state { machine.new ≡ states (setting X.meaning world.now) machine.old result }
+    ensures goes { GoesAsAlone (setting X.meaning world.now) start.now notes.old machine.old
+        result }
+    ensures notes { notes.new ≡ noted_in (setting X.meaning world.now) start.now notes.old
+        machine.old result }
+    ensures marks { marks.new ≡ marks.old ++ marks_in (setting X.meaning world.now) machine.old
+        result }
+    ensures steps { steps.new ≡ steps.old + result }
+{
+    if !pace.is_due(machine) {
+        return 0;
+    }
+    let at = machine.number();
+    let done = go_where_same(machine, world, start, notes, most, marks, steps);
+    pace.note(at, u64::from(done));
+    done
 }

@@ -22,7 +22,7 @@ use rp_machine::Machine;
 use rp_machine::begun::Begun;
 
 /// What the state at the start of a window answers, but for words of SRAM.
-#[derive(Clone, Copy)]
+#[derive(Clone, Copy, PartialEq, Eq)]
 pub(crate) struct Start {
     /// The interrupt lines of core 0.
     lines0: u128,
@@ -39,7 +39,7 @@ pub(crate) struct Start {
 }
 
 impl Start {
-    ghost use Rattle.std.specs.Prelude.{◌≡◌};
+    ghost use Rattle.std.specs.Prelude.{◌≡◌, true};
     ghost use Rattle.window_merge.specs.Start.{start_of};
 
     /// What a machine answers now.
@@ -55,6 +55,13 @@ impl Start {
             pio0: machine.answer(5, Ask::Outs(0)),
             pio1: machine.answer(5, Ask::Outs(1)),
         }
+    }
+
+    /// A machine answers the same now.
+    pub(crate) fn is_of(&self, machine: &Machine) -> bool
+        ensures { result ≡ true → self.now ≡ start_of machine.now }
+    {
+        *self == Start::of(machine)
     }
 }
 
