@@ -81,7 +81,8 @@ fn hear_line<X: Device, O: Sink, L: Ledger>(
     answer(session, world, without_return(given), writer, steps)
 }
 
-/// Answers the open line at the end of an input, of which the first bytes are given, unless it is empty. What it answers at Ok tells nothing.
+/// Answers the open line at the end of an input, of which the first bytes are given, unless it is empty. What it answers
+/// at Ok tells nothing.
 fn hear_end<X: Device, O: Sink, L: Ledger>(
     session: &mut Session,
     world: &World<'_, X>,
