@@ -1,9 +1,9 @@
 //! The two blocks that are devices, as a pair, by their addresses: the registers that start-up code waits for, and a slice of PWM.
 
-use crate::deeds::{Bench, first_wrong};
 use lane_look::{Device, Pair, Wires};
 use pwm_block::Pwm;
 use startup_blocks::Startup;
+use test_deeds::{Bench, first_wrong};
 
 /// The devices, and their words.
 #[derive(Drop)]

@@ -1,10 +1,10 @@
 //! Copies worked by hand over a small memory: cycle by cycle, what the engine reads and what it writes.
 
-use crate::deeds::{Bench, byte, first_wrong, half};
 use dma_engine::{BegunTransfer, Dma};
 use lane_look::{Ask, Lane, Look, Marks, Turn, Want};
 use rp_base::map::{Spot, place, port};
 use rp_base::{Master, Request, Reset, Size, Why};
+use test_deeds::{Bench, byte, first_wrong, half};
 
 /// The first 128 words of SRAM, and the counts by which channels are paced.
 #[derive(Drop)]

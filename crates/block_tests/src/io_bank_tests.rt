@@ -1,7 +1,7 @@
 //! Words as the datasheet gives them (2.19.6), and a run of the pads.
 
-use crate::deeds::{Bench, byte, first_wrong, half};
 use io_bank::{IoBank, Outs, uart_outputs};
+use test_deeds::{Bench, byte, first_wrong, half};
 
 /// The pads with what their cycles are given.
 #[derive(Drop)]

@@ -3,8 +3,6 @@
 
 pub mod counter;
 #[cfg(test)]
-mod deeds;
-#[cfg(test)]
 mod device_tests;
 #[cfg(test)]
 mod dma_engine_tests;

@@ -2,10 +2,10 @@
 
 ghost use Rattle.std.specs.Prelude.{◌≡◌, ◌+◌, ◌*◌, ◌^◌};
 
-use crate::deeds::{Bench, byte, first_wrong, half};
 use lane_look::{Ask, Lane, Look, Marks, Turn};
 use pio_block::PioBlock;
 use rp_base::Reset;
+use test_deeds::{Bench, byte, first_wrong, half};
 
 /// The second word of the inputs, and how often they were asked for.
 #[derive(Drop)]

@@ -2,9 +2,9 @@
 
 ghost use Rattle.std.specs.Prelude.{◌<◌};
 
-use crate::deeds::{Bench, byte, first_wrong, half};
 use pio_machine::settings::Settings;
 use pio_machine::{Done, Machine1, Memory, Seen, Waiting};
+use test_deeds::{Bench, byte, first_wrong, half};
 
 /// A cycle of the machine of that number.
 fn tick(machine: &mut Machine1, number: u8, seen: &Seen, done: &mut Done)

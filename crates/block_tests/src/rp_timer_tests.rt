@@ -1,7 +1,7 @@
 //! Words as the datasheet gives them (4.6.5), and the latch, two alarms and the pause over a few microseconds.
 
-use crate::deeds::{Bench, first_wrong, half};
 use rp_timer::Timer;
+use test_deeds::{Bench, first_wrong, half};
 
 /// A timer, and its next cycle.
 #[derive(Drop)]

@@ -1,7 +1,7 @@
 //! Registers as the manuals give them (4.2.8), bytes sent at 115200 baud, frames that are received, and interrupts.
 
-use crate::deeds::{Bench, byte, first_wrong, half};
 use rp_uart::uart::Uart;
+use test_deeds::{Bench, byte, first_wrong, half};
 
 /// A UART whose bits last 16 cycles, with these words in UARTLCR_H and UARTCR.
 fn fast(line_control: u32, control: u32) -> Uart {
@@ -87,26 +87,31 @@ fn does_word(uart: &mut Uart, verb: &str, words: &[u32; 8]) -> bool {
     }
 }
 
-impl Bench for Uart {
+/// A UART whose RX is driven.
+#[derive(Drop)]
+struct Wired(Uart);
+
+impl Bench for Wired {
     fn does(&mut self, verb: &str, words: &[u32; 8]) -> bool {
+        let uart = &mut self.0;
         match verb {
             // UARTLCR_H and UARTCR of one whose bits last 16 cycles
-            "fast" => self.copy_from(&fast(words[0], words[1])),
+            "fast" => uart.copy_from(&fast(words[0], words[1])),
             // the levels of RX, and for how many cycles
-            "hear" => hear(self, words[0], words[1]),
+            "hear" => hear(uart, words[0], words[1]),
             // RX is high for so many cycles
             "high" => {
                 for _ in 0..words[0] {
-                    let _ = self.step(true);
+                    let _ = uart.step(true);
                 }
             }
             // the same, and no byte ends in them; and a cycle in which this one does
-            "quiet" => return sends_none(self, words[0]),
-            "sent" => return self.step(true) == Some(byte(words[0])),
+            "quiet" => return sends_none(uart, words[0]),
+            "sent" => return uart.step(true) == Some(byte(words[0])),
             // UARTLCR_H, the levels of a frame and for how many cycles, and what is read from UARTDR
             "frame" => return hears(words),
             "back" => return comes_back(words[0]),
-            _ => return does_word(self, verb, words),
+            _ => return does_word(uart, verb, words),
         }
         true
     }
@@ -144,6 +149,6 @@ const TOLD: &str = "\
 #[test]
 fn words_and_frames(rt: HostRuntime) {
     for text in [WORDS, HELLO, FRAMES, TOLD] {
-        assert_eq!(rt; first_wrong(&mut Uart::new(), text), None);
+        assert_eq!(rt; first_wrong(&mut Wired(Uart::new()), text), None);
     }
 }

@@ -1,7 +1,7 @@
 //! Words as the datasheet gives them (2.3.1.7), the handshake that starts core 1, and what two cores do in one cycle.
 
-use crate::deeds::{Bench, first_wrong, half};
 use sio_block::{Launch, Sio};
+use test_deeds::{Bench, first_wrong, half};
 
 /// The block as it was when the cycle began, as it is now, and what the launcher gave last.
 #[derive(Drop)]

@@ -5,8 +5,6 @@
 #[cfg(test)]
 mod bus_fabric_tests;
 #[cfg(test)]
-mod deeds;
-#[cfg(test)]
 mod lane_look_tests;
 #[cfg(test)]
 mod m0_alu_tests;

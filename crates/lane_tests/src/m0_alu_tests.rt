@@ -1,7 +1,7 @@
 //! Sums, shifts, extensions and products at their corners.
 
-use crate::deeds::{Bench, byte, first_wrong};
 use m0_alu::{ExtendKind, ShiftKind, add_carry, extend, multiply, shift};
+use test_deeds::{Bench, byte, first_wrong};
 
 /// The arithmetic of a core.
 #[derive(Drop)]
@@ -57,4 +57,9 @@ const TEXT: &str = "\
 #[test]
 fn corners(rt: HostRuntime) {
     assert_eq!(rt; first_wrong(&mut Alu, TEXT), None);
+    // a deed that is not so is found, as is one with a word that is no number
+    let wrong = first_wrong(&mut Alu, "mul 2 3 6; mul 2 3 7;");
+    assert_eq!(rt; wrong, Some((1, "mul 2 3 7")));
+    let unread = first_wrong(&mut Alu, "mul 2 #a 14;");
+    assert_eq!(rt; unread, Some((0, "mul 2 #a 14")));
 }

@@ -1,10 +1,10 @@
 //! Programs worked by hand, over a small memory: their results by the manual, their cycles by its timing table.
 
-use crate::deeds::{Bench, first_wrong};
 use lane_look::{Ask, Lane, Look, Marks, Turn, Want};
 use m0_core::Core;
 use rp_base::map::{Spot, place};
 use rp_base::{Master, Request, Size, Why};
+use test_deeds::{Bench, first_wrong};
 
 /// The first 64 words of SRAM and the last 16, and the core's interrupt lines.
 #[derive(Drop)]

@@ -1,7 +1,7 @@
 //! Words by the offsets of the manual's lists (B3.2, B3.3 and B3.4), and runs of the system timer and of interrupts.
 
-use crate::deeds::{Bench, byte, first_wrong, half};
 use m0_nvic::Nvic;
+use test_deeds::{Bench, byte, first_wrong, half};
 
 /// An exception by its number.
 fn exception(number: u32) -> Option<u8> {
@@ -12,40 +12,45 @@ fn exception(number: u32) -> Option<u8> {
     }
 }
 
-impl Bench for Nvic {
+/// The exceptions of a core.
+#[derive(Drop)]
+struct Exceptions(Nvic);
+
+impl Bench for Exceptions {
     fn does(&mut self, verb: &str, words: &[u32; 8]) -> bool {
         let [first, second, third, ..] = *words;
         let offset = half(first);
+        let nvic = &mut self.0;
         match verb {
             // an offset, what is written there, and what is read then
-            "keeps" => self.effect(offset, Some(second)) && self.read(offset, 0) == Some(third),
-            "write" => self.effect(offset, Some(second)),
-            "refuses" => !self.effect(offset, Some(second)),
-            "take" => self.effect(offset, None),
-            "reads" => self.read(offset, 0) == Some(second),
-            "none" => self.read(offset, 0).is_none() && !self.effect(offset, None),
+            "keeps" => nvic.effect(offset, Some(second)) && nvic.read(offset, 0) == Some(third),
+            "write" => nvic.effect(offset, Some(second)),
+            "refuses" => !nvic.effect(offset, Some(second)),
+            "take" => nvic.effect(offset, None),
+            "reads" => nvic.read(offset, 0) == Some(second),
+            "none" => nvic.read(offset, 0).is_none() && !nvic.effect(offset, None),
             // the end of a cycle, its number, and the lines that are high, which is no event, or one
-            "cycle" => !self.end_cycle(second, u64::from(first)),
-            "event" => self.end_cycle(second, u64::from(first)),
+            "cycle" => !nvic.end_cycle(second, u64::from(first)),
+            "event" => nvic.end_cycle(second, u64::from(first)),
             // an exception is entered, or left
             "enter" => {
-                self.enter(byte(first));
+                nvic.enter(byte(first));
                 true
             }
             "leave" => {
-                self.leave(byte(first));
+                nvic.leave(byte(first));
                 true
             }
             // the exception that would be taken next, or 0
-            "best" => self.best() == exception(first),
-            "wakes" => self.wakes() == (first == 1),
+            "best" => nvic.best() == exception(first),
+            "wakes" => nvic.wakes() == (first == 1),
             // no exception but this one is active, or some
-            "alone" => self.is_alone(byte(first)),
-            "beside" => !self.is_alone(byte(first)),
+            "alone" => nvic.is_alone(byte(first)),
+            "beside" => !nvic.is_alone(byte(first)),
             // the priority of what runs, without PRIMASK and with it
             "priorities" => {
-                i64::from(self.priority(false)) == i64::from(first)
-                    && i64::from(self.priority(true)) == i64::from(second)
+                i64::from(nvic.priority(false)) == i64::from(first)
+                    && i64::from(nvic.priority(true)) == i64::from(second)
             }
             _ => false,
         }
@@ -83,6 +88,6 @@ const HELD: &str = "\
 #[test]
 fn words_and_cycles(rt: HostRuntime) {
     for text in [WORDS, TIMER, SLOW, HELD] {
-        assert_eq!(rt; first_wrong(&mut Nvic::new(), text), None);
+        assert_eq!(rt; first_wrong(&mut Exceptions(Nvic::new()), text), None);
     }
 }

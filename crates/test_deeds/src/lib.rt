@@ -1,4 +1,7 @@
-//! Tests as texts of deeds.
+//! Tests as texts of deeds: what lane_tests and block_tests have in common.
+#![tactic(auto)]
+
+ghost use Rattle.std.specs.Prelude.{◌≡◌, ◌%◌};
 
 /// What is tried by a text.
 pub trait Bench {
@@ -51,11 +54,15 @@ pub fn first_wrong<B: Bench>(bench: &mut B, text: &'static str) -> Option<(usize
 }
 
 /// The low byte of a word.
-pub fn byte(word: u32) -> u8 {
+pub fn byte(word: u32) -> u8
+    ensures { result ≡ word % 256 }
+{
     (word & 0xff) as u8
 }
 
 /// The low halfword of a word.
-pub fn half(word: u32) -> u16 {
+pub fn half(word: u32) -> u16
+    ensures { result ≡ word % 65536 }
+{
     (word & 0xffff) as u16
 }
