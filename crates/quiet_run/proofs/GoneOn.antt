@@ -20,42 +20,33 @@ use Rattle.rp_machine.specs.Inward.{with_beside, inward_after, StaysInward, Goes
 use Rattle.rp_machine.proofs.Going.{fewer_cycles}
 use Rattle.rp_machine.proofs.Inward.{stays_after, core0_goes_on_alone, went_onward}
 use Rattle.rp_machine.proofs.Quietly.{seen_number}
-use Rattle.quiet_run.specs.Parts.{MayBringUp}
+use Rattle.quiet_run.specs.Parts.{MayBringUp, MayGoAlone}
 use Rattle.quiet_run.proofs.Passing.{fewer}
 
--- what the tests and the calls of the run have shown of the state s at its start
-pub record HasBegun (w : Setting) (s : State) (seen : SeenOutputs) (most : ℕ) : Type 0 where
-  pub goes : GoesAlone s
-  pub known : s.outer.sio ≡ pins_of s.sio
-  pub blocks : AreBlocksQuiet s most
-  pub same : seen ≡ (begun s).outer
-  pub quiet : outer.IsQuiet w seen s.outer most
-  pub limit : s.cycle + most ≤ w.limit
-
-pub has_begun : (w : Setting) (i s : State) (look : SeenOutputs) (asleep offered : Bool) (r q most at to : ℕ) → i ≡ s → CopiesAgree i → asleep ≡ i.core1.asleep → asleep ≡ true
-    → offered ≡ offers_of i.sio → offered ≡ false → AreBlocksQuiet s r → look ≡ (begun s).outer → outer.IsQuiet w look i.outer q → most ≤ r → most ≤ q → at ≡ s.cycle
-    → at + most ≤ to → to ≤ w.limit → HasBegun w s look most
-has_begun w i s look asleep offered r q most at to e agree sleeps alone offers none blocks seen quiet low fits here room limit = record {
+-- what the tests and the calls have shown
+pub may_go : (w : Setting) (i s : State) (seen : SeenOutputs) (asleep offered : Bool) (r q n : ℕ) → i ≡ s → CopiesAgree i → asleep ≡ i.core1.asleep → asleep ≡ true
+    → offered ≡ offers_of i.sio → offered ≡ false → AreBlocksQuiet s r → seen ≡ (begun s).outer → outer.IsQuiet w seen i.outer q → n ≤ r → n ≤ q → s.cycle + n ≤ w.limit → MayGoAlone w seen s n
+may_go w i s seen asleep offered r q n e agree sleeps alone offers none blocks same quiet low fits limit = record {
   goes = record {
     asleep = ap (λ (x : State). x.core1.asleep) (sym e) ∙ sym sleeps ∙ alone;
     offers = ap (λ (x : State). offers_of x.sio) (sym e) ∙ sym offers ∙ none;
   };
   known = (subst CopiesAgree e agree).pins;
-  blocks = fewer_cycles s r most blocks low;
-  same = seen;
-  quiet = fewer w look s.outer q most (subst (λ (x : State). outer.IsQuiet w look x.outer q) e quiet) fits;
-  limit = omega (arith, here, room, limit);
+  blocks = fewer_cycles s r n blocks low;
+  same = same;
+  quiet = fewer w seen s.outer q n (subst (λ (x : State). outer.IsQuiet w seen x.outer q) e quiet) fits;
+  limit = limit;
 }
 
 -- the law, for what core 0 has gone
-pub goes_onward : (w : Setting) (s : State) (seen : SeenOutputs) (most done : ℕ) → HasBegun w s seen most → done ≤ most → StaysInward s done → GoesOnward w s done
+pub goes_onward : (w : Setting) (s : State) (seen : SeenOutputs) (most done : ℕ) → MayGoAlone w seen s most → done ≤ most → StaysInward s done → GoesOnward w s done
 goes_onward w s seen most done h le inward =
     let limit = h.limit in
     core0_goes_on_alone w s done h.goes h.known (fewer_cycles s most done h.blocks le)
     (fewer w (begun s).outer s.outer most done (subst (λ (x : SeenOutputs). outer.IsQuiet w x s.outer most) h.same h.quiet) le) inward (omega arith)
 
 -- a test that does not look at the peripherals is false in each state of the run, where it is for core 0 by itself
-pub goes_unstopped : (w : Setting) (s : State) (seen : SeenOutputs) (most done : ℕ) → HasBegun w s seen most → done ≤ most → StaysInward s done
+pub goes_unstopped : (w : Setting) (s : State) (seen : SeenOutputs) (most done : ℕ) → MayGoAlone w seen s most → done ≤ most → StaysInward s done
     → (stops : State → Bool) → ((p : Blocks) (o : OuterState) (t : State) → stops (with_beside p o t) ≡ stops t)
     → ((k : ℕ) → k + 1 < done → stops (inward_after (k + 1) s) ≡ false) → (k : ℕ) → k + 1 < done → stops (states w s (k + 1)) ≡ false
 goes_unstopped w s seen most done h le inward stops same none k lt =
@@ -63,12 +54,12 @@ goes_unstopped w s seen most done h le inward stops same none k lt =
     ap stops on.state ∙ same (blocks_after (k + 1) s) (outer_after w (begun s).outer (k + 1) s.outer) (inward_after (k + 1) s) ∙ none k lt
 
 -- the others may be brought up
-pub number_fits : (w : Setting) (s : State) (seen : SeenOutputs) (most done to bound : ℕ) → HasBegun w s seen most → done ≤ most → s.cycle + most ≤ to → to < bound → seen.cycle + done < bound
+pub number_fits : (w : Setting) (s : State) (seen : SeenOutputs) (most done to bound : ℕ) → MayGoAlone w seen s most → done ≤ most → s.cycle + most ≤ to → to < bound → seen.cycle + done < bound
 number_fits w s seen most done to bound h le room fits =
     let number : seen.cycle ≡ s.cycle = ap (λ (x : SeenOutputs). x.cycle) h.same ∙ seen_number s in
     omega (arith, number, le, room, fits)
 
-pub may_bring_up : (w : Setting) (s t : State) (seen : SeenOutputs) (most done : ℕ) → HasBegun w s seen most → done ≤ most → t ≡ inward_after done s → MayBringUp w seen t done
+pub may_bring_up : (w : Setting) (s t : State) (seen : SeenOutputs) (most done : ℕ) → MayGoAlone w seen s most → done ≤ most → t ≡ inward_after done s → MayBringUp w seen t done
 may_bring_up w s t seen most done h le went =
     let stays = stays_after s done h.goes h.known in
     let blocks = fewer_cycles s most done h.blocks le in
@@ -80,7 +71,7 @@ may_bring_up w s t seen most done h le went =
     }
 
 -- and then it is the state of the run
-pub brought_up : (w : Setting) (s t u : State) (seen : SeenOutputs) (most done : ℕ) → HasBegun w s seen most → done ≤ most → StaysInward s done → t ≡ inward_after done s
+pub brought_up : (w : Setting) (s t u : State) (seen : SeenOutputs) (most done : ℕ) → MayGoAlone w seen s most → done ≤ most → StaysInward s done → t ≡ inward_after done s
     → u ≡ with_beside (blocks_after done t) (outer_after w seen done t.outer) t → u ≡ states w s done
 brought_up w s t u seen most done h le inward went up =
     up ∙ went_onward w s t (outer_after w seen done t.outer) seen done h.goes h.known h.same went refl (goes_onward w s seen most done h le inward)

@@ -16,7 +16,8 @@ use Rattle.rp_machine.specs.State.{State}
 use Rattle.rp_machine.specs.Alone.{AreBlocksQuiet, blocks_after}
 use Rattle.rp_machine.specs.Answers.{lines_of}
 use Rattle.rp_machine.specs.Copies.{CopiesAgree}
-use Rattle.rp_machine.specs.Cycle.{begun}
+use Rattle.rp_machine.specs.Cycle.{begun, pins_of}
+use Rattle.rp_machine.specs.Inward.{GoesAlone}
 use Rattle.rp_machine.specs.Run.{states}
 use Rattle.rp_machine.specs.Quiet.{IsQuiet}
 
@@ -29,6 +30,15 @@ pub record ArePartsQuiet (w : Setting) (s : State) (n : ℕ) : Type 0 where
   pub sio : after_cycle s.sio ≡ s.sio
   pub launcher : offers_of s.sio ≡ false
   pub fabric : has_hold s.fabric ≡ false
+  pub limit : s.cycle + n ≤ w.limit
+
+-- core 0 may go on alone for so many cycles, from the one on in which the peripherals see this: core 1 sleeps, and the other lanes are quiet
+pub record MayGoAlone (w : Setting) (seen : SeenOutputs) (s : State) (n : ℕ) : Type 0 where
+  pub goes : GoesAlone s
+  pub known : s.outer.sio ≡ pins_of s.sio
+  pub blocks : AreBlocksQuiet s n
+  pub same : seen ≡ (begun s).outer
+  pub quiet : outer.IsQuiet w seen s.outer n
   pub limit : s.cycle + n ≤ w.limit
 
 -- the lanes beside core 0 may be brought up by so many cycles, from the one on in which this is seen

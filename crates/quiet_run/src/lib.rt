@@ -10,6 +10,6 @@ mod onward;
 mod pass;
 pub mod ways;
 
-pub use onward::{Watch, bring_up};
+pub use onward::{Watch, bring_up, room_alone};
 pub use pass::pass_waiting;
 pub use ways::{Pace, pass_paced, pass_quiet, pass_watched};

@@ -1,12 +1,12 @@
 //! Core 0 at work by itself, beside a DMA engine, PIO and peripherals that are quiet.
 
-ghost use Rattle.std.specs.Prelude.{◌≡◌, ℕ, ◌+◌, ◌^◌, ◌<◌, ◌≤◌, false};
+ghost use Rattle.std.specs.Prelude.{◌≡◌, ℕ, ◌+◌, ◌^◌, ◌<◌, ◌≤◌, false, IfSome};
 ghost use Rattle.outer_lane.specs.Setting.{setting};
 ghost use Rattle.outer_lane.specs.Quiet.{outer_after};
 ghost use Rattle.rp_machine.specs.Alone.{blocks_after};
 ghost use Rattle.rp_machine.specs.Inward.{with_beside};
 ghost use Rattle.rp_machine.specs.Quiet.{IsQuiet};
-ghost use Rattle.quiet_run.specs.Parts.{MayBringUp};
+ghost use Rattle.quiet_run.specs.Parts.{MayBringUp, MayGoAlone};
 ghost use Rattle.rp_machine.specs.Run.{states};
 
 use lane_look::{Device, Marks};
@@ -71,6 +71,30 @@ impl Watch for Unwatched {
     ghost looks_inward = { λ watch p o s. refl };
 }
 
+/// For how many cycles, at most so many, core 0 may go on alone, and what the peripherals see meanwhile, where core 1 sleeps and the other lanes
+/// are quiet.
+#[inline(always)]
+pub fn room_alone<X: Device>(
+    machine: &Machine,
+    world: &World<'_, X>,
+    most: u64,
+) -> Option<(SeenOutputs, u64)>
+    requires { machine.now.cycle + most ≤ world.now.limit }
+    ensures { IfSome result (λ r. MayGoAlone (setting X.meaning world.now) r.0 machine.now r.1 × (r.1 ≤ most)) }
+{
+    if !machine.core1.is_asleep() || machine.sio.offers() {
+        return None;
+    }
+    let blocks = machine.quiet_blocks();
+    if blocks == 0 {
+        return None;
+    }
+    let seen = machine.begin_outer(world);
+    let outer = machine.outer.quiet(world, &seen);
+    let lanes = outer.min(blocks);
+    Some((seen, lanes.min(most)))
+}
+
 /// Brings the lanes beside core 0 up by so many cycles, in which they are quiet.
 pub fn bring_up<X: Device>(machine: &mut Machine, world: &World<'_, X>, seen: &SeenOutputs, n: u64)
     requires number { seen.now.cycle + n < 2 ^ 64 }
@@ -102,17 +126,12 @@ pub(crate) fn pass_onward<X: Device, W: Watch, L: Ledger>(
     ensures steps { steps.new ≡ steps.old + result }
 {
     let at = machine.number();
-    if to <= at || !machine.core1.is_asleep() || machine.sio.offers() {
+    if to <= at {
         return 0;
     }
-    let blocks = machine.quiet_blocks();
-    if blocks == 0 {
+    let Some((seen, most)) = room_alone(machine, world, to - at) else {
         return 0;
-    }
-    let seen = machine.begin_outer(world);
-    let outer = machine.outer.quiet(world, &seen);
-    let lanes = outer.min(blocks);
-    let most = lanes.min(to - at);
+    };
     let done = watch.go_onward(machine, most, marks, steps);
     bring_up(machine, world, &seen, done);
     done

@@ -46,13 +46,14 @@ use Rattle.rp_machine.specs.Answers.{answer_of, lines_of, block_lines, packed_pa
 use Rattle.rp_machine.specs.Deeds.{asked_of}
 use Rattle.rp_machine.specs.Cycle.{begun, wanted, pins_of, with_sio, ended, mark, next_by}
 use Rattle.rp_machine.specs.Run.{states}
-use Rattle.rp_machine.specs.Alone.{Blocks, AreBlocksQuiet, IsCore0Alone, beside, blocks_after}
+use Rattle.rp_machine.specs.Alone.{Blocks, AreBlocksQuiet, IsCore0Alone, beside, blocks_after, is_first_alone}
+use Rattle.rp_machine.specs.Wantless.{is_nothing}
 use Rattle.rp_machine.specs.Inward.{TellsSame, GoesAlone, StaysInward, core0_want, inward_next, inward_after, onward_after}
 use Rattle.rp_machine.proofs.Going.{fewer_cycles}
 use Rattle.rp_machine.proofs.OneCore.{first_want, second_want, wanted_alone}
 use Rattle.rp_machine.proofs.Quietly.{seen_later, seen_number}
 use Rattle.rp_machine.proofs.Inward.{begun_same, stays_after, lines_on, pacing_on, outs_on, tell_on, stayed, told_both, alone_by, beside_after, core0_goes_on_alone, lines_stay}
-use Rattle.quiet_run.proofs.GoneOn.{HasBegun}
+use Rattle.quiet_run.specs.Parts.{MayGoAlone}
 use Rattle.quiet_run.proofs.Passing.{fewer}
 use Rattle.window_merge.specs.declared.notes.Notes.{Notes}
 use Rattle.window_merge.specs.declared.start.Start.{Start}
@@ -236,35 +237,41 @@ no_port : (o : Option (ℕ × Bool)) → is_port_of o None ≡ false
 no_port None = refl
 no_port (Some access) = refl
 
-pub clash_none : (v : Want) → clash (v ∷ want.Nothing ∷ want.Nothing ∷ want.Nothing ∷ want.Nothing ∷ want.Nothing ∷ want.Nothing ∷ want.Nothing ∷ want.Nothing ∷ want.Nothing ∷ want.Nothing ∷ want.Nothing ∷ []) ≡ false
+clash_none : (v : Want) → clash (v ∷ want.Nothing ∷ want.Nothing ∷ want.Nothing ∷ want.Nothing ∷ want.Nothing ∷ want.Nothing ∷ want.Nothing ∷ want.Nothing ∷ want.Nothing ∷ want.Nothing ∷ want.Nothing ∷ []) ≡ false
 unfolding asked_of
 clash_none v = rw (no_port (asked_of v)) refl
 
-abbrev second_of : List Wanted → Want
-second_of (x ∷ y ∷ rest) = y.want
-second_of other = want.Nothing
+nothing_wanted : (x : Want) → is_nothing x ≡ true → x ≡ want.Nothing
+nothing_wanted want.Nothing e = refl
+nothing_wanted (want.Ram request) e = absurd (cc e)
+nothing_wanted (want.Outward request) e = absurd (cc e)
+nothing_wanted want.Signal e = absurd (cc e)
+nothing_wanted (want.Stopped cause) e = absurd (cc e)
 
 -- those of core 0, core 1 and the DMA engine
-abbrev pub wants_with : Want → Want → Want → Want → List Want
+abbrev wants_with : Want → Want → Want → Want → List Want
 wants_with v v1 read write =
     v ∷ want.Nothing ∷ v1 ∷ want.Nothing ∷ read ∷ write ∷ want.Nothing ∷ want.Nothing ∷ want.Nothing ∷ want.Nothing ∷ want.Nothing ∷ want.Nothing ∷ []
 
-wants_alone : (s : State) (p : Blocks) → IsCore0Alone s p → clash (wants_of (begun s)) ≡ false
+-- no other master wants anything
+pub apart_alone : (b : Begun) → is_first_alone (wanted b) ≡ true → clash (wants_of b) ≡ false
 unfolding wanted
-wants_alone s p h =
-    let v = core.want_of (begun s).core0 in
-    let read = dma.want_of (begun s).dma.read in
-    let write = dma.want_of (begun s).dma.write in
-    let core1 : core.want_of (begun s).core1 ≡ want.Nothing = ap second_of (wanted_alone s p h) in
-    ap (λ (x : Want). clash (wants_with v x read write)) core1
-    ∙ ap (λ (x : Want). clash (wants_with v want.Nothing x write)) (first_want _ _ h.wants)
-    ∙ ap (λ (x : Want). clash (wants_with v want.Nothing want.Nothing x)) (second_want _ _ h.wants)
+apart_alone b e =
+    let v = core.want_of b.core0 in
+    let read = dma.want_of b.dma.read in
+    let write = dma.want_of b.dma.write in
+    let core1 = both_true (is_nothing (core.want_of b.core1)) _ e in
+    let reads = both_true (is_nothing read) _ core1.1 in
+    let writes = both_true (is_nothing write) true reads.1 in
+    ap (λ (x : Want). clash (wants_with v x read write)) (nothing_wanted _ core1.0)
+    ∙ ap (λ (x : Want). clash (wants_with v want.Nothing x write)) (nothing_wanted read reads.0)
+    ∙ ap (λ (x : Want). clash (wants_with v want.Nothing want.Nothing x)) (nothing_wanted write writes.0)
     ∙ clash_none v
 
 goes_by_alone : (s : State) (p : Blocks) → IsCore0Alone s p → ends_want (core.want_of (begun s).core0) ≡ false → goes_by (begun s) ≡ true
 goes_by_alone s p h keeps =
     ap (λ (xs : List Wanted). not (ends_wanted xs || clash (wants_of (begun s)))) (wanted_alone s p h)
-    ∙ ap (λ (c : Bool). not (ends_wanted (beside (core.want_of (begun s).core0)) || c)) (wants_alone s p h)
+    ∙ ap (λ (c : Bool). not (ends_wanted (beside (core.want_of (begun s).core0)) || c)) (apart_alone (begun s) (ap is_first_alone (wanted_alone s p h)))
     ∙ ap (λ (c : Bool). not ((c || false) || false)) keeps
 
 -- ---- cycle after cycle
@@ -487,7 +494,7 @@ pub none_marked : (w : Setting) (s : State) (marks : List Mark) → marks ≡ ma
 unfolding marks_in
 none_marked w s marks = sym (append-nil marks)
 
-pub is_onward : (w : Setting) (m : Notes) (s : State) (seen : SeenOutputs) (most done : ℕ) → sees_sram m s ≡ true → HasBegun w s seen most → done ≤ most → StaysInward s done → KeepsInward s done → IsOnward w m s done
+pub is_onward : (w : Setting) (m : Notes) (s : State) (seen : SeenOutputs) (most done : ℕ) → sees_sram m s ≡ true → MayGoAlone w seen s most → done ≤ most → StaysInward s done → KeepsInward s done → IsOnward w m s done
 is_onward w m s seen most done sees h le inward keeps =
     let limit = h.limit in
     record {

@@ -17,7 +17,7 @@ use Rattle.rp_machine.specs.declared.begun.Begun.{Begun}
 use Rattle.rp_machine.specs.declared.wanted.Wanted.{Wanted}
 use Rattle.rp_machine.specs.State.{State}
 use Rattle.rp_machine.specs.Answers.{lines_of, packed_pair, inputs_of}
-use Rattle.rp_machine.specs.Alone.{beside}
+use Rattle.rp_machine.specs.Alone.{beside, is_first_alone}
 use Rattle.rp_machine.specs.Copies.{CopiesAgree}
 use Rattle.rp_machine.specs.Cycle.{begun, wanted, mark}
 use Rattle.rp_machine.specs.Run.{states}
@@ -34,7 +34,7 @@ use Rattle.window_merge.specs.Merging.{wants_of, marks_in}
 use Rattle.window_merge.specs.Inward.{noted_in, same_marks, sees_sram, GoesAsAlone}
 use Rattle.window_merge.proofs.Passing.{both_true, either_true}
 use Rattle.window_merge.proofs.Windows.{or_true}
-use Rattle.window_merge.proofs.InwardCycles.{AreAlike, alike_by, reads_none, goes_alike, begun_alike, starts_by, wants_with, clash_none, mark_with, marked_same}
+use Rattle.window_merge.proofs.InwardCycles.{AreAlike, alike_by, reads_none, goes_alike, begun_alike, starts_by, apart_alone, mark_with, marked_same}
 
 -- for so many cycles from a state of a window on, before which this was noted, nobody has anything to do
 pub record IsWaiting (w : Setting) (m : Notes) (s : State) (n : ℕ) : Type 0 where
@@ -76,19 +76,10 @@ unfolding wanted
 wants_none w s n k q lt =
     rw (wants_core0 w s n k q lt, wants_core1 w s n k q lt, wants_read w s n k q lt, wants_write w s n k q lt) refl
 
-no_clash : (w : Setting) (s : State) (n k : ℕ) → ArePartsQuiet w s n → k < n → clash (wants_of (begun (passed w s k))) ≡ false
-no_clash w s n k q lt =
-    let b = begun (passed w s k) in
-    ap (λ (x : Want). clash (wants_with x (core.want_of b.core1) (dma.want_of b.dma.read) (dma.want_of b.dma.write))) (wants_core0 w s n k q lt)
-    ∙ ap (λ (x : Want). clash (wants_with want.Nothing x (dma.want_of b.dma.read) (dma.want_of b.dma.write))) (wants_core1 w s n k q lt)
-    ∙ ap (λ (x : Want). clash (wants_with want.Nothing want.Nothing x (dma.want_of b.dma.write))) (wants_read w s n k q lt)
-    ∙ ap (λ (x : Want). clash (wants_with want.Nothing want.Nothing want.Nothing x)) (wants_write w s n k q lt)
-    ∙ clash_none want.Nothing
-
 goes_waiting : (w : Setting) (s : State) (n k : ℕ) → ArePartsQuiet w s n → k < n → goes_by (begun (passed w s k)) ≡ true
 goes_waiting w s n k q lt =
     ap (λ (xs : List Wanted). not (ends_wanted xs || clash (wants_of (begun (passed w s k))))) (wants_none w s n k q lt)
-    ∙ ap (λ (c : Bool). not (false || c)) (no_clash w s n k q lt)
+    ∙ ap (λ (c : Bool). not (false || c)) (apart_alone (begun (passed w s k)) (ap is_first_alone (wants_none w s n k q lt)))
 
 mark_waiting : (w : Setting) (s : State) (n k : ℕ) → ArePartsQuiet w s n → k < n → mark w (passed w s k) ≡ mark_with s.outer.pads.current
 unfolding mark

@@ -18,7 +18,7 @@ use crate::walk::ends_want;
 use lane_look::{Device, Lane, Mark, Marks};
 use m0_core::{Core, Doing};
 use outer_lane::World;
-use quiet_run::{Pace, bring_up, pass_waiting};
+use quiet_run::{Pace, bring_up, pass_waiting, room_alone};
 use rp_machine::{Machine, Steps, fact_limit_is_bounded};
 use std::sync::ledger::Ledger;
 
@@ -166,17 +166,9 @@ pub(crate) fn go_inward<X: Device, L: Ledger>(
     if machine.core0.is_waiting() {
         return go_waiting(machine, world, notes, most, marks, steps);
     }
-    if !machine.core1.is_asleep() || machine.sio.offers() {
+    let Some((seen, room)) = room_alone(machine, world, u64::from(most)) else {
         return 0;
-    }
-    let blocks = machine.quiet_blocks();
-    if blocks == 0 {
-        return 0;
-    }
-    let seen = machine.begin_outer(world);
-    let outer = machine.outer.quiet(world, &seen);
-    let lanes = outer.min(blocks);
-    let room = lanes.min(u64::from(most));
+    };
     let done = note_onward(machine, notes, room, marks, steps);
     bring_up(machine, world, &seen, done);
     mark_each(marks, machine.pads(), done);

@@ -40,7 +40,7 @@ const LONG: u16 = 128;
 
 /// Behind a window that went over the board so many long ones are made by the coordinator alone. A lane runs for 256 cycles at most, some ten
 /// microseconds; the copies that its job is made of, and two threads that wait for each other, take longer than that.
-const SHARE: u8 = 63;
+const SHARE: u8 = 255;
 
 /// Draws tickets and passes those that are open, and keeps the first one that is not.
 fn help<'w, X: Device, G: Gate>(
