@@ -268,6 +268,10 @@ apart_alone b e =
     ∙ ap (λ (x : Want). clash (wants_with v want.Nothing want.Nothing x)) (nothing_wanted write writes.0)
     ∙ clash_none v
 
+pub goes_first_alone : (b : Begun) (xs : List Wanted) (ends alone : Bool) → xs ≡ wanted b → ends ≡ ends_wanted xs → ends ≡ false → alone ≡ is_first_alone xs → alone ≡ true → alone ≡ goes_by b
+goes_first_alone b xs ends alone e e_ends none e_alone first =
+    first ∙ sym (ap (λ (c : Bool). not (c || clash (wants_of b))) (ap ends_wanted (sym e) ∙ sym e_ends ∙ none) ∙ ap not (apart_alone b (ap is_first_alone (sym e) ∙ sym e_alone ∙ first)))
+
 goes_by_alone : (s : State) (p : Blocks) → IsCore0Alone s p → ends_want (core.want_of (begun s).core0) ≡ false → goes_by (begun s) ≡ true
 goes_by_alone s p h keeps =
     ap (λ (xs : List Wanted). not (ends_wanted xs || clash (wants_of (begun s)))) (wanted_alone s p h)

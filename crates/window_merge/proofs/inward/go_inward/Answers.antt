@@ -36,9 +36,6 @@ pub bring_up-requires-clause-quiet : goal.bring_up-requires-clause-quiet
 bring_up-requires-clause-quiet g c κs within =
     may_bring_up (setting g.X.Device.meaning c.args.world.now) c.args.machine.now c.note_onward-done.new.machine c.in-Some.seen c.in-Some.room c.note_onward-done.result c.in-Some.ensures.0 c.note_onward-done.ensures.most c.note_onward-done.ensures.state
 
-pub mark_each-requires : goal.mark_each-requires
-mark_each-requires g c = ?
-
 pub returns-clause-state : goal.returns-clause-state
 returns-clause-state g c =
     brought_up (setting g.X.Device.meaning c.args.world.now) c.args.machine.now c.note_onward-done.new.machine c.bring_up.new.machine c.in-Some.seen c.in-Some.room c.note_onward-done.result c.in-Some.ensures.0 c.note_onward-done.ensures.most c.note_onward-done.ensures.inward c.note_onward-done.ensures.state c.bring_up.ensures
