@@ -147,3 +147,7 @@ HasLanesFrom lane (job ∷ jobs) = HasNumber lane job × HasLanesFrom (suc lane)
 -- each lane has its job
 abbrev pub IsWhole : Crew → Type 0
 IsWhole crew = HasLanesFrom 0 crew.jobs
+
+-- no lane has one
+abbrev pub HasNoJob : Crew → Type 0
+HasNoJob crew = crew.jobs ≡ None ∷ None ∷ None ∷ None ∷ None ∷ None ∷ []

@@ -94,7 +94,7 @@ fn six_jobs(alloc: Global) -> Result<[Option<LaneJob>; 6], AllocError>
 
 impl Crew {
     ghost use Rattle.std.specs.Prelude.{IfOk};
-    ghost use Rattle.window_merge.specs.Jobs.{IsWhole};
+    ghost use Rattle.window_merge.specs.Jobs.{HasNoJob, IsWhole};
 
     /// A job for each lane, which holds nothing yet. Nothing that uses them takes memory.
     ///
@@ -114,7 +114,9 @@ impl Crew {
     /// # Errors
     ///
     /// Want of memory.
-    pub fn without_jobs(alloc: Global) -> Result<Crew, AllocError> {
+    pub fn without_jobs(alloc: Global) -> Result<Crew, AllocError>
+        ensures { IfOk result HasNoJob }
+    {
         let notes = Notes::new(alloc)?;
         Ok(Crew {
             jobs: [None, None, None, None, None, None],
