@@ -50,7 +50,7 @@ use Rattle.rp_machine.specs.Alone.{Blocks, AreBlocksQuiet, IsCore0Alone, beside,
 use Rattle.rp_machine.specs.Wantless.{is_nothing}
 use Rattle.rp_machine.specs.Inward.{TellsSame, GoesAlone, StaysInward, core0_want, inward_next, inward_after, onward_after}
 use Rattle.rp_machine.proofs.Going.{fewer_cycles}
-use Rattle.rp_machine.proofs.OneCore.{first_want, second_want, wanted_alone}
+use Rattle.rp_machine.proofs.OneCore.{first_want, wanted_alone}
 use Rattle.rp_machine.proofs.Quietly.{seen_later, seen_number}
 use Rattle.rp_machine.proofs.Inward.{begun_same, stays_after, lines_on, pacing_on, outs_on, tell_on, stayed, told_both, alone_by, beside_after, core0_goes_on_alone, lines_stay}
 use Rattle.quiet_run.specs.Parts.{MayGoAlone}

@@ -1,12 +1,9 @@
 -- Cycles of a window in which nobody has anything to do: the start answers each lane as the machine does.
-use Rattle.std.proofs.Common.{◌≡◌, ℕ, zero, suc, ◌+◌, ◌<◌, ◌≤◌, inl, inr, ◌||◌, not, Bool, true, false, List, [], ◌∷◌, ◌++◌, None, refl, sym, ap, subst, ◌∙◌, arith}
-use Rattle.lane_look.specs.declared.lane.Want.{Want}
+use Rattle.std.proofs.Common.{◌≡◌, ℕ, zero, suc, ◌+◌, ◌<◌, ◌≤◌, inl, inr, ◌||◌, not, Bool, true, false, List, [], ◌∷◌, ◌++◌, refl, sym, ap, subst, ◌∙◌, arith}
 use Rattle.lane_look.specs.declared.lane.Want.TheVariants as want
 use Rattle.lane_look.specs.declared.marks.Mark.{Mark}
 use Rattle.m0_core.specs.State.{State as Core}
-use Rattle.m0_core.specs.Cycle as core
 use Rattle.m0_core.proofs.Lasting.{stays_asleep}
-use Rattle.dma_engine.specs.Cycle as dma
 use Rattle.io_bank.specs.State.{State as Bank}
 use Rattle.io_bank.specs.Levels.{inputs_of as inputs_of_pads}
 use Rattle.outer_lane.specs.Setting.{Setting}

@@ -1,12 +1,9 @@
 -- The way to a cycle by windows. The project's own.
-use Rattle.std.specs.Prelude.{◌≡◌, ℕ, ◌+◌, ◌<◌, ◌≤◌, Bool, false, Option, Some, None}
+use Rattle.std.specs.Prelude.{◌≡◌, ℕ, ◌<◌, Option, Some, None}
 use Rattle.rp_base.specs.declared.Why.{Why}
 use Rattle.outer_lane.specs.Setting.{Setting}
 use Rattle.rp_machine.specs.State.{State}
-use Rattle.rp_machine.specs.Cycle.{stop, next}
-use Rattle.rp_machine.specs.Run.{states}
-use Rattle.window_merge.specs.declared.position.Moved.{Moved}
-use Rattle.window_merge.specs.declared.position.Moved.TheVariants as moved
+use Rattle.rp_machine.specs.Cycle.{stop}
 
 -- it stands at the cycle; or at a stop below it
 abbrev pub IsReached : Setting → ℕ → Option Why → State → Type 0

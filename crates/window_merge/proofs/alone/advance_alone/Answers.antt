@@ -1,4 +1,4 @@
-use Rattle.std.proofs.Common.{◌+◌, ◌≡◌, ap, sym, ◌∙◌, arith}
+use Rattle.std.proofs.Common.{ap, sym, ◌∙◌, arith}
 use Rattle.outer_lane.specs.Setting.{setting_of}
 use Rattle.rp_machine.specs.State.{State}
 use Rattle.rp_machine.proofs.Runs.{next_cycle}

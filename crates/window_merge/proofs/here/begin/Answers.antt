@@ -1,4 +1,4 @@
-use Rattle.std.proofs.Common.{◌≡◌, ◌+◌, ◌*◌, ◌∙◌, [], length, refl, ap, arith}
+use Rattle.std.proofs.Common.{◌*◌, ◌∙◌, [], length, refl, ap, arith}
 use Rattle.outer_lane.specs.Setting.{setting}
 use Rattle.rp_machine.specs.State.{State}
 use Rattle.window_merge.proofs.Passing.{First}

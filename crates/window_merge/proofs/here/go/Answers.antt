@@ -1,11 +1,11 @@
-use Rattle.std.proofs.Common.{◌≡◌, ◌+◌, ◌-◌, ◌*◌, ◌++◌, [], ◌∷◌, refl, sym, ap, ◌∙◌, arith}
+use Rattle.std.proofs.Common.{◌≡◌, ◌-◌, ◌*◌, [], refl, sym, ap, ◌∙◌, arith}
 use Rattle.outer_lane.specs.Setting.{setting}
 use Rattle.std.proofs.lemmas.List.{append-nil}
 use Rattle.rp_machine.specs.State.{State}
 use Rattle.rp_machine.specs.Run.{states}
 use Rattle.window_merge.specs.Merging.{marks_in}
 use Rattle.window_merge.proofs.Windows.{at_most}
-use Rattle.window_merge.proofs.Passing.{First, Along, along_first, along_more, along_none, within_limit, closed_later, closed_full, passes_later, has_room}
+use Rattle.window_merge.proofs.Passing.{First, along_first, along_more, along_none, within_limit, closed_later, closed_full, passes_later, has_room}
 use Rattle.window_merge.proofs.here.go.Goals as goal
 
 pub cycles-init : goal.cycles-init

@@ -1,4 +1,4 @@
-use Rattle.std.proofs.Common.{◌≡◌, ◌+◌, ◌*◌, ◌++◌, ◌∙◌, List, refl, sym, ap, arith}
+use Rattle.std.proofs.Common.{◌*◌, ◌++◌, ◌∙◌, List, sym, ap, arith}
 use Rattle.lane_look.specs.declared.marks.Mark.{Mark}
 use Rattle.outer_lane.specs.Setting.{setting}
 use Rattle.quiet_run.proofs.GoneOn.{number_fits, may_bring_up, brought_up}

@@ -1,4 +1,4 @@
-use Rattle.std.proofs.Common.{◌≡◌, ◌+◌, ◌≤◌, subst, arith}
+use Rattle.std.proofs.Common.{subst}
 use Rattle.outer_lane.specs.Setting.{setting}
 use Rattle.rp_machine.specs.Copies.{CopiesAgree}
 use Rattle.window_merge.proofs.WaitingCycles.{has_waited}

@@ -1,4 +1,4 @@
-use Rattle.std.proofs.Common.{◌≡◌, refl, ap, ◌∙◌}
+use Rattle.std.proofs.Common.{refl, ap}
 use Rattle.lane_look.specs.Alone.{ends_want}
 use Rattle.rp_machine.specs.Inward.{core0_want}
 use Rattle.rp_machine.proofs.Inward.{wants_nothing_inward}

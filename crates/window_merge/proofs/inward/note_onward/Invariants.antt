@@ -1,4 +1,4 @@
-use Rattle.std.proofs.Common.{ℕ, ◌≡◌, ◌-◌, ◌*◌}
+use Rattle.std.proofs.Common.{◌≡◌, ◌-◌, ◌*◌}
 use Rattle.rp_machine.proofs.Inward.{HasGone}
 use Rattle.window_merge.specs.Inward.{noted_inward, KeepsInward}
 use Rattle.window_merge.specs.Notes.{HasRoom}

@@ -1,4 +1,4 @@
-use Rattle.std.proofs.Common.{◌-◌, ◌<◌, arith}
+use Rattle.std.proofs.Common.{arith}
 use Rattle.window_merge.proofs.Patching.{found_back, passed_back}
 use Rattle.window_merge.proofs.patch.last_of.Goals as goal
 
