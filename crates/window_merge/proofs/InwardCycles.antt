@@ -518,20 +518,17 @@ is_onward w m s seen most done sees h le inward keeps =
 pub sees_first : (s : State) (notes : Notes) → notes ≡ no_notes → sees_sram notes s ≡ true
 sees_first s notes e = rw e (or_true s.core1.asleep)
 
-pub unmarked : (w : Setting) (s : State) (n : ℕ) (marks marks' : List Mark) → marks ≡ [] → marks' ≡ marks ++ marks_in w s n → marks' ≡ marks_in w s n
-unmarked w s n marks marks' none e = e ∙ ap (λ (ms : List Mark). ms ++ marks_in w s n) none
-
 -- nothing has changed
 pub record IsBack (m : Notes) (s i : State) (notes : Notes) (marks : List Mark) : Type 0 where
   pub state : i ≡ s
   pub notes_are : notes ≡ m
   pub marks_are : marks ≡ []
 
-pub is_back : (w : Setting) (m : Notes) (s i : State) (done : ℕ) (notes : Notes) (marks : List Mark) → (0 < done → ⊥) → i ≡ states w s done → notes ≡ noted_in w (start_of s) m s done → marks ≡ marks_in w s done
-    → IsBack m s i notes marks
+pub is_back : (w : Setting) (m : Notes) (s i : State) (done : ℕ) (notes : Notes) (marks marks' : List Mark) → done ≡ 0 → marks ≡ [] → i ≡ states w s done → notes ≡ noted_in w (start_of s) m s done → marks' ≡ marks ++ marks_in w s done
+    → IsBack m s i notes marks'
 unfolding states noted_in marks_in
-is_back w m s i zero notes marks none e_state e_notes e_marks = record { state = e_state; notes_are = e_notes; marks_are = e_marks }
-is_back w m s i (suc done) notes marks none e_state e_notes e_marks = absurd (none (omega arith))
+is_back w m s i zero notes marks marks' back none e_state e_notes e_marks = record { state = e_state; notes_are = e_notes; marks_are = e_marks ∙ append-nil marks ∙ none }
+is_back w m s i (suc done) notes marks marks' back none e_state e_notes e_marks = absurd (omega (arith, back))
 
 pub room_none : (notes : Notes) (more : ℕ) → notes ≡ no_notes → more ≤ 1024 → HasRoom notes more
 room_none notes more e le =
