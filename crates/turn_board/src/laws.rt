@@ -5,12 +5,14 @@ ghost use Rattle.turn_board.specs.Kinds.{StepsAreEvents};
 use crate::kept::Kept;
 
 /// Each legal event keeps a good state good.
+#[tactic(auto, using(crate::proofs::Keeps::events_keep_good))]
 pub fn events_keep_good()
     ensures { EventsKeepGood }
 {}
 
 /// Where as many numbers are finished as are open, every open number stands once in the finished list of the one
 /// seat that drew it.
+#[tactic(auto, using(crate::proofs::Follows::all_done))]
 pub fn all_done()
     ensures { AllDone }
 {}
@@ -21,11 +23,13 @@ pub fn tickets_bounded()
 {}
 
 /// Two seats that are holding have numbers of different lanes.
+#[tactic(auto, using(crate::proofs::Follows::lanes_differ))]
 pub fn lanes_differ()
     ensures { LanesDiffer }
 {}
 
 /// No seat is holding where the master knows that all open numbers are finished.
+#[tactic(auto, using(crate::proofs::Follows::none_holding))]
 pub fn none_holding()
     ensures { NoneHolding }
 {}

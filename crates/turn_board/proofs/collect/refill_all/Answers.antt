@@ -1,25 +1,33 @@
-use Rattle.std.proofs.Common.{◌∙◌, ◌∷◌, []}
+use Rattle.std.proofs.Common.{refl, ◌∙◌, ◌∷◌, []}
 use Rattle.turn_board.specs.Slots.{numbered}
-use Rattle.turn_board.proofs.Refills.{next0, next1, next2, next3, next4, next5, then0, then1, then2, then3, then4, found0, found1, found2, found3, found4, found5}
+use Rattle.turn_board.proofs.Refills.{same_value}
 use Rattle.turn_board.proofs.collect.refill_all.Goals as goal
 
 pub refill-l0-requires-clause-found : goal.refill-l0-requires-clause-found
-refill-l0-requires-clause-found g c = let t = c.requires.in_hand in let s = t.0 in let u = t.1 in let x = c.args.firsts in let e0 = u.6 in (s.l0, next0 s x u.0 u.1 u.2 u.3 u.4 u.5 c.args.post.now.me.1 e0)
+refill-l0-requires-clause-found g c = let t = c.requires.in_hand in (t.0.l0, rw t.1.6 refl)
 
 pub refill-l1-requires-clause-found : goal.refill-l1-requires-clause-found
-refill-l1-requires-clause-found g c = let t = c.requires.in_hand in let s = t.0 in let u = t.1 in let x = c.args.firsts in let e0 = u.6 in let e1 = then0 s x u.0 u.1 u.2 u.3 u.4 u.5 c.args.post.now.me.1 c.refill-l0.new.post.me c.args.post.now.me.0 e0 c.refill-l0.ensures.in_hand in (s.l1, next1 s x u.0 u.1 u.2 u.3 u.4 u.5 c.refill-l0.new.post.me.1 e1)
+refill-l1-requires-clause-found g c = let t = c.requires.in_hand in (t.0.l1, rw (c.refill-l0.ensures.in_hand, t.1.6) refl)
 
 pub refill-l2-requires-clause-found : goal.refill-l2-requires-clause-found
-refill-l2-requires-clause-found g c = let t = c.requires.in_hand in let s = t.0 in let u = t.1 in let x = c.args.firsts in let e0 = u.6 in let e1 = then0 s x u.0 u.1 u.2 u.3 u.4 u.5 c.args.post.now.me.1 c.refill-l0.new.post.me c.args.post.now.me.0 e0 c.refill-l0.ensures.in_hand in let e2 = then1 s x u.0 u.1 u.2 u.3 u.4 u.5 c.refill-l0.new.post.me.1 c.refill-l1.new.post.me c.refill-l0.new.post.me.0 e1 c.refill-l1.ensures.in_hand in (s.l2, next2 s x u.0 u.1 u.2 u.3 u.4 u.5 c.refill-l1.new.post.me.1 e2)
+refill-l2-requires-clause-found g c = let t = c.requires.in_hand in (t.0.l2, rw (c.refill-l1.ensures.in_hand, c.refill-l0.ensures.in_hand, t.1.6) refl)
 
 pub refill-l3-requires-clause-found : goal.refill-l3-requires-clause-found
-refill-l3-requires-clause-found g c = let t = c.requires.in_hand in let s = t.0 in let u = t.1 in let x = c.args.firsts in let e0 = u.6 in let e1 = then0 s x u.0 u.1 u.2 u.3 u.4 u.5 c.args.post.now.me.1 c.refill-l0.new.post.me c.args.post.now.me.0 e0 c.refill-l0.ensures.in_hand in let e2 = then1 s x u.0 u.1 u.2 u.3 u.4 u.5 c.refill-l0.new.post.me.1 c.refill-l1.new.post.me c.refill-l0.new.post.me.0 e1 c.refill-l1.ensures.in_hand in let e3 = then2 s x u.0 u.1 u.2 u.3 u.4 u.5 c.refill-l1.new.post.me.1 c.refill-l2.new.post.me c.refill-l1.new.post.me.0 e2 c.refill-l2.ensures.in_hand in (s.l3, next3 s x u.0 u.1 u.2 u.3 u.4 u.5 c.refill-l2.new.post.me.1 e3)
+refill-l3-requires-clause-found g c = let t = c.requires.in_hand in (t.0.l3, rw (c.refill-l2.ensures.in_hand, c.refill-l1.ensures.in_hand, c.refill-l0.ensures.in_hand, t.1.6) refl)
 
 pub refill-l4-requires-clause-found : goal.refill-l4-requires-clause-found
-refill-l4-requires-clause-found g c = let t = c.requires.in_hand in let s = t.0 in let u = t.1 in let x = c.args.firsts in let e0 = u.6 in let e1 = then0 s x u.0 u.1 u.2 u.3 u.4 u.5 c.args.post.now.me.1 c.refill-l0.new.post.me c.args.post.now.me.0 e0 c.refill-l0.ensures.in_hand in let e2 = then1 s x u.0 u.1 u.2 u.3 u.4 u.5 c.refill-l0.new.post.me.1 c.refill-l1.new.post.me c.refill-l0.new.post.me.0 e1 c.refill-l1.ensures.in_hand in let e3 = then2 s x u.0 u.1 u.2 u.3 u.4 u.5 c.refill-l1.new.post.me.1 c.refill-l2.new.post.me c.refill-l1.new.post.me.0 e2 c.refill-l2.ensures.in_hand in let e4 = then3 s x u.0 u.1 u.2 u.3 u.4 u.5 c.refill-l2.new.post.me.1 c.refill-l3.new.post.me c.refill-l2.new.post.me.0 e3 c.refill-l3.ensures.in_hand in (s.l4, next4 s x u.0 u.1 u.2 u.3 u.4 u.5 c.refill-l3.new.post.me.1 e4)
+refill-l4-requires-clause-found g c = let t = c.requires.in_hand in (t.0.l4, rw (c.refill-l3.ensures.in_hand, c.refill-l2.ensures.in_hand, c.refill-l1.ensures.in_hand, c.refill-l0.ensures.in_hand, t.1.6) refl)
 
 pub refill-l5-requires-clause-found : goal.refill-l5-requires-clause-found
-refill-l5-requires-clause-found g c = let t = c.requires.in_hand in let s = t.0 in let u = t.1 in let x = c.args.firsts in let e0 = u.6 in let e1 = then0 s x u.0 u.1 u.2 u.3 u.4 u.5 c.args.post.now.me.1 c.refill-l0.new.post.me c.args.post.now.me.0 e0 c.refill-l0.ensures.in_hand in let e2 = then1 s x u.0 u.1 u.2 u.3 u.4 u.5 c.refill-l0.new.post.me.1 c.refill-l1.new.post.me c.refill-l0.new.post.me.0 e1 c.refill-l1.ensures.in_hand in let e3 = then2 s x u.0 u.1 u.2 u.3 u.4 u.5 c.refill-l1.new.post.me.1 c.refill-l2.new.post.me c.refill-l1.new.post.me.0 e2 c.refill-l2.ensures.in_hand in let e4 = then3 s x u.0 u.1 u.2 u.3 u.4 u.5 c.refill-l2.new.post.me.1 c.refill-l3.new.post.me c.refill-l2.new.post.me.0 e3 c.refill-l3.ensures.in_hand in let e5 = then4 s x u.0 u.1 u.2 u.3 u.4 u.5 c.refill-l3.new.post.me.1 c.refill-l4.new.post.me c.refill-l3.new.post.me.0 e4 c.refill-l4.ensures.in_hand in (s.l5, next5 s x u.0 u.1 u.2 u.3 u.4 u.5 c.refill-l4.new.post.me.1 e5)
+refill-l5-requires-clause-found g c = let t = c.requires.in_hand in (t.0.l5, rw (c.refill-l4.ensures.in_hand, c.refill-l3.ensures.in_hand, c.refill-l2.ensures.in_hand, c.refill-l1.ensures.in_hand, c.refill-l0.ensures.in_hand, t.1.6) refl)
 
 pub returns-clause-values : goal.returns-clause-values
-returns-clause-values g c = let t = c.requires.in_hand in let s = t.0 in let u = t.1 in let x = c.args.firsts in let e0 = u.6 in let e1 = then0 s x u.0 u.1 u.2 u.3 u.4 u.5 c.args.post.now.me.1 c.refill-l0.new.post.me c.args.post.now.me.0 e0 c.refill-l0.ensures.in_hand in let e2 = then1 s x u.0 u.1 u.2 u.3 u.4 u.5 c.refill-l0.new.post.me.1 c.refill-l1.new.post.me c.refill-l0.new.post.me.0 e1 c.refill-l1.ensures.in_hand in let e3 = then2 s x u.0 u.1 u.2 u.3 u.4 u.5 c.refill-l1.new.post.me.1 c.refill-l2.new.post.me c.refill-l1.new.post.me.0 e2 c.refill-l2.ensures.in_hand in let e4 = then3 s x u.0 u.1 u.2 u.3 u.4 u.5 c.refill-l2.new.post.me.1 c.refill-l3.new.post.me c.refill-l2.new.post.me.0 e3 c.refill-l3.ensures.in_hand in let e5 = then4 s x u.0 u.1 u.2 u.3 u.4 u.5 c.refill-l3.new.post.me.1 c.refill-l4.new.post.me c.refill-l3.new.post.me.0 e4 c.refill-l4.ensures.in_hand in let r0 = found0 s x u.0 u.1 u.2 u.3 u.4 u.5 c.args.post.now.me.1 c.refill-l0.result e0 c.refill-l0.ensures.value in let r1 = found1 s x u.0 u.1 u.2 u.3 u.4 u.5 c.refill-l0.new.post.me.1 c.refill-l1.result e1 c.refill-l1.ensures.value in let r2 = found2 s x u.0 u.1 u.2 u.3 u.4 u.5 c.refill-l1.new.post.me.1 c.refill-l2.result e2 c.refill-l2.ensures.value in let r3 = found3 s x u.0 u.1 u.2 u.3 u.4 u.5 c.refill-l2.new.post.me.1 c.refill-l3.result e3 c.refill-l3.ensures.value in let r4 = found4 s x u.0 u.1 u.2 u.3 u.4 u.5 c.refill-l3.new.post.me.1 c.refill-l4.result e4 c.refill-l4.ensures.value in let r5 = found5 s x u.0 u.1 u.2 u.3 u.4 u.5 c.refill-l4.new.post.me.1 c.refill-l5.result e5 c.refill-l5.ensures.value in (u.0, u.1, u.2, u.3, u.4, u.5, e0 ∙ (λ q. numbered 0 (u.0 ∷ r0 q ∷ u.1 ∷ r1 q ∷ u.2 ∷ r2 q ∷ u.3 ∷ r3 q ∷ u.4 ∷ r4 q ∷ u.5 ∷ r5 q ∷ [])))
+returns-clause-values g c =
+    let t = c.requires.in_hand in let s = t.0 in let u = t.1 in let x = c.args.firsts in
+    let r0 = same_value 0 x.l0 s.l0 c.refill-l0.result c.args.post.now.me.1 (rw t.1.6 refl) c.refill-l0.ensures.value in
+    let r1 = same_value 1 x.l1 s.l1 c.refill-l1.result c.refill-l0.new.post.me.1 (rw (c.refill-l0.ensures.in_hand, t.1.6) refl) c.refill-l1.ensures.value in
+    let r2 = same_value 2 x.l2 s.l2 c.refill-l2.result c.refill-l1.new.post.me.1 (rw (c.refill-l1.ensures.in_hand, c.refill-l0.ensures.in_hand, t.1.6) refl) c.refill-l2.ensures.value in
+    let r3 = same_value 3 x.l3 s.l3 c.refill-l3.result c.refill-l2.new.post.me.1 (rw (c.refill-l2.ensures.in_hand, c.refill-l1.ensures.in_hand, c.refill-l0.ensures.in_hand, t.1.6) refl) c.refill-l3.ensures.value in
+    let r4 = same_value 4 x.l4 s.l4 c.refill-l4.result c.refill-l3.new.post.me.1 (rw (c.refill-l3.ensures.in_hand, c.refill-l2.ensures.in_hand, c.refill-l1.ensures.in_hand, c.refill-l0.ensures.in_hand, t.1.6) refl) c.refill-l4.ensures.value in
+    let r5 = same_value 5 x.l5 s.l5 c.refill-l5.result c.refill-l4.new.post.me.1 (rw (c.refill-l4.ensures.in_hand, c.refill-l3.ensures.in_hand, c.refill-l2.ensures.in_hand, c.refill-l1.ensures.in_hand, c.refill-l0.ensures.in_hand, t.1.6) refl) c.refill-l5.ensures.value in
+    (u.0, u.1, u.2, u.3, u.4, u.5, u.6 ∙ (λ q. numbered 0 (u.0 ∷ r0 q ∷ u.1 ∷ r1 q ∷ u.2 ∷ r2 q ∷ u.3 ∷ r3 q ∷ u.4 ∷ r4 q ∷ u.5 ∷ r5 q ∷ [])))
