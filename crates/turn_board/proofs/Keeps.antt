@@ -3,14 +3,14 @@ use Rattle.std.proofs.Common.{◌≡◌, ℕ, ◌+◌, ◌<◌, ◌≤◌, ◌�
 use mathlib.Core.Bool.{false≢true}
 use mathlib.Core.Logic.{dite}
 use native.Mathlib.Decide.{ℕ_discrete, dec_le}
-use mathlib.Core.Option.{some}
+use mathlib.Core.Option.{some, some-ne-none}
 use lib.ListN.{get_elem?}
 use Rattle.atomic_table.proofs.Lists.{at_set, at_snoc}
 use Rattle.turn_board.specs.Tickets.{times, SeatState, BoardState, IsUnfinished, GoodSeat, Good, is_due, drew, saw, did, change}
 use Rattle.turn_board.specs.Tickets.Event.{Draw, SeeOpen, Finish, Open, Close, SeeDone}
 use Rattle.turn_board.specs.Laws.{EventsKeepGood}
 use Rattle.turn_board.specs.Rule.{fresh}
-use Rattle.turn_board.proofs.Sums.{change-set, total-set, total-snoc, one_below, at_same, at_other, below_next, times-snoc, length-snoc}
+use Rattle.turn_board.proofs.Sums.{change-set, total-set, total-snoc, one_below, at_same, at_other, below_no, below_next, times-snoc, length-snoc}
 use Rattle.turn_board.proofs.Follows.{done_opened, all_finished}
 
 -- the board, with another state of the seat i
@@ -143,6 +143,18 @@ good_fresh = record {
   finished_seen = λ n h. absurd (omega arith);
   seen_opened = omega arith;
   holding_due = λ holds. absurd (false≢true holds);
+}
+
+-- a new board
+pub no_seats : Good (record { ticket = 0; opened = 0; done = 0; closed = false; known = 0; polls = 0; seats = [] })
+no_seats = record {
+  drawn_once = λ n. sym (below_no 0 n (omega arith));
+  each_seat = λ i s at. absurd (some-ne-none s (sym at));
+  done_finished = refl;
+  known_done = omega arith;
+  by_sixes = refl;
+  opened_fits = omega arith;
+  earlier_finished = λ n h. absurd (omega arith);
 }
 
 -- a new seat, which has done nothing

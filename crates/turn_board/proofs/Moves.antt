@@ -9,7 +9,7 @@ use Rattle.atomic_table.specs.Table.{State, Act, keeps, takes, gives, chain, Val
 use Rattle.atomic_table.proofs.Lists.{set_here, set_else, at_longer}
 use Rattle.turn_board.specs.Tickets.{times, SeatState, BoardState, master_of, IsUnfinished, IsFree, Good, is_due, drew, saw, did, change, Event, IsLegal, after}
 use Rattle.turn_board.specs.Tickets.Event.{Draw, SeeOpen, Finish, Open, Close, SeeDone}
-use Rattle.turn_board.specs.Slots.{MasterHolds, HoldsLane, IsOut, IsLast, IsJob, IsFound, numbered, FitsFirst, FitsSecond, Stocked}
+use Rattle.turn_board.specs.Slots.{MasterHolds, HoldsLane, IsOut, IsLast, IsJob, IsFound, numbered, FitsFirst, Stocked}
 use Rattle.turn_board.specs.Slots as slots
 use Rattle.turn_board.specs.Rule.{fresh, open_word, seat_view, master_view, first_view, Ruled}
 use Rattle.turn_board.specs.Plays.{Sat, laden, Gains, Brings, BringsJobs, drawn, looked, finished, opened, closed, polled, one_more}
@@ -17,12 +17,12 @@ use Rattle.turn_board.specs.Kinds.{OfSeat, OfMaster}
 use Rattle.turn_board.specs.declared.slot.Slot.{Slot}
 use Rattle.turn_board.specs.declared.slot.Slot.TheVariants.{Empty, Job, Found}
 use Rattle.turn_board.specs.declared.view.View.{View}
-use Rattle.turn_board.proofs.Sums.{change-set, length-snoc, total-snoc, times-snoc, at_same, at_other, below_no}
+use Rattle.turn_board.proofs.Sums.{change-set, length-snoc, total-snoc, times-snoc, at_same, at_other}
 use Rattle.turn_board.proofs.Bits.{close_sets}
 use Rattle.turn_board.proofs.Taking.{grab, release, AllHome, put_all, grab_valid, put_home}
 use Rattle.turn_board.proofs.Stock.{six, still_stocked, still_out, index_below, finishes-reseat, finished_opened, one_last, none_holding_done, unfinished_last, lane_home}
 use Rattle.turn_board.proofs.Follows.{tickets_bounded, done_opened, all_finished, unfinished_nowhere, held_last}
-use Rattle.turn_board.proofs.Keeps.{due_below, or_right, reseat, with_seats, draw_keeps, see_keeps, finish_keeps, open_keeps, close_keeps, gather_keeps, sit_keeps}
+use Rattle.turn_board.proofs.Keeps.{no_seats, due_below, or_right, reseat, with_seats, draw_keeps, see_keeps, finish_keeps, open_keeps, close_keeps, gather_keeps, sit_keeps}
 
 module _ {A : Type 0} where
   change_here : (f : A → A) (l : List A) (i : ℕ) (a : A) → get_elem? l i ≡ some a → get_elem? (change f i l) i ≡ some (f a)
@@ -500,15 +500,7 @@ module _ {J R W : Type 0} (job_fits : W → ℕ → J → Type 0) (found_fits : 
       } in
       subst (λ (xs : List (Slot J R)). Rule (opening words xs (first_view key))) (sym empties) record {
         board = b;
-        good = record {
-          drawn_once = λ y. sym (below_no 0 y (omega arith));
-          each_seat = λ i u at. absurd (some-ne-none u (sym at));
-          done_finished = refl;
-          known_done = omega arith;
-          by_sixes = refl;
-          opened_fits = omega arith;
-          earlier_finished = λ y h. absurd (omega arith);
-        };
+        good = no_seats;
         few = omega arith;
         words = zeros;
         views = refl;

@@ -1,5 +1,5 @@
 -- The master refills one lane after the other.
-use Rattle.std.proofs.Common.{◌≡◌, ℕ, ◌+◌, ◌*◌, List, [], ◌∷◌, get_or, sym, refl, ap, ◌∙◌, subst}
+use Rattle.std.proofs.Common.{◌≡◌, ℕ, ◌+◌, ◌*◌, List, ◌∷◌, get_or, sym, refl, ap, ◌∙◌, subst}
 use Rattle.atomic_table.specs.Table.{rest, turned}
 use Rattle.turn_board.specs.Plays.{Sat, BringsJobs, Collects}
 use Rattle.turn_board.specs.Answers.{EachLane}

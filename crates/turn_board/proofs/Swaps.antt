@@ -1,5 +1,5 @@
 -- A seat exchanges the value of a slot that it holds.
-use Rattle.std.proofs.Common.{◌≡◌, ℕ, ◌+◌, ◌*◌, ◌%◌, List, [], ◌∷◌, true, sym, refl, ap, ◌∙◌, subst, get_or, arith}
+use Rattle.std.proofs.Common.{◌≡◌, ℕ, ◌%◌, List, [], ◌∷◌, true, sym, refl, ap, ◌∙◌, subst, get_or, arith}
 use Rattle.std.specs.Prelude.{IsSome}
 use mathlib.Core.Bool.{false≢true}
 use Rattle.atomic_table.specs.Table.{rest, turned}
