@@ -1,6 +1,6 @@
 -- The events and the counts along the positions of a run.
-use Rattle.std.proofs.Common.{◌≡◌, ℕ, zero, suc, ◌+◌, ◌-◌, ◌*◌, ◌≤◌, ◌&&◌, Bool, true, false, not, nat_eq, if◌then◌else◌, inl, inr, [], ◌++◌, Option, Some, None, refl, ap, sym, ◌∙◌, subst, arith, append_assoc}
-use Rattle.std.proofs.lemmas.Bool.Decides.{eqb_tells}
+use Rattle.std.proofs.Common.{◌≡◌, ℕ, zero, suc, ◌+◌, ◌-◌, ◌*◌, ◌≤◌, ◌&&◌, Bool, true, false, not, if◌then◌else◌, [], ◌++◌, Option, Some, None, refl, ap, sym, ◌∙◌, subst, arith, append_assoc}
+use Rattle.std.proofs.Math.Dec.{eqb-suc-zero}
 use Rattle.rp_base.specs.declared.Why.{Why}
 use Rattle.outer_lane.specs.Setting.{Setting}
 use Rattle.bus_fabric.specs.State.{has_hold}
@@ -78,29 +78,23 @@ pub record IsCounted (w : Setting) (from : ℕ) (p : Position) : Type 0 where
   pub windows : p.windows + from ≤ p.state.cycle + one_if p.after_empty
   pub goes : p.after_empty ≡ true → stop w p.state ≡ None
 
-not_tried : (a b : Bool) → (not a && b) ≡ true → a ≡ false
+pub not_tried : (a b : Bool) → (not a && b) ≡ true → a ≡ false
 not_tried true b e = absurd (cc e)
 not_tried false b e = refl
 
-no_cycle : (w : Setting) (s : State) → states w s zero ≡ s
+pub no_cycles : (w : Setting) (s : State) → states w s zero ≡ s
 unfolding states
-no_cycle w s = refl
-
-not_zero : (n : ℕ) → nat_eq (suc n) 0 ≡ false
-not_zero n = elim (eqb_tells (suc n) 0) [
-  | inl h ↦ absurd (let none : suc n ≡ 0 = h.1 in omega arith)
-  | inr h ↦ h.0
-]
+no_cycles w s = refl
 
 counted_window : (w : Setting) (from n : ℕ) (p : Position) → p.after_empty ≡ false → stop w p.state ≡ None → p.state.cycle ≤ w.limit → IsCounted w from p → IsCounted w from (by_window w n p)
 counted_window w from zero p here runs le c =
     let few : p.windows + from ≤ p.state.cycle + one_if false = subst (λ b. p.windows + from ≤ p.state.cycle + one_if b) here c.windows in
-    let same : (states w p.state zero).cycle ≡ p.state.cycle = ap (λ (t : State). t.cycle) (no_cycle w p.state) in
-    record { windows = omega (arith, few, same); goes = λ e. ap (stop w) (no_cycle w p.state) ∙ runs }
+    let same : (states w p.state zero).cycle ≡ p.state.cycle = ap (λ (t : State). t.cycle) (no_cycles w p.state) in
+    record { windows = omega (arith, few, same); goes = λ e. ap (stop w) (no_cycles w p.state) ∙ runs }
 counted_window w from (suc n) p here runs le c =
     let few : p.windows + from ≤ p.state.cycle + one_if false = subst (λ b. p.windows + from ≤ p.state.cycle + one_if b) here c.windows in
     let on = moves_on w p.state n runs le in
-    let some = not_zero n in
+    let some = eqb-suc-zero n in
     record { windows = omega (arith, few, on); goes = λ e. absurd (cc (e, some)) }
 
 one_at_most : (b : Bool) → one_if b ≤ 1

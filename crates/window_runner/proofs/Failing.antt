@@ -1,7 +1,6 @@
 -- Where a machine stands whose tape has failed.
-use Rattle.std.proofs.Common.{◌≡◌, ℕ, zero, suc, ◌+◌, ◌≤◌, Bool, true, false, if◌then◌else◌, List, ◌++◌, None, refl, ap, sym, ◌∙◌, subst, arith}
+use Rattle.std.proofs.Common.{◌≡◌, ℕ, zero, ◌+◌, ◌≤◌, Bool, true, false, if◌then◌else◌, List, ◌++◌, None, refl, ap, sym, ◌∙◌, subst, arith}
 use Rattle.std.proofs.lemmas.List.{append-nil, append_cancel_right}
-use Rattle.lane_look.specs.Alone.{first_from, least}
 use Rattle.outer_lane.specs.Setting.{Setting}
 use Rattle.trace_text.specs.declared.event.Event.{Event as Shown}
 use Rattle.trace_text.specs.Tape.{FailsAmong}
@@ -11,6 +10,7 @@ use Rattle.rp_machine.specs.Events.{Event, events}
 use Rattle.rp_machine.specs.Run.{states, events_in, all_events}
 use Rattle.rp_machine.proofs.Runs.{events_more}
 use Rattle.window_merge.specs.Window.{Position, longest, closes, is_tried, by_window, by_cycle, next_position, window_length}
+use Rattle.window_merge.proofs.Meeting.{least_meets}
 use Rattle.window_merge.proofs.Windows.{at_most}
 use Rattle.window_runner.specs.Told.{all_shown, step_events, run_shown}
 use Rattle.window_runner.specs.Alone.{FailsWithin}
@@ -56,18 +56,9 @@ fails_in_cycle took missed a b c f g w first s t le way taken runs same fails =
 
 -- ---- at one of a step
 
-first_by : (from more rest : ℕ) (b : Bool) → rest ≤ from + more → (if b then from else rest) ≤ from + more
-first_by from more rest true le = omega arith
-first_by from more rest false le = le
-
-first_below : (test : ℕ → Bool) (from count : ℕ) → first_from test from count ≤ from + count
-first_below test from zero = omega arith
-first_below test from (suc count) =
-    first_by from (suc count) (first_from test (suc from) count) (test from) (let low = first_below test (suc from) count in omega (arith, low))
-
 few_in_window : (w : Setting) (s : State) → window_length w s ≤ 256
-unfolding window_length least
-few_in_window w s = let low = first_below (closes w s) 0 (longest w s) in let most = at_most w s in omega (arith, low, most)
+unfolding window_length
+few_in_window w s = let low = (least_meets (closes w s) (longest w s)).within in let most = at_most w s in omega (arith, low, most)
 
 -- a step has so many cycles
 abbrev HasCycles : Setting → Position → Position → List Event → Type 0

@@ -1,15 +1,15 @@
 -- Where a window may be committed, each of its numbers was finished once, and brought what came with it.
 use Rattle.std.proofs.Common.{◌≡◌, ℕ, zero, suc, ◌+◌, ◌*◌, List, [], ◌∷◌, ◌++◌, Option, replicate, refl, ap, sym, ◌∙◌, subst, arith}
-use mathlib.Core.Option.{some, some-ne-none}
+use mathlib.Core.Option.{some}
 use lib.ListN.{get_elem?}
 use Rattle.outer_lane.specs.Setting.{Setting}
 use Rattle.rp_machine.specs.State.{State}
 use Rattle.turn_board.specs.Tickets.{total, times, change, SeatState, Good, drew, saw, did}
 use Rattle.turn_board.specs.Tickets.Event.{Draw as DrawOn, SeeOpen as SeeOpenOn, Finish as FinishOn, Open as OpenOn, Close as CloseOn, SeeDone as SeeDoneOn}
 use Rattle.turn_board.specs.Rule.{fresh}
-use Rattle.turn_board.proofs.Sums.{change-set, total-set, times-snoc, one_at, below_no}
+use Rattle.turn_board.proofs.Sums.{change-set, total-set, times-snoc, one_at}
 use Rattle.turn_board.proofs.Follows.{finishes, done_opened, all_finished}
-use Rattle.turn_board.proofs.Keeps.{events_keep_good, sit_keeps}
+use Rattle.turn_board.proofs.Keeps.{no_seats, events_keep_good, sit_keeps}
 use Rattle.window_runner.specs.Reports.{OneReport}
 use Rattle.window_runner.specs.Orders.{RunState, new_board, beginning, Event, IsLegal, Happens, Goes, numbers_in, EachCameOnce}
 use Rattle.window_runner.specs.Orders.Event.{Draw, SeeOpen, Finish, Open, Close, SeeDone, Commit, Pass}
@@ -19,17 +19,6 @@ use Rattle.window_runner.specs.Orders.Event.{Draw, SeeOpen, Finish, Open, Close,
 seat_more : (n : ℕ) → replicate n fresh ++ fresh ∷ [] ≡ replicate (suc n) fresh
 seat_more zero = refl
 seat_more (suc n) = ap (λ (l : List SeatState). fresh ∷ l) (seat_more n)
-
-no_seats : Good (new_board 0)
-no_seats = record {
-  drawn_once = λ n. sym (below_no 0 n (omega arith));
-  each_seat = λ i s at. absurd (some-ne-none s (sym at));
-  done_finished = refl;
-  known_done = omega arith;
-  by_sixes = refl;
-  opened_fits = omega arith;
-  earlier_finished = λ n h. absurd (omega arith);
-}
 
 good_first : (seats : ℕ) → Good (new_board seats)
 good_first zero = no_seats

@@ -16,3 +16,4 @@ pub mod Standing
 pub mod Stepping
 pub mod Taking
 pub mod Telling
+pub mod Underway

@@ -10,6 +10,7 @@ use Rattle.rp_machine.specs.Run.{states, events_in}
 use Rattle.rp_machine.proofs.Runs.{states_here, states_on, events_more, next_cycle}
 use Rattle.window_merge.specs.Merging.{marks_in}
 use Rattle.window_runner.specs.Told.{events_by}
+use Rattle.window_runner.proofs.Along.{no_cycles}
 use Rattle.window_runner.proofs.Pads.{next_levels}
 
 pub marks_count : (w : Setting) (s : State) (n : ℕ) → length (marks_in w s n) ≡ n
@@ -20,10 +21,6 @@ marks_count w s (suc n) = length-append (marks_in w s n) (mark w (states w s n) 
 marks_more : (w : Setting) (s : State) (n : ℕ) → marks_in w s (suc n) ≡ marks_in w s n ++ mark w (states w s n) ∷ []
 unfolding marks_in
 marks_more w s n = refl
-
-no_cycles : (w : Setting) (s : State) → states w s zero ≡ s
-unfolding states
-no_cycles w s = refl
 
 no_marks : (w : Setting) (s : State) → marks_in w s zero ≡ []
 unfolding marks_in

@@ -5,12 +5,10 @@ use Rattle.outer_lane.specs.Setting.{Setting}
 use Rattle.bus_fabric.specs.State.{has_hold}
 use Rattle.rp_machine.specs.State.{State}
 use Rattle.rp_machine.specs.Cycle.{stop}
-use Rattle.rp_machine.specs.Run.{states}
 use Rattle.turn_board.specs.Tickets as board
 use Rattle.turn_board.specs.Tickets.Event.{Draw as DrawOn, SeeOpen as SeeOpenOn, Finish as FinishOn, Close as CloseOn, SeeDone as SeeDoneOn}
-use Rattle.window_merge.specs.Window.{Position, first_position, is_tried, next_position, window_length}
+use Rattle.window_merge.specs.Window.{Position, first_position, is_tried, by_window, next_position, window_length}
 use Rattle.window_runner.specs.Reports.{OneReport, IsTrueOrNone, SixReports, AreTaken}
-use Rattle.window_runner.specs.Merge.{merged, merged_length}
 use Rattle.window_runner.specs.Orders.{RunState, Begins, beginning, Event, found_of, IsLegal, GoesOver, next_tried, by_merge, on_board, Happens, Goes, window_start, commits_in, passed_in, AnyOrder}
 use Rattle.window_runner.specs.Orders.Event.{Draw, SeeOpen, Finish, Open, Close, SeeDone, Commit, Pass}
 use Rattle.window_runner.proofs.Taking.{all_alone}
@@ -70,11 +68,6 @@ free_by true b e = absurd (cc e)
 free_by false true e = absurd (cc e)
 free_by false false e = refl
 
-merged_position : (p : Position) (t t' : State) (n n' : ℕ) → t ≡ t' → n ≡ n'
-    → (let q : Position = record { state = t; windows = p.windows + 1; cycles = p.cycles + n; after_empty = n == 0 } in q)
-    ≡ record { state = t'; windows = p.windows + 1; cycles = p.cycles + n'; after_empty = n' == 0 }
-merged_position p t t' n n' e_state e_length = rw (e_state, e_length) refl
-
 -- over the window that is tried at a position
 over_one : (w : Setting) (s : State) (m : ℕ) (p : Position) → Ready w s m p → stop w p.state ≡ None → Ready w s (m + 1) (next_tried w (next_position w p))
 over_one w s m p h runs =
@@ -94,10 +87,8 @@ commit_ready w s m r six h runs taken =
       knows = h.ready.standing.knows;
       alone = alone;
     }) in
-    let same : by_merge w six p ≡ next_position w p =
-    merged_position p (merged w six p.state) (states w p.state (window_length w p.state)) (merged_length w six p.state) (window_length w p.state)
-    window.state window.length ∙ sym (window_on w p tried) in
-    subst (λ (q : Position). Ready w s (m + 1) (next_tried w q)) (sym same) (over_one w s m p h.ready runs)
+    let same : by_merge w six p ≡ by_window w (window_length w p.state) p = rw (window.state, window.length) refl in
+    subst (λ (q : Position). Ready w s (m + 1) (next_tried w q)) (sym (same ∙ sym (window_on w p tried))) (over_one w s m p h.ready runs)
 
 -- ---- windows that are passed over
 

@@ -11,9 +11,10 @@ use Rattle.rp_machine.proofs.Joining.{join}
 use Rattle.rp_machine.proofs.Runs.{states_on, events_more, step_nearer}
 use Rattle.window_merge.proofs.Positions.{along_states}
 use Rattle.window_runner.specs.Told.{all_shown, run_shown}
+use Rattle.window_runner.proofs.Along.{no_cycles}
 use Rattle.window_runner.proofs.Cycling.{OnItsWay}
-use Rattle.window_runner.proofs.Reaching.{no_cycles, then_on}
-use Rattle.window_runner.proofs.Telling.{TakenBefore, taken_same}
+use Rattle.window_runner.proofs.Reaching.{then_on}
+use Rattle.window_runner.proofs.Telling.{taken_same}
 
 no_events_in : (w : Setting) (s : State) (n : ℕ) → ((k : ℕ) → k < n → stop w (states w s k) ≡ None) → ((k : ℕ) → k < n → events w (states w s k) ≡ [])
     → events_in w s n ≡ []
@@ -42,15 +43,9 @@ shown_over w s t n le state h =
     ∙ ap (λ (es : List Event). es ++ events_in w (states w s n) (w.limit - t.cycle)) (no_events_in w s n h.goes h.silent)
     ∙ ap (λ (u : State). events_in w u (w.limit - t.cycle)) (sym state))
 
-pub taken_over : {T : Type 0} (took : T → List Shown → T → Type 0) (a b : T) (f g : ℕ) (w : Setting) (first s t : State) (n : ℕ) → s.cycle ≤ w.limit
-    → TakenBefore took a b f g (run_shown w first) (run_shown w s) → t ≡ states w s n → IsQuiet w s n
-    → TakenBefore took a b f g (run_shown w first) (run_shown w t)
-taken_over took a b f g w first s t n le taken state h =
-    taken_same took a b f g (run_shown w first) (run_shown w s) (run_shown w t) taken (shown_over w s t n le state h)
-
-pub way_over : (w : Setting) (first s t : State) (before now after n : ℕ) → OnItsWay w first s before now → t ≡ states w s n → IsQuiet w s n → after ≡ now + n
-    → OnItsWay w first t before after
-way_over w first s t before now after n r state h count =
+pub way_over : {T : Type 0} {took : T → List Shown → T → Type 0} {a b : T} {f g : ℕ} {w : Setting} {first s : State} {before now : ℕ} (t : State) (after n : ℕ) → OnItsWay took a b f g w first s before now
+    → t ≡ states w s n → IsQuiet w s n → after ≡ now + n → OnItsWay took a b f g w first t before after
+way_over {T} {took} {a} {b} {f} {g} {w} {first} {s} {before} {now} t after n r state h count =
     let along = along_states w s n r.within in
     let number = number_over w s t n state h in
     let forward = r.forward in
@@ -61,6 +56,7 @@ way_over w first s t before now after n r state h count =
       way = then_on w first s t r.way (record { count = n; state = state });
       last = ap (last_state w) state ∙ along.last ∙ r.last;
       steps = omega (arith, so_far, number, count);
+      taken = taken_same took a b f g (run_shown w first) (run_shown w s) (run_shown w t) r.taken (shown_over w s t n r.within state h);
     }
 
 -- behind a cycle they bring the run nearer to its end

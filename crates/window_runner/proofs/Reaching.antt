@@ -1,5 +1,5 @@
 -- A run on its way, from one of its positions to the next, up to its stop.
-use Rattle.std.proofs.Common.{◌≡◌, ℕ, zero, suc, ◌+◌, ◌-◌, ◌*◌, ◌<◌, ◌≤◌, Bool, true, false, if◌then◌else◌, List, [], ◌++◌, Option, Some, None, Ok, Err, refl, ap, sym, ◌∙◌, subst, arith}
+use Rattle.std.proofs.Common.{◌≡◌, ℕ, zero, suc, ◌+◌, ◌-◌, ◌*◌, ◌<◌, ◌≤◌, Bool, true, false, if◌then◌else◌, List, [], ◌++◌, Option, Some, None, Ok, refl, ap, sym, ◌∙◌, subst, arith}
 use Rattle.rp_base.specs.declared.Why.{Why}
 use Rattle.outer_lane.specs.Setting.{Setting}
 use Rattle.trace_text.specs.declared.event.Event.{Event as Shown}
@@ -8,16 +8,15 @@ use Rattle.rp_machine.specs.State.{State}
 use Rattle.rp_machine.specs.Cycle.{stop, next}
 use Rattle.rp_machine.specs.Run.{states, last_state, all_events, unless_stopped}
 use Rattle.rp_machine.proofs.Joining.{join}
-use Rattle.rp_machine.proofs.Runs.{events_here, last_here, states_here, states_on, next_cycle}
+use Rattle.rp_machine.proofs.Runs.{events_here, states_here, states_on, next_cycle}
 use Rattle.window_merge.specs.Window.{Position, first_position, is_tried, by_window, by_cycle, next_position, positions, last_position, window_length}
 use Rattle.window_merge.proofs.Positions.{left_of, nearer}
-use Rattle.window_runner.specs.declared.alone.Ran.{Ran}
 use Rattle.window_runner.specs.Told.{all_shown, step_events, run_shown}
-use Rattle.window_runner.specs.Alone.{IsRan, IsOnRun}
-use Rattle.window_runner.proofs.Along.{IsCounted, counted_first, counted_next, step_then}
+use Rattle.window_runner.specs.Alone.{IsOnRun}
+use Rattle.window_runner.proofs.Along.{IsCounted, counted_first, counted_next, no_cycles, step_then}
 use Rattle.window_runner.proofs.CycleEvents.{shown_both}
 use Rattle.window_runner.proofs.Standing.{at_step, step_here, stays}
-use Rattle.window_runner.proofs.Telling.{TakesInTurn, TakenBefore, taken_same, taken_more, taken_last, taken_part}
+use Rattle.window_runner.proofs.Telling.{TakesInTurn, TakenBefore, taken_same, taken_last}
 
 -- so many cycles on
 pub record GoesOn (w : Setting) (s t : State) : Type 0 where
@@ -50,10 +49,6 @@ reached_first w s le =
     }
 
 -- ---- from one position to the next
-
-pub no_cycles : (w : Setting) (s : State) → states w s zero ≡ s
-unfolding states
-no_cycles w s = refl
 
 pub one_cycle : (w : Setting) (s : State) → stop w s ≡ None → states w s 1 ≡ next w s
 one_cycle w s runs = states_on w s zero runs ∙ no_cycles w (next w s)
@@ -143,27 +138,6 @@ is_on_run w first p r = record {
   state = own_number w first p.state r.way;
 }
 
--- ---- with what was counted
-
-pub record Running (w : Setting) (first : State) (p : Position) (before now : ℕ) : Type 0 where
-  pub reached : Reached w first p
-  pub cycles : p.cycles + first.cycle ≤ p.state.cycle
-  pub steps : now + first.cycle ≡ before + p.state.cycle
-
-pub running_first : (w : Setting) (s : State) (steps : ℕ) → s.cycle ≤ w.limit → Running w s (first_position s) steps steps
-running_first w s steps le = record { reached = reached_first w s le; cycles = omega arith; steps = refl }
-
-pub running_on : (w : Setting) (first : State) (p q : Position) (before now after : ℕ) → Running w first p before now → stop w p.state ≡ None → q ≡ next_position w p
-    → q.cycles + p.state.cycle ≤ p.cycles + q.state.cycle → after + p.state.cycle ≡ now + q.state.cycle → Running w first q before after
-running_on w first p q before now after r runs same cycles steps =
-    let so_far = r.cycles in
-    let counted = r.steps in
-    record {
-      reached = reached_on w first p q r.reached runs same;
-      cycles = omega (arith, cycles, so_far);
-      steps = omega (arith, steps, counted);
-    }
-
 -- ---- the stop
 
 pub reached_last : (w : Setting) (first : State) (p : Position) (why : Why) → Reached w first p → stop w p.state ≡ Some why → last_position w first ≡ p
@@ -175,58 +149,16 @@ reached_last w first p why r e =
     let stopped = subst (λ (q : Position). stop w q.state ≡ Some why) r.here e in
     ap (at_step w first) (sym sum) ∙ stays w first r.number (bound - r.number) why stopped ∙ sym r.here
 
-pub reached_ran : (w : Setting) (first : State) (p q : Position) (why : Why) (ran : Ran) → Reached w first p → stop w p.state ≡ Some why → q ≡ p
-    → ran.why ≡ why → ran.windows ≡ q.windows → ran.cycles ≡ q.cycles → IsRan w first ran
-reached_ran w first p q why ran r e same cause windows cycles =
-    let last = reached_last w first p why r e in
-    let at : last_state w first ≡ p.state = sym r.last ∙ last_here w p.state why e in
-    record {
-      why = ap (stop w) at ∙ e ∙ ap Some (sym cause);
-      windows = windows ∙ ap (λ (x : Position). x.windows) (same ∙ sym last);
-      cycles = cycles ∙ ap (λ (x : Position). x.cycles) (same ∙ sym last);
-    }
-
-pub reached_state : (w : Setting) (first : State) (p q : Position) (why : Why) → Reached w first p → stop w p.state ≡ Some why → q ≡ p → q.state ≡ last_state w first
-reached_state w first p q why r e same =
-    ap (λ (x : Position). x.state) same ∙ sym (last_here w p.state why e) ∙ r.last
-
-pub reached_same : (w : Setting) (first : State) (p q : Position) → Reached w first p → q ≡ p → Reached w first q
-reached_same w first p q r same = subst (Reached w first) (sym same) r
-
 -- ---- the events
 
-shown_on : (w : Setting) (p : Position) → stop w p.state ≡ None → p.state.cycle ≤ w.limit
+pub shown_on : (w : Setting) (p : Position) → stop w p.state ≡ None → p.state.cycle ≤ w.limit
     → run_shown w p.state ≡ all_shown (step_events w p) ++ run_shown w (next_position w p).state
 shown_on w p runs le = ap all_shown (sym (step_then w p runs le)) ∙ shown_both (step_events w p) (all_events w (next_position w p).state)
 
 pub shown_here : (w : Setting) (s : State) (why : Why) → stop w s ≡ Some why → run_shown w s ≡ all_shown []
 shown_here w s why e = ap all_shown (events_here w s why e)
 
--- the events of one more step were taken
-pub taken_step : {T A E : Type 0} (took : T → List Shown → T → Type 0) (missed : T → Shown → T → Type 0) (a b c : T) (f g h : ℕ)
-    (w : Setting) (first : State) (p q : Position) (x : A) → TakesInTurn took → Reached w first p
-    → TakenBefore took a b f g (run_shown w first) (run_shown w p.state) → stop w p.state ≡ None → q ≡ next_position w p
-    → Tells {E = E} took missed b c g h (all_shown (step_events w p)) (Ok x)
-    → TakenBefore took a c f h (run_shown w first) (run_shown w q.state)
-taken_step took missed a b c f g h w first p q x turn r taken runs same told =
-    taken_more took a b c f g h (run_shown w first) (all_shown (step_events w p)) (run_shown w q.state) turn
-    (taken_same took a b f g (run_shown w first) (run_shown w p.state) (all_shown (step_events w p) ++ run_shown w q.state) taken
-    (shown_on w p runs r.within ∙ ap (λ (y : Position). all_shown (step_events w p) ++ run_shown w y.state) (sym same)))
-    told.ok told.count
-
--- or the tape failed there
-pub failed_step : {T A U E : Type 0} (took : T → List Shown → T → Type 0) (missed : T → Shown → T → Type 0) (a b c : T) (f g h : ℕ)
-    (w : Setting) (first : State) (p : Position) (e : E) → TakesInTurn took → Reached w first p
-    → TakenBefore took a b f g (run_shown w first) (run_shown w p.state) → stop w p.state ≡ None
-    → Tells {A = A} took missed b c g h (all_shown (step_events w p)) (Err e)
-    → Tells {A = U} took missed a c f h (run_shown w first) (Err e)
-failed_step {T} {A} {U} {E} took missed a b c f g h w first p e turn r taken runs told =
-    taken_part {A = A} took missed a b c f g h (run_shown w first) (all_shown (step_events w p)) (run_shown w (next_position w p).state) e turn
-    (taken_same took a b f g (run_shown w first) (run_shown w p.state) (all_shown (step_events w p) ++ run_shown w (next_position w p).state) taken
-    (shown_on w p runs r.within))
-    told
-
--- or there was no event left
+-- there was no event left
 pub taken_to_stop : {T A U E : Type 0} (took : T → List Shown → T → Type 0) (missed : T → Shown → T → Type 0) (a b c : T) (f g h : ℕ)
     (w : Setting) (first s : State) (why : Why) (x : A) (y : U) → TakesInTurn took
     → TakenBefore took a b f g (run_shown w first) (run_shown w s) → stop w s ≡ Some why

@@ -1,6 +1,7 @@
 -- The positions of a run, and the one at which a window is tried.
-use Rattle.std.proofs.Common.{◌≡◌, ◌≢◌, ℕ, zero, suc, ◌+◌, ◌-◌, ◌*◌, ◌<◌, ◌≤◌, ◌==◌, ◌&&◌, Bool, true, false, nat_eq, nat_le, if◌then◌else◌, inl, inr, ◌⊎◌, Option, Some, None, is_none, refl, ap, sym, ◌∙◌, subst, add-one, arith}
-use Rattle.std.proofs.lemmas.Bool.Decides.{eqb_tells, leb_tells}
+use Rattle.std.proofs.Common.{◌≡◌, ◌≢◌, ℕ, zero, suc, ◌+◌, ◌-◌, ◌*◌, ◌<◌, ◌≤◌, ◌==◌, ◌&&◌, Bool, true, false, nat_le, if◌then◌else◌, inl, inr, ◌⊎◌, Option, Some, None, is_none, refl, ap, sym, ◌∙◌, subst, add-one, arith}
+use Rattle.std.proofs.lemmas.Bool.{eq-eqb, le-leb, lt-leb}
+use Rattle.std.proofs.lemmas.Bool.Decides.{eqb_tells}
 use Rattle.lane_look.specs.Alone.{least}
 use Rattle.lane_look.proofs.Least.{is_least}
 use Rattle.rp_base.specs.declared.Why.{Why}
@@ -18,9 +19,6 @@ use Rattle.window_runner.specs.Orders.{begins_window, window_start, onward}
 
 -- ---- the lanes know what SIO holds
 
-knows_next : (w : Setting) (s : State) → KnowsSio (next w s)
-knows_next w s = sio_known.after_a_cycle w s
-
 unless_known : (cause : Option Why) (s t : State) → KnowsSio s → KnowsSio t → KnowsSio (unless_stopped cause s t)
 unless_known None s t a b = b
 unless_known (Some why) s t a b = a
@@ -28,12 +26,12 @@ unless_known (Some why) s t a b = a
 knows_states : (w : Setting) (s : State) (n : ℕ) → KnowsSio s → KnowsSio (states w s n)
 unfolding states
 knows_states w s zero h = h
-knows_states w s (suc n) h = unless_known (stop w s) s (states w (next w s) n) h (knows_states w (next w s) n (knows_next w s))
+knows_states w s (suc n) h = unless_known (stop w s) s (states w (next w s) n) h (knows_states w (next w s) n (sio_known.after_a_cycle w s))
 
 knows_by : (w : Setting) (p : Position) (tried : Bool) → KnowsSio p.state
     → KnowsSio (if tried then by_window w (window_length w p.state) p else by_cycle w p).state
 knows_by w p true h = knows_states w p.state (window_length w p.state) h
-knows_by w p false h = knows_next w p.state
+knows_by w p false h = sio_known.after_a_cycle w p.state
 
 knows_on : (w : Setting) (p : Position) → KnowsSio p.state → KnowsSio (next_position w p).state
 unfolding next_position
@@ -160,12 +158,6 @@ and_last true true c e = e
 and_last true false c e = refl
 and_last false b c e = refl
 
-equal : (x y : ℕ) → x ≡ y → nat_eq x y ≡ true
-equal x y e = elim (eqb_tells x y) [
-  | inl h ↦ h.0
-  | inr h ↦ let ne : x ≢ y = h.1 in absurd (omega arith)
-]
-
 not_tried : (w : Setting) (m : ℕ) (p : Position) → is_tried p.after_empty p.state ≡ false → begins_window w m p ≡ false
 not_tried w m p e = and_false (is_none (stop w p.state)) (is_tried p.after_empty p.state) (p.windows == m) e
 
@@ -174,19 +166,7 @@ other_window w m p ne = and_last (is_none (stop w p.state)) (is_tried p.after_em
 
 tried_here : (w : Setting) (m : ℕ) (p : Position) → stop w p.state ≡ None → is_tried p.after_empty p.state ≡ true → p.windows ≡ m
     → begins_window w m p ≡ true
-tried_here w m p runs tried count = rw (runs, tried, equal p.windows m count) refl
-
-is_le : (x y : ℕ) → x ≤ y → nat_le x y ≡ true
-is_le x y le = elim (leb_tells x y) [
-  | inl h ↦ h.0
-  | inr h ↦ let more = h.1 in absurd (omega arith)
-]
-
-is_more : (x y : ℕ) → y < x → nat_le x y ≡ false
-is_more x y lt = elim (leb_tells x y) [
-  | inl h ↦ let le = h.1 in absurd (omega arith)
-  | inr h ↦ h.0
-]
+tried_here w m p runs tried count = rw (runs, tried, eq-eqb p.windows m count) refl
 
 -- ---- from one position to the next
 
@@ -283,7 +263,7 @@ start_stopped w s m k p why h e le =
     let last : last_position w s ≡ p = ap (at_step w s) (sym sum) ∙ stays w s k (bound - k) why stopped ∙ sym h.here in
     let counted = h.counted in
     let few : nat_le (last_position w s).windows m ≡ true =
-    ap (λ (q : Position). nat_le q.windows m) last ∙ is_le p.windows m (omega arith) in
+    ap (λ (q : Position). nat_le q.windows m) last ∙ le-leb p.windows m (omega arith) in
     rw few (sym (run_ends w s le) ∙ ap (λ (q : Position). q.state) last)
 
 start_tried : (w : Setting) (s : State) (m k : ℕ) (p : Position) → Standing w s m k p → stop w p.state ≡ None
@@ -299,7 +279,7 @@ start_tried w s m k p h runs tried =
     let sum : (k + 1) + (bound - (k + 1)) ≡ bound = omega arith in
     let more = grows w s (k + 1) (bound - (k + 1)) in
     let same = ap (λ n. (at_step w s n).windows) sum in
-    let many : nat_le (last_position w s).windows m ≡ false = is_more (last_position w s).windows m (omega arith) in
+    let many : nat_le (last_position w s).windows m ≡ false = lt-leb (last_position w s).windows m (omega arith) in
     let met : begins_window w m (at_step w s k) ≡ true =
     subst (λ (q : Position). begins_window w m q ≡ true) h.here (tried_here w m p runs tried h.counted) in
     let first : least (λ j. begins_window w m (at_step w s j)) bound ≡ k =

@@ -1,9 +1,12 @@
 -- One step of a run: where it leaves the machine and the counts, and the events that are told of it.
-use Rattle.std.proofs.Common.{◌≡◌, ℕ, ◌+◌, ◌<◌, ◌≤◌, ◌==◌, ◌&&◌, Bool, true, false, not, if◌then◌else◌, List, [], ◌∷◌, length, Option, None, refl, ap, sym, ◌∙◌, subst, arith}
+use Rattle.std.proofs.Common.{◌≡◌, ℕ, ◌+◌, ◌<◌, ◌≤◌, ◌==◌, true, false, not, if◌then◌else◌, List, [], ◌∷◌, length, Option, Some, None, Result, Ok, refl, ap, sym, ◌∙◌, subst, arith}
 use Rattle.std.proofs.lemmas.List.{append-nil}
 use Rattle.rp_base.specs.declared.Why.{Why}
 use Rattle.lane_look.specs.declared.marks.Mark.{Mark}
 use Rattle.outer_lane.specs.Setting.{Setting}
+use Rattle.trace_text.specs.declared.event.Event.{Event as Shown}
+use Rattle.trace_text.specs.declared.writer.SinkFault.{SinkFault}
+use Rattle.trace_text.specs.Tape.{Tells}
 use Rattle.bus_fabric.specs.State.{has_hold}
 use Rattle.rp_machine.specs.State.{State}
 use Rattle.rp_machine.specs.Cycle.{stop, next, mark}
@@ -14,10 +17,13 @@ use Rattle.window_merge.specs.Window.{Position, is_tried, by_window, by_cycle, n
 use Rattle.window_merge.specs.Merging.{marks_in}
 use Rattle.window_merge.proofs.Positions.{along_states}
 use Rattle.window_runner.specs.declared.alone.Counts.{Counts}
-use Rattle.window_runner.specs.Told.{events_by, step_events}
-use Rattle.window_runner.specs.Alone.{position_at}
+use Rattle.window_runner.specs.Told.{all_shown, events_by, step_events}
+use Rattle.window_runner.specs.Alone.{StepsTo, position_at, stop_in}
+use Rattle.window_runner.proofs.Along.{not_tried}
+use Rattle.window_runner.proofs.CycleEvents.{shown_none}
 use Rattle.window_runner.proofs.Marks.{marks_count, marks_tell}
 use Rattle.window_runner.proofs.Standing.{window_on, cycle_on}
+use Rattle.window_runner.proofs.Telling.{TakesNone, tells_none, tells_same}
 
 -- ---- where it goes
 
@@ -25,7 +31,7 @@ use Rattle.window_runner.proofs.Standing.{window_on, cycle_on}
 goes : (w : Setting) (p q : Position) (found : Option Why) → found ≡ None → q ≡ next_position w p → q ≡ unless_stopped found p (next_position w p)
 goes w p q found none e = rw none e
 
-pub goes_by_window : (w : Setting) (s t : State) (old new : Counts) (n : ℕ) (found : Option Why) → found ≡ None
+goes_by_window : (w : Setting) (s t : State) (old new : Counts) (n : ℕ) (found : Option Why) → found ≡ None
     → is_tried old.after_empty s ≡ true → n ≡ window_length w s → t ≡ states w s n
     → new.windows ≡ old.windows + 1 → new.cycles ≡ old.cycles + n → new.after_empty ≡ (n == 0)
     → position_at t new ≡ unless_stopped found (position_at s old) (next_position w (position_at s old))
@@ -34,7 +40,7 @@ goes_by_window w s t old new n found none tried len state windows cycles after =
     goes w (position_at s old) (position_at t new) found none
     (here ∙ ap (λ k. by_window w k (position_at s old)) len ∙ sym (window_on w (position_at s old) tried))
 
-pub goes_by_cycle : (w : Setting) (s t : State) (old new : Counts) (found : Option Why) → found ≡ None
+goes_by_cycle : (w : Setting) (s t : State) (old new : Counts) (found : Option Why) → found ≡ None
     → is_tried old.after_empty s ≡ false → t ≡ next w s
     → new.windows ≡ old.windows → new.cycles ≡ old.cycles → new.after_empty ≡ false
     → position_at t new ≡ unless_stopped found (position_at s old) (next_position w (position_at s old))
@@ -53,7 +59,7 @@ events_of_window w p e = rw e refl
 events_of_cycle : (w : Setting) (p : Position) → is_tried p.after_empty p.state ≡ false → step_events w p ≡ events w p.state
 events_of_cycle w p e = rw e refl
 
-pub tells_window : (w : Setting) (s t : State) (old : Counts) (n cycle before : ℕ) (marks : List Mark) (found : Option Why) → found ≡ None
+tells_window : (w : Setting) (s t : State) (old : Counts) (n cycle before : ℕ) (marks : List Mark) (found : Option Why) → found ≡ None
     → is_tried old.after_empty s ≡ true → n ≡ window_length w s → t ≡ states w s n → t.cycle ≡ s.cycle + n
     → cycle ≡ s.cycle → before ≡ s.outer.pads.current → marks ≡ marks_in w s n
     → events_by cycle before marks ≡ unless_stopped found [] (step_events w (position_at s old))
@@ -67,7 +73,7 @@ pub only_one : (w : Setting) (s : State) → events_by s.cycle s.outer.pads.curr
 unfolding events
 only_one w s = append-nil (events_of s.cycle s.outer.pads.current (mark w s))
 
-pub tells_cycle : (w : Setting) (s : State) (old : Counts) (cycle before : ℕ) (marks : List Mark) (found : Option Why) → found ≡ None
+tells_cycle : (w : Setting) (s : State) (old : Counts) (cycle before : ℕ) (marks : List Mark) (found : Option Why) → found ≡ None
     → is_tried old.after_empty s ≡ false
     → cycle ≡ s.cycle → before ≡ s.outer.pads.current → marks ≡ mark w s ∷ []
     → events_by cycle before marks ≡ unless_stopped found [] (step_events w (position_at s old))
@@ -78,15 +84,11 @@ tells_cycle w s old cycle before marks found none tried at levels left =
 
 -- ---- its numbers
 
-not_empty : (a b : Bool) → (not a && b) ≡ true → a ≡ false
-not_empty true b e = absurd (cc e)
-not_empty false b e = refl
-
 -- no count comes to the bound of the limit
 pub one_window_more : (w : Setting) (s : State) (old : Counts) (bound : ℕ) → w.limit < bound → stop w s ≡ None → s.cycle ≤ w.limit
     → is_tried old.after_empty s ≡ true → old.windows ≤ s.cycle + (if old.after_empty then 1 else 0) → old.windows + 1 < bound
 one_window_more w s old bound lt runs le tried few =
-    let here = not_empty old.after_empty (not (has_hold s.fabric)) tried in
+    let here = not_tried old.after_empty (not (has_hold s.fabric)) tried in
     let none : old.windows ≤ s.cycle + (if false then 1 else 0) = subst (λ b. old.windows ≤ s.cycle + (if b then 1 else 0)) here few in
     let below = below_limit w s runs le in
     omega arith
@@ -117,7 +119,55 @@ cycle_counts w s t before now state more =
     let one = ap (λ (x : State). x.cycle) state ∙ next_cycle w s in
     omega arith
 
-pub cycle_later : (w : Setting) (s t : State) (cycles : ℕ) → t ≡ next w s → cycles + s.cycle ≤ cycles + t.cycle
-cycle_later w s t cycles state =
-    let one = ap (λ (x : State). x.cycle) state ∙ next_cycle w s in
-    omega arith
+-- ---- all of it
+
+pub stopped : {T : Type 0} (took : T → List Shown → T → Type 0) (missed : T → Shown → T → Type 0) (a : T) (f : ℕ) (w : Setting) (s t : State) (counts : Counts) (why : Why) (steps steps' : ℕ) → TakesNone took
+    → (stop w s ≡ Some why) × (t ≡ s) × (steps' ≡ steps)
+    → StepsTo took missed a a f f w (position_at s counts) (position_at t counts) steps steps' (Ok (Some why))
+stopped took missed a f w s t counts why steps steps' none h =
+    let same = ap (λ (x : State). x.cycle) h.1 in
+    let still = h.2 in
+    record {
+      cause = h.0;
+      position = ap (λ (x : State). position_at x counts) h.1;
+      told = tells_none took missed a f (all_shown []) (Some why) none shown_none;
+      counted = omega arith;
+      steps = omega arith;
+    }
+
+module _ {T : Type 0} {took : T → List Shown → T → Type 0} {missed : T → Shown → T → Type 0} {a b : T} {f g : ℕ} where
+  pub by_window_told : (w : Setting) (s t : State) (old new : Counts) (n cycle before : ℕ) (marks : List Mark) (steps steps' : ℕ) (r : Result (Option Why) SinkFault) → stop_in r ≡ None
+      → cycle ≡ s.cycle → before ≡ s.outer.pads.current → (stop w s ≡ None) × (is_tried old.after_empty s ≡ true) × (n ≡ window_length w s) × (t ≡ states w s n)
+      × (marks ≡ marks_in w s n) × (steps' ≡ steps + n) × (t.cycle ≡ s.cycle + n)
+      → new.windows ≡ old.windows + 1 → new.cycles ≡ old.cycles + n → new.after_empty ≡ (n == 0)
+      → Tells took missed a b f g (all_shown (events_by cycle before marks)) r
+      → StepsTo took missed a b f g w (position_at s old) (position_at t new) steps steps' r
+  by_window_told w s t old new n cycle before marks steps steps' r none at levels h windows cycles after told =
+      let number = h.6 in
+      let more = h.5 in
+      record {
+        cause = h.0 ∙ sym none;
+        position = goes_by_window w s t old new n (stop_in r) none h.1 h.2 h.3 windows cycles after;
+        told = tells_same took missed a b f g (all_shown (events_by cycle before marks)) (all_shown (unless_stopped (stop_in r) [] (step_events w (position_at s old)))) r
+            (ap all_shown (tells_window w s t old n cycle before marks (stop_in r) none h.1 h.2 h.3 h.6 at levels h.4)) told;
+        counted = omega (arith, number, cycles);
+        steps = omega (arith, number, more);
+      }
+
+  pub by_cycle_told : (w : Setting) (s t : State) (old new : Counts) (cycle before : ℕ) (marks : List Mark) (steps steps' : ℕ) (r : Result (Option Why) SinkFault) → stop_in r ≡ None
+      → cycle ≡ s.cycle → before ≡ s.outer.pads.current → (stop w s ≡ None) × (is_tried old.after_empty s ≡ false) × (t ≡ next w s) × (marks ≡ mark w s ∷ [])
+      × (steps' ≡ steps + 1)
+      → new.windows ≡ old.windows → new.cycles ≡ old.cycles → new.after_empty ≡ false
+      → Tells took missed a b f g (all_shown (events_by cycle before marks)) r
+      → StepsTo took missed a b f g w (position_at s old) (position_at t new) steps steps' r
+  by_cycle_told w s t old new cycle before marks steps steps' r none at levels h windows cycles after told =
+      let one = ap (λ (x : State). x.cycle) h.2 ∙ next_cycle w s in
+      let more = h.4 in
+      record {
+        cause = h.0 ∙ sym none;
+        position = goes_by_cycle w s t old new (stop_in r) none h.1 h.2 windows cycles after;
+        told = tells_same took missed a b f g (all_shown (events_by cycle before marks)) (all_shown (unless_stopped (stop_in r) [] (step_events w (position_at s old)))) r
+            (ap all_shown (tells_cycle w s old cycle before marks (stop_in r) none h.1 at levels h.3)) told;
+        counted = omega (arith, one, cycles);
+        steps = omega (arith, one, more);
+      }

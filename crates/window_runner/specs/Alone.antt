@@ -1,17 +1,17 @@
 -- A run that goes by windows: what it answers, and where its machine stands. The project's own.
-use Rattle.std.specs.Prelude.{◌≡◌, ℕ, ◌-◌, ◌≤◌, List, Option, Some, None, Result, Ok, Err}
+use Rattle.std.specs.Prelude.{◌≡◌, ℕ, ◌+◌, ◌-◌, ◌≤◌, List, [], Option, Some, None, Result, Ok, Err}
 use Rattle.rp_base.specs.declared.Why.{Why}
 use Rattle.outer_lane.specs.Setting.{Setting}
 use Rattle.trace_text.specs.declared.event.Event.{Event as Shown}
 use Rattle.trace_text.specs.declared.writer.SinkFault.{SinkFault}
-use Rattle.trace_text.specs.Tape.{FailsAmong}
+use Rattle.trace_text.specs.Tape.{FailsAmong, Tells}
 use Rattle.rp_machine.specs.State.{State}
 use Rattle.rp_machine.specs.Cycle.{stop}
-use Rattle.rp_machine.specs.Run.{states, events_in, last_state}
-use Rattle.window_merge.specs.Window.{Position, last_position}
+use Rattle.rp_machine.specs.Run.{states, events_in, last_state, unless_stopped}
+use Rattle.window_merge.specs.Window.{Position, next_position, last_position}
 use Rattle.window_runner.specs.declared.alone.Ran.{Ran}
 use Rattle.window_runner.specs.declared.alone.Counts.{Counts}
-use Rattle.window_runner.specs.Told.{all_shown}
+use Rattle.window_runner.specs.Told.{all_shown, step_events}
 
 -- a run answers the cause of the stop at its end, how many windows it tried, and how many cycles they had
 pub record IsRan (w : Setting) (s : State) (ran : Ran) : Type 0 where
@@ -51,3 +51,11 @@ position_at s counts = record {
 abbrev pub stop_in : Result (Option Why) SinkFault → Option Why
 stop_in (Ok cause) = cause
 stop_in (Err fault) = None
+
+-- a step went from a position to the next and told a tape of the events on the way, or it found a stop and changed nothing
+pub record StepsTo {T : Type 0} (took : T → List Shown → T → Type 0) (missed : T → Shown → T → Type 0) (old new : T) (faults faults' : ℕ) (w : Setting) (p q : Position) (before after : ℕ) (result : Result (Option Why) SinkFault) : Type 0 where
+  pub cause : stop w p.state ≡ stop_in result
+  pub position : q ≡ unless_stopped (stop_in result) p (next_position w p)
+  pub told : Tells took missed old new faults faults' (all_shown (unless_stopped (stop_in result) [] (step_events w p))) result
+  pub counted : q.cycles + p.state.cycle ≤ p.cycles + q.state.cycle
+  pub steps : after + p.state.cycle ≡ before + q.state.cycle

@@ -1,13 +1,12 @@
 //! A run by windows on one thread.
 
-ghost use Rattle.std.specs.Prelude.{◌≡◌, ◌+◌, ◌<◌, ◌≤◌, ◌^◌, ◌==◌, [], None, length, if◌then◌else◌, false, IfOk, OnErr};
+ghost use Rattle.std.specs.Prelude.{◌≡◌, ◌+◌, ◌<◌, ◌≤◌, ◌^◌, ◌==◌, None, length, if◌then◌else◌, IfOk, OnErr};
 ghost use Rattle.outer_lane.specs.Setting.{setting};
 ghost use Rattle.trace_text.specs.Tape.{Tells};
-ghost use Rattle.rp_machine.specs.Cycle.{begun, stop};
-ghost use Rattle.rp_machine.specs.Run.{last_state, unless_stopped};
-ghost use Rattle.window_merge.specs.Window.{next_position};
-ghost use Rattle.window_runner.specs.Told.{all_shown, events_by, step_events, run_shown};
-ghost use Rattle.window_runner.specs.Alone.{IsRan, IsOnRun, FailsWithin, position_at, stop_in};
+ghost use Rattle.rp_machine.specs.Cycle.{begun};
+ghost use Rattle.rp_machine.specs.Run.{last_state};
+ghost use Rattle.window_runner.specs.Told.{all_shown, events_by, run_shown};
+ghost use Rattle.window_runner.specs.Alone.{IsRan, IsOnRun, FailsWithin, StepsTo, position_at, stop_in};
 
 use crate::events::tell_marks;
 use lane_look::{Device, Marks};
@@ -88,16 +87,9 @@ fn step<X: Device, T: Tape, L: Ledger>(
     requires windows { counts.old.windows
         ≤ machine.old.cycle + (if counts.old.after_empty then 1 else 0) }
     requires cycles { counts.old.cycles ≤ machine.old.cycle }
-    ensures cause { stop (setting X.meaning world.now) machine.old ≡ stop_in result }
-    ensures position { position_at machine.new counts.new ≡ unless_stopped (stop_in result)
-        (position_at machine.old counts.old) (next_position (setting X.meaning world.now)
-        (position_at machine.old counts.old)) }
-    ensures told { Tells T.took T.missed tape.old tape.new (T.faults tape.old) (T.faults tape.new)
-        (all_shown (unless_stopped (stop_in result) [] (step_events (setting X.meaning world.now)
-        (position_at machine.old counts.old)))) result }
-    ensures counted { counts.new.cycles + machine.old.cycle
-        ≤ counts.old.cycles + machine.new.cycle }
-    ensures steps { steps.new + machine.old.cycle ≡ steps.old + machine.new.cycle }
+    ensures step { StepsTo T.took T.missed tape.old tape.new (T.faults tape.old) (T.faults tape.new)
+        (setting X.meaning world.now) (position_at machine.old counts.old) (position_at machine.new
+        counts.new) steps.old steps.new result }
     ensures jobs { crew.new.jobs ≡ crew.old.jobs }
     ensures begun { crew.new.begun ≡ begun machine.new }
 {

@@ -1,18 +1,19 @@
 //! What the coordinator does: it opens the windows' numbers, helps with their pieces, and merges what was found.
 
-ghost use Rattle.std.specs.Prelude.{◌≡◌, ◌+◌, ◌≤◌, ◌^◌, false, true, length, IfSome, [], if◌then◌else◌, IfOk, OnErr};
+ghost use Rattle.std.specs.Prelude.{◌≡◌, ◌+◌, ◌≤◌, ◌^◌, false, true, length, IfSome, if◌then◌else◌};
 ghost use Rattle.outer_lane.specs.Setting.{setting};
 ghost use Rattle.bus_fabric.specs.State.{has_hold};
 ghost use Rattle.trace_text.specs.Tape.{Tells};
-ghost use Rattle.rp_machine.specs.Cycle.{begun, stop};
-ghost use Rattle.rp_machine.specs.Run.{last_state, states, unless_stopped};
+ghost use Rattle.rp_machine.specs.Cycle.{begun};
+ghost use Rattle.rp_machine.specs.Run.{states};
 ghost use Rattle.turn_board.specs.Answers.{EachLane};
-ghost use Rattle.window_merge.specs.Window.{next_position, window_length};
+ghost use Rattle.window_merge.specs.Window.{window_length};
 ghost use Rattle.window_merge.specs.Merging.{marks_in, IsStep};
 ghost use Rattle.window_merge.specs.Jobs.{AreAlone, IsJobFor, IsTrueIn};
-ghost use Rattle.window_runner.specs.Told.{all_shown, step_events, run_shown};
-ghost use Rattle.window_runner.specs.Alone.{IsRan, IsOnRun, FailsWithin, position_at, stop_in};
+ghost use Rattle.window_runner.specs.Told.{run_shown};
+ghost use Rattle.window_runner.specs.Alone.{StepsTo, position_at};
 ghost use Rattle.window_runner.specs.Seated.{IsSeatAt, IsReady};
+ghost use Rattle.window_runner.specs.Windows.{Leaves};
 
 use crate::alone::{Counts, Ran, count_window, tell_step};
 use crate::piece::{Found, Piece};
@@ -282,16 +283,9 @@ fn step<'w, X: Device, G: Gate, H: Wait, T: Tape, L: Ledger>(
     requires windows { counts.old.windows
         ≤ machine.old.cycle + (if counts.old.after_empty then 1 else 0) }
     requires cycles { counts.old.cycles ≤ machine.old.cycle }
-    ensures cause { stop (setting X.meaning desk.now.world.now) machine.old ≡ stop_in result }
-    ensures position { position_at machine.new counts.new ≡ unless_stopped (stop_in result)
-        (position_at machine.old counts.old) (next_position (setting X.meaning desk.now.world.now)
-        (position_at machine.old counts.old)) }
-    ensures told { Tells T.took T.missed tape.old tape.new (T.faults tape.old) (T.faults tape.new)
-        (all_shown (unless_stopped (stop_in result) [] (step_events (setting X.meaning
-        desk.now.world.now) (position_at machine.old counts.old)))) result }
-    ensures counted { counts.new.cycles + machine.old.cycle
-        ≤ counts.old.cycles + machine.new.cycle }
-    ensures steps { steps.new + machine.old.cycle ≡ steps.old + machine.new.cycle }
+    ensures step { StepsTo T.took T.missed tape.old tape.new (T.faults tape.old) (T.faults tape.new)
+        (setting X.meaning desk.now.world.now) (position_at machine.old counts.old) (position_at machine.new
+        counts.new) steps.old steps.new result }
     ensures ready { IsReady desk.now.board.now (λ w. w.now ≡ desk.now.world.now) lead.new.opened
         lead.new.kept lead.new.master lead.new.seat }
     ensures begun { lead.new.sets.value.begun ≡ begun machine.new }
@@ -326,13 +320,8 @@ pub(crate) fn run<'w, X: Device, G: Gate, H: Wait, T: Tape, L: Ledger>(
         lead.old.kept lead.old.master lead.old.seat }
     ensures told { Tells T.took T.missed tape.old tape.new (T.faults tape.old) (T.faults tape.new)
         (run_shown (setting X.meaning desk.now.world.now) machine.old) result }
-    ensures ran { IfOk result (IsRan (setting X.meaning desk.now.world.now) machine.old) }
-    ensures state { IfOk result (λ ran. machine.new ≡ last_state (setting X.meaning
-        desk.now.world.now) machine.old) }
-    ensures failed { OnErr result (FailsWithin T.took T.missed tape.old tape.new (setting X.meaning
-        desk.now.world.now) 256 machine.old machine.new) }
-    ensures on_run { IsOnRun (setting X.meaning desk.now.world.now) machine.old machine.new }
-    ensures steps { steps.new + machine.old.cycle ≡ steps.old + machine.new.cycle }
+    ensures left { Leaves T.took T.missed tape.old tape.new (setting X.meaning desk.now.world.now)
+        machine.old machine.new steps.old steps.new result }
     ensures ready { IsReady desk.now.board.now (λ w. w.now ≡ desk.now.world.now) lead.new.opened
         lead.new.kept lead.new.master lead.new.seat }
 {

@@ -2,18 +2,14 @@ use Rattle.std.proofs.Common.{◌≡◌}
 use Rattle.outer_lane.specs.Setting.{setting_of}
 use Rattle.rp_machine.specs.Cycle.{begun}
 use Rattle.window_merge.proofs.Positions.{left_of}
-use Rattle.window_runner.specs.Told.{run_shown}
 use Rattle.window_runner.specs.Alone.{position_at}
-use Rattle.window_runner.proofs.Reaching.{Running}
-use Rattle.window_runner.proofs.Telling.{TakenBefore}
+use Rattle.window_runner.proofs.Underway.{Underway}
 use Rattle.window_runner.proofs.alone.run_alone.Given as goal
 
 abbrev pub invariant-steps : goal.invariant-steps
 invariant-steps g l =
     let w = setting_of l.world.script.now (g.X.Device.meaning l.world.device.now) l.world.limit in
-    Running w l.initial.machine (position_at l.machine l.counts) l.initial.steps l.steps
-    × TakenBefore g.T.Tape.took l.initial.tape l.tape (g.T.Tape.faults l.initial.tape) (g.T.Tape.faults l.tape)
-    (run_shown w l.initial.machine) (run_shown w l.machine)
+    Underway g.T.Tape.took l.initial.tape l.tape (g.T.Tape.faults l.initial.tape) (g.T.Tape.faults l.tape) w l.initial.machine (position_at l.machine l.counts) l.initial.steps l.steps
     × (l.crew.jobs ≡ l.initial.crew.jobs)
     × (l.crew.begun ≡ begun l.machine)
 

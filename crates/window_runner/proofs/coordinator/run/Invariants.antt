@@ -3,18 +3,14 @@ use Rattle.outer_lane.specs.Setting.{setting_of}
 use Rattle.rp_machine.specs.Cycle.{begun}
 use Rattle.window_runner.specs.Seated.{IsReady}
 use Rattle.window_merge.proofs.Positions.{left_of}
-use Rattle.window_runner.specs.Told.{run_shown}
 use Rattle.window_runner.specs.Alone.{position_at}
-use Rattle.window_runner.proofs.Reaching.{Running}
-use Rattle.window_runner.proofs.Telling.{TakenBefore}
+use Rattle.window_runner.proofs.Underway.{Underway}
 use Rattle.window_runner.proofs.coordinator.run.Given as goal
 
 abbrev pub invariant-steps : goal.invariant-steps
 invariant-steps g l =
     let w = setting_of l.desk.world.now.script.now (g.X.Device.meaning l.desk.world.now.device.now) l.desk.world.now.limit in
-    Running w l.initial.machine (position_at l.machine l.counts) l.initial.steps l.steps
-    × TakenBefore g.T.Tape.took l.initial.tape l.tape (g.T.Tape.faults l.initial.tape) (g.T.Tape.faults l.tape)
-    (run_shown w l.initial.machine) (run_shown w l.machine)
+    Underway g.T.Tape.took l.initial.tape l.tape (g.T.Tape.faults l.initial.tape) (g.T.Tape.faults l.tape) w l.initial.machine (position_at l.machine l.counts) l.initial.steps l.steps
     × IsReady l.desk.board.now (λ w. w.now ≡ l.desk.world.now) l.lead.opened l.lead.kept l.lead.master l.lead.seat
     × (l.lead.sets.value.begun ≡ begun l.machine)
 

@@ -1,16 +1,12 @@
 use Rattle.std.proofs.Common.{◌-◌}
 use Rattle.outer_lane.specs.Setting.{setting_of}
-use Rattle.window_runner.specs.Told.{run_shown}
 use Rattle.window_runner.proofs.Cycling.{OnItsWay}
-use Rattle.window_runner.proofs.Telling.{TakenBefore}
 use Rattle.window_runner.proofs.cycles.run_cycles.Given as goal
 
 abbrev pub invariant-cycles : goal.invariant-cycles
 invariant-cycles g l =
-    let w = setting_of l.world.script.now (g.X.Device.meaning l.world.device.now) l.world.limit in
-    OnItsWay w l.initial.machine l.machine l.initial.steps l.steps
-    × TakenBefore g.T.Tape.took l.initial.tape l.tape (g.T.Tape.faults l.initial.tape) (g.T.Tape.faults l.tape)
-    (run_shown w l.initial.machine) (run_shown w l.machine)
+    OnItsWay g.T.Tape.took l.initial.tape l.tape (g.T.Tape.faults l.initial.tape) (g.T.Tape.faults l.tape)
+    (setting_of l.world.script.now (g.X.Device.meaning l.world.device.now) l.world.limit) l.initial.machine l.machine l.initial.steps l.steps
 
 abbrev pub decreases-cycles : goal.decreases-cycles
 decreases-cycles g l = l.world.limit - l.machine.cycle
