@@ -228,14 +228,20 @@ impl IoBank {
     }
 
     /// The interrupt lines of core 0 and core 1.
+    #[inline(always)]
     pub fn lines(&self) -> [bool; 2]
         ensures { result ≡ line_of self.now self.now.core0 ∷ line_of self.now self.now.core1 ∷ [] }
     {
-        let raw = self.raw();
-        [
-            self.core0.shown(&raw).is_any(),
-            self.core1.shown(&raw).is_any(),
-        ]
+        [self.line(&self.core0), self.line(&self.core1)]
+    }
+
+    /// An interrupt line. Most often nothing is enabled or forced.
+    #[inline(always)]
+    fn line(&self, interrupts: &Interrupts) -> bool
+        ensures { result ≡ line_of self.now interrupts.now }
+    {
+        let Interrupts { enable, force } = interrupts;
+        (enable.is_any() || force.is_any()) && interrupts.shown(&self.raw()).is_any()
     }
 
     /// Both interrupt lines are low.
@@ -362,7 +368,9 @@ fn first_of(set: u32, pins: [u8; 4]) -> Option<u8>
     ensures pin { IfSome result (λ pin. pin < 30) }
 {
     let [pin0, pin1, pin2, pin3] = pins;
-    if has_bit(set, u32::from(pin0)) {
+    if set == 0 {
+        None
+    } else if has_bit(set, u32::from(pin0)) {
         Some(pin0)
     } else if has_bit(set, u32::from(pin1)) {
         Some(pin1)
