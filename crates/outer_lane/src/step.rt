@@ -100,7 +100,9 @@ impl Outer {
         self.blocks.tell(line0, line1);
         let stays = do_stay(&self.pads, &self.blocks, &drivers);
         self.stays = stays;
-        self.drivers = drivers;
+        if stays {
+            self.drivers = drivers;
+        }
     }
 
     /// The pads step by these, unless they stay and get the same levels again.

@@ -24,8 +24,19 @@ invariant_of-self c =
       ),
     )
 
-pub returns : goal.returns
-returns c =
+pub returns-then-stays : goal.returns-then-stays
+returns-then-stays c =
+    let i = c.self.inside in
+    let pads = c.step_to.new.self in
+    let after =
+    c.step_to.ensures
+    ∙ ap (λ (n : ℕ). with_levels n (with_edges (edges_of i.pads) i.pads)) (rw (← c.self.view_is) at c.requires) in
+    rw (← c.self.view_is)
+    (ap (λ (t : Told). record (with_blocks t.blocks (the_view i)) { pads = pads }) c.tell.ensures
+    ∙ ap (λ (b : Bank). record (the_view i) { pads = b }) (done_pads i.sio c.args.drivers i.pads pads after))
+
+pub returns-else-stays : goal.returns-else-stays
+returns-else-stays c =
     let i = c.self.inside in
     let pads = c.step_to.new.self in
     let after =
