@@ -3,6 +3,7 @@ pub mod Comparisons
 pub mod Drives
 pub mod Goes
 pub mod Beside
+pub mod NoSide
 pub mod Once
 pub mod Refills
 pub mod Ready

@@ -76,24 +76,36 @@ impl Machine1 {
         }
     }
 
-    /// The side-set of a word, and its delay.
+    /// The side-set of a word.
     #[inline(always)]
     #[tactic(auto, unfolding(crate::specs::Operation::with_side))]
-    pub(crate) fn set_side(&self, word: u16, settings: &Settings, done: &mut Done) -> u8
+    fn write_side(&self, word: u16, settings: &Settings, done: &mut Done)
         requires { settings.now ≡ settings_of self.now }
-        ensures delay { result ≡ delay_of word self.now }
-        ensures done { done.new ≡ with_side word self.now done.old }
+        ensures { done.new ≡ with_side word self.now done.old }
     {
-        let field = side_field(word);
         if !settings.side_enable || has_bit(u32::from(word), 12) {
-            let value = u32::from(field >> settings.delay_bits);
+            let value = u32::from(side_field(word) >> settings.delay_bits);
             if settings.side_pindir {
                 done.write_enables_by(settings.side_mask, settings.side_base, value);
             } else {
                 done.write_levels_by(settings.side_mask, settings.side_base, value);
             }
         }
-        low_bits(u32::from(field), settings.delay_bits) as u8
+    }
+
+    /// The side-set of a word, and its delay. Where no pin is for side-set that costs one test.
+    #[inline(always)]
+    #[tactic(auto, using(crate::proofs::NoSide::no_side))]
+    pub(crate) fn set_side(&self, word: u16, settings: &Settings, done: &mut Done) -> u8
+        requires { settings.now ≡ settings_of self.now }
+        ensures delay { result ≡ delay_of word self.now }
+        ensures done { done.new ≡ with_side word self.now done.old }
+    {
+        done.fact_are_words();
+        if settings.side_mask != 0 {
+            self.write_side(word, settings, done);
+        }
+        low_bits(u32::from(side_field(word)), settings.delay_bits) as u8
     }
 
     /// How many pins side-set writes.

@@ -1,6 +1,6 @@
 //! The pins as a machine sees and writes them.
 
-ghost use Rattle.std.specs.Prelude.{◌≡◌, ◌≤◌};
+ghost use Rattle.std.specs.Prelude.{◌≡◌, ◌≤◌, ◌<◌, ◌^◌};
 ghost use Rattle.pio_machine.specs.Pins.{input_word, mapped_inputs, pins_from, overlaid, with_masked_levels, with_masked_enables, with_levels, with_enables};
 
 use crate::bits::low_mask;
@@ -40,6 +40,14 @@ fn overlaid(mask: u32, bits: u32, word: u32) -> u32
 }
 
 impl Done {
+    /// The levels and the enables are words: their types keep it.
+    pub(crate) fn fact_are_words(&self)
+        ensures levels { self.now.levels < 2 ^ 32 }
+        ensures enables { self.now.enables < 2 ^ 32 }
+    {
+        let (_levels, _enables) = (self.levels, self.enables);
+    }
+
     /// Writes the levels of the pins of a mask, from a base on.
     #[inline(always)]
     pub(crate) fn write_levels_by(&mut self, mask: u32, base: u32, value: u32)
