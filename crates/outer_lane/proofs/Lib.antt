@@ -6,3 +6,4 @@ mod Staying
 mod BroughtUp
 mod Cycles
 pub mod Accesses
+mod WithBank

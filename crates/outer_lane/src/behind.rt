@@ -13,6 +13,8 @@ pub struct Behind {
     // the levels that the UARTs hear
     line0: bool,
     line1: bool,
+    // their interrupt lines
+    lines: u32,
     // the number of the first cycle that they lie behind, how many cycles these are, and for how many from the first one on they are quiet
     first: u64,
     count: u64,
@@ -20,8 +22,8 @@ pub struct Behind {
 }
 
 impl Model for Behind {
-    ghost use Rattle.std.specs.Prelude.{◌≤◌, ◌<◌, ◌+◌, ◌^◌};
-    ghost use Rattle.outer_lane.specs.BroughtUp.{Told, blocks_after, AreBlocksQuiet};
+    ghost use Rattle.std.specs.Prelude.{◌≡◌, ◌≤◌, ◌<◌, ◌+◌, ◌^◌};
+    ghost use Rattle.outer_lane.specs.BroughtUp.{Told, blocks_after, blocks_lines, AreBlocksQuiet};
 
     ghost Value = { Told };
 
@@ -32,17 +34,15 @@ impl Model for Behind {
     } };
 
     ghost invariant = { λ b. (b.count ≤ b.quiet) × ((b.first + b.quiet < 2 ^ 64)
-        × AreBlocksQuiet b.line0 b.line1 b.blocks b.first b.quiet) };
+        × (AreBlocksQuiet b.line0 b.line1 b.blocks b.first b.quiet × (b.lines ≡ blocks_lines b.blocks))) };
 }
 
 impl Behind {
     ghost use Rattle.std.specs.Prelude.{◌≡◌, ◌+◌, ◌<◌, ◌^◌, ◌∷◌, ◌++◌, [], List, ℕ, true, false, None, Decides};
     ghost use Rattle.rp_base.specs.Held.{unless_held};
-    ghost use Rattle.rp_timer.specs.State.{lines_of};
     ghost use Rattle.rp_timer.specs.Words.{word_of};
-    ghost use Rattle.rp_uart.specs.Interrupts.{is_line_high};
     ghost use Rattle.rp_uart.specs.Step.{pacing_of};
-    ghost use Rattle.outer_lane.specs.BroughtUp.{told_at_start, told_step, told_after, blocks_outs, blocks_word, blocks_accessed, blocks_reset, AreBlocksQuiet};
+    ghost use Rattle.outer_lane.specs.BroughtUp.{told_at_start, told_step, told_after, blocks_outs, blocks_lines, blocks_word, blocks_accessed, blocks_reset, AreBlocksQuiet};
     ghost use Rattle.outer_lane.specs.Step.{byte_of};
 
     /// Before the first cycle: each is at reset and none is held, and the lines are high.
@@ -52,10 +52,12 @@ impl Behind {
     {
         let blocks = Blocks::new();
         let quiet = blocks.quiet(true, true, 0);
+        let lines = blocks.lines();
         Behind {
             blocks,
             line0: true,
             line1: true,
+            lines,
             first: 0,
             count: 0,
             quiet,
@@ -90,6 +92,7 @@ impl Behind {
         self.first = cycle.saturating_add(1);
         self.count = 0;
         self.quiet = self.blocks.quiet(self.line0, self.line1, self.first);
+        self.lines = self.blocks.lines();
         bytes
     }
 
@@ -110,6 +113,7 @@ impl Behind {
         self.first = cycle + n;
         self.count = 0;
         self.quiet = self.blocks.quiet(self.line0, self.line1, self.first);
+        self.lines = self.blocks.lines();
         false
     }
 
@@ -148,6 +152,7 @@ impl Behind {
         self.first += self.count;
         self.count = 0;
         self.quiet = self.blocks.quiet(line0, line1, self.first);
+        self.lines = self.blocks.lines();
     }
 
     /// Does what a read, or a write of this word, does to one of them.
@@ -163,6 +168,7 @@ impl Behind {
         self.first += self.count;
         self.count = 0;
         self.quiet = self.blocks.quiet(self.line0, self.line1, self.first);
+        self.lines = self.blocks.lines();
     }
 
     /// Takes the bits of RESETS.
@@ -176,6 +182,7 @@ impl Behind {
         self.first += self.count;
         self.count = 0;
         self.quiet = self.blocks.quiet(self.line0, self.line1, self.first);
+        self.lines = self.blocks.lines();
     }
 
     /// What a word of one of them reads as. None where there is no such word, or the block is none of them.
@@ -203,24 +210,12 @@ impl Behind {
         word(&timer, offset)
     }
 
-    /// The interrupt lines of the timer.
+    /// Their interrupt lines.
     #[inline(always)]
-    pub(crate) fn timer_lines(&self) -> u32
-        ensures { result ≡ lines_of self.now.blocks.timer.block }
+    pub(crate) fn lines(&self) -> u32
+        ensures { result ≡ blocks_lines self.now.blocks }
     {
-        self.blocks.timer.block.lines()
-    }
-
-    /// The interrupt lines of the UARTs.
-    #[inline(always)]
-    pub(crate) fn uart_lines(&self) -> [bool; 2]
-        ensures { result ≡ is_line_high self.now.blocks.uart0.block
-            ∷ is_line_high self.now.blocks.uart1.block ∷ [] }
-    {
-        [
-            self.blocks.uart0.block.line(),
-            self.blocks.uart1.block.line(),
-        ]
+        self.lines
     }
 
     /// The counts that pace DMA channels, those of UART0 first.
@@ -267,6 +262,7 @@ impl Behind {
         self.blocks.copy_from(&other.blocks);
         self.line0 = other.line0;
         self.line1 = other.line1;
+        self.lines = other.lines;
         self.first = other.first;
         self.count = other.count;
         self.quiet = other.quiet;

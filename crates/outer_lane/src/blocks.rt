@@ -5,6 +5,7 @@ ghost use Rattle.rp_base.specs.Held.{unless_held};
 ghost use Rattle.rp_base.specs.Resettable.{unless_held_becomes};
 ghost use Rattle.lane_look.specs.Times.{times};
 ghost use Rattle.outer_lane.specs.Quiet.{IsTimerQuiet, IsUartQuiet, uart_cycle};
+ghost use Rattle.outer_lane.specs.Lines.{block_lines};
 ghost use Rattle.outer_lane.specs.Step.{byte_of, timer_after, uart_after};
 
 use rp_base::bits::has_bit;
@@ -24,7 +25,7 @@ pub struct Blocks {
 
 impl Blocks {
     ghost use Rattle.std.specs.Prelude.{◌≡◌, ◌+◌, ◌<◌, ◌^◌, ◌∷◌, [], Decides};
-    ghost use Rattle.outer_lane.specs.BroughtUp.{blocks_at_start, blocks_step, blocks_after, blocks_accessed, blocks_reset, AreBlocksQuiet};
+    ghost use Rattle.outer_lane.specs.BroughtUp.{blocks_at_start, blocks_step, blocks_after, blocks_lines, blocks_accessed, blocks_reset, AreBlocksQuiet};
     ghost use Rattle.outer_lane.specs.Step.{byte_of};
 
     /// Each is at reset and none is held.
@@ -71,6 +72,14 @@ impl Blocks {
         let uarts = uart0.min(uart1);
         let all = timer.min(uarts);
         all.min(u64::MAX - first)
+    }
+
+    /// Their interrupt lines.
+    pub(crate) fn lines(&self) -> u32
+        ensures { result ≡ blocks_lines self.now }
+    {
+        let [uart0, uart1] = [self.uart0.block.line(), self.uart1.block.line()];
+        self.timer.block.lines() | block_lines(false, uart0, uart1)
     }
 
     /// Does what a read, or a write of this word, does to one of them.
@@ -121,6 +130,15 @@ impl Blocks {
         self.uart1.block.copy_from(&other.uart1.block);
         self.uart1.held = other.uart1.held;
     }
+}
+
+/// The line of IO_BANK0 and those of the UARTs.
+#[inline(always)]
+#[tactic(auto, unfolding(crate::specs::Lines::block_lines))]
+fn block_lines(bank: bool, first: bool, second: bool) -> u32
+    ensures { result ≡ block_lines bank first second }
+{
+    u32::from(bank) * 0x2000 + u32::from(first) * 0x10_0000 + u32::from(second) * 0x20_0000
 }
 
 /// A UART that hears this level steps unless it is held; the byte whose frame ended.

@@ -6,7 +6,7 @@ use arrayvec::ArrayVec;
 use io_bank::IoBank;
 use lane_look::Device;
 use pin_script::Cursor;
-use rp_base::bits::has_bit;
+use rp_base::bits::{bit_number, has_bit};
 use rp_base::resets::{IO_BANK0, PADS_BANK0};
 use std::marker::Model;
 
@@ -105,13 +105,11 @@ impl Outer {
 
     /// The interrupt lines of core 0 or 1 that come from here, line 0 in bit 0.
     #[inline(always)]
-    #[tactic(auto, unfolding(crate::specs::Lines::outer_lines))]
     pub fn lines(&self, core: u8) -> u32
         ensures { result ≡ outer_lines core self.now }
     {
-        let bank = self.bank_line(core);
-        let [uart0, uart1] = self.blocks.uart_lines();
-        self.irq | (self.blocks.timer_lines() | block_lines(bank, uart0, uart1))
+        let bank = bit_number(self.bank_line(core)) * 0x2000;
+        self.irq | self.blocks.lines() | bank
     }
 
     /// The line of IO_BANK0 to a core.
@@ -193,7 +191,6 @@ impl Outer {
 
 ghost use Rattle.std.specs.Prelude.{◌≡◌, ◌<◌, ◌≤◌, ◌^◌, replicate};
 ghost use Rattle.outer_lane.specs.State.{first_words};
-ghost use Rattle.outer_lane.specs.Lines.{block_lines};
 
 /// Words that are 0.
 #[tactic(auto, using(std::proofs::lemmas::Grind::common_steps))]
@@ -215,13 +212,4 @@ fn started<X: Device>(device: &X) -> ArrayVec<u32, 128>
     let mut words = zeros(device.words());
     device.start(words.as_mut_slice());
     words
-}
-
-/// The line of IO_BANK0 and those of the UARTs.
-#[inline(always)]
-#[tactic(auto, unfolding(crate::specs::Lines::block_lines))]
-fn block_lines(bank: bool, first: bool, second: bool) -> u32
-    ensures { result ≡ block_lines bank first second }
-{
-    u32::from(bank) * 0x2000 + u32::from(first) * 0x10_0000 + u32::from(second) * 0x20_0000
 }

@@ -10,7 +10,7 @@ returns-then-cycle-self c =
     rw (← c.self.view_is)
     (subst (λ (n : ℕ). AreBlocksQuiet i.line0 i.line1 (blocks_after i.line0 i.line1 i.first i.count i.blocks) n (i.quiet - i.count))
     (sym c.if-cycle-self.true)
-    (quiet_later i.line0 i.line1 i.blocks i.first i.quiet i.count (i.quiet - i.count) c.self.invariant.1.1 (omega (arith, within))))
+    (quiet_later i.line0 i.line1 i.blocks i.first i.quiet i.count (i.quiet - i.count) c.self.invariant.1.1.0 (omega (arith, within))))
 
 pub returns-else-cycle-self : goal.returns-else-cycle-self
 returns-else-cycle-self c = quiet_none c.args.self.now.line0 c.args.self.now.line1 c.args.self.now.blocks c.args.cycle
