@@ -15,8 +15,8 @@ use Rattle.window_runner.specs.Told.{all_shown, events_by, run_shown}
 use Rattle.window_runner.specs.Alone.{IsOnRun, FailsWithin}
 use Rattle.window_runner.proofs.CycleEvents.{shown_none, shown_both}
 use Rattle.window_runner.proofs.Failing.{fails_in_cycle}
-use Rattle.window_runner.proofs.Reaching.{GoesOn, one_cycle, then_on, own_number, last_later, shown_here}
-use Rattle.window_runner.proofs.Stepping.{only_one, cycle_counts}
+use Rattle.window_runner.proofs.Reaching.{GoesOn, one_cycle, then_on, on_run_by, shown_here}
+use Rattle.window_runner.proofs.Stepping.{tells_one, cycle_counts}
 use Rattle.window_runner.proofs.Telling.{TakesNone, TakesInTurn, TakenBefore, taken_nothing, taken_same, taken_more, taken_part, taken_all, tells_same}
 
 -- a run from a first state has come to this one, its cycles were counted, and a tape took their events
@@ -40,21 +40,13 @@ way_first took a f w s steps none le = record {
   taken = taken_nothing took a f (run_shown w s) none;
 }
 
-way_on_run : {T : Type 0} (took : T → List Shown → T → Type 0) (a b : T) (f g : ℕ) (w : Setting) (first s : State) (before now : ℕ) → OnItsWay took a b f g w first s before now → IsOnRun w first s
-way_on_run took a b f g w first s before now r = record {
-  forward = r.forward;
-  within = subst (λ (t : State). s.cycle ≤ t.cycle) r.last (last_later w s);
-  state = own_number w first s r.way;
-}
-
 -- ---- one cycle more
 
 told_cycle : {T A E : Type 0} (took : T → List Shown → T → Type 0) (missed : T → Shown → T → Type 0) (b c : T) (g h : ℕ) (w : Setting) (s : State) (cycle levels : ℕ) (marks : List Mark) (r : Result A E)
     → cycle ≡ s.cycle → levels ≡ s.outer.pads.current → marks ≡ mark w s ∷ []
     → Tells took missed b c g h (all_shown (events_by cycle levels marks)) r → Tells took missed b c g h (all_shown (events w s)) r
 told_cycle took missed b c g h w s cycle levels marks r at pads left told =
-    let here : events_by cycle levels marks ≡ events_by s.cycle s.outer.pads.current (mark w s ∷ []) = rw (at, pads, left) refl in
-    tells_same took missed b c g h (all_shown (events_by cycle levels marks)) (all_shown (events w s)) r (ap all_shown (here ∙ only_one w s)) told
+    tells_same took missed b c g h (all_shown (events_by cycle levels marks)) (all_shown (events w s)) r (ap all_shown (tells_one w s cycle levels marks at pads left)) told
 
 shown_next : (w : Setting) (s : State) → stop w s ≡ None → s.cycle ≤ w.limit → run_shown w s ≡ all_shown (events w s) ++ run_shown w (next w s)
 shown_next w s runs le = ap all_shown (events_on w s runs (below_limit w s runs le)) ∙ shown_both (events w s) (all_events w (next w s))
@@ -95,11 +87,7 @@ module _ {T A E : Type 0} {took : T → List Shown → T → Type 0} {missed : T
         taken_part {A = A} took missed a b c f g h (run_shown w first) (all_shown (events w s)) (run_shown w (next w s)) e turn
             (taken_same took a b f g (run_shown w first) (run_shown w s) (all_shown (events w s) ++ run_shown w (next w s)) r.taken (shown_next w s runs r.within)) here,
         fails_in_cycle took missed a b c f g w first s t (omega (arith, forward, within)) r.way r.taken runs same here.err,
-        record {
-          forward = step_forward w s t first.cycle same r.forward;
-          within = subst (λ (u : State). t.cycle ≤ u.cycle) on.1 (last_later w t);
-          state = own_number w first t way;
-        },
+        on_run_by w first t (step_forward w s t first.cycle same r.forward) way on.1,
         omega (arith, so_far, counted),
       )
 
@@ -115,6 +103,6 @@ way_stops {T} {took} missed {a} {b} {f} {g} {w} {first} {s} {t} {before} {now} {
       taken_all took missed a b f g (run_shown w first) (run_shown w s) why r.taken (shown_here w s why e ∙ shown_none),
       ap (stop w) (sym last) ∙ e,
       same ∙ last,
-      subst (IsOnRun w first) (sym same) (way_on_run took a b f g w first s before now r),
+      subst (IsOnRun w first) (sym same) (on_run_by w first s r.forward r.way r.last),
       omega (arith, so_far, number, count),
     )

@@ -160,40 +160,27 @@ free_of s e n h =
     let same = ap (times n) e in
     omega arith
 
--- what a round asks for
-record CanRound (number : ℕ) (r : RunState) : Type 0 where
-  free : get_elem? r.board.seats 0 ≡ some (first_seat r.board.seats)
-  done : (first_seat r.board.seats).drawn ≡ (first_seat r.board.seats).finished
-  there : get_elem? (drawn_by r).board.seats 0 ≡ some (first_seat (drawn_by r).board.seats)
-  holder : get_elem? (seen_by r).board.seats 0 ≡ some (first_seat (seen_by r).board.seats)
-  drew_it : times number (first_seat (seen_by r).board.seats).drawn ≡ 1
-  not_yet : times number (first_seat (seen_by r).board.seats).finished ≡ 0
-  holds : (first_seat (seen_by r).board.seats).holding ≡ true
-
-round_goes : (w : Setting) (number : ℕ) (found : Option OneReport) (r last : RunState) (events : List Event) → CanRound number r → IsTrueOrNone w found
-    → Goes w (round number found r) events last → Goes w r (passes number found events) last
-round_goes w number found r last events can truth rest =
-    let once = can.drew_it in
-    let drawn : 0 < times number (first_seat (seen_by r).board.seats).drawn = omega arith in (
-      drawn_by r,
-      (first_seat r.board.seats, can.free, free_of (first_seat r.board.seats) can.done),
-      refl,
-      (
-        seen_by r,
-        (first_seat (drawn_by r).board.seats, can.there),
-        refl,
-        (round number found r, ((first_seat (seen_by r).board.seats, can.holder, (drawn, can.not_yet), can.holds), truth), refl, rest),
-      ),
-    )
-
-can : (number : ℕ) (r : RunState) → get_elem? r.board.seats 0 ≡ some (first_seat r.board.seats)
+round_goes : (w : Setting) (number : ℕ) (found : Option OneReport) (r last : RunState) (events : List Event)
+    → get_elem? r.board.seats 0 ≡ some (first_seat r.board.seats)
     → (first_seat r.board.seats).drawn ≡ (first_seat r.board.seats).finished
     → get_elem? (drawn_by r).board.seats 0 ≡ some (first_seat (drawn_by r).board.seats)
     → get_elem? (seen_by r).board.seats 0 ≡ some (first_seat (seen_by r).board.seats)
     → times number (first_seat (seen_by r).board.seats).drawn ≡ 1
     → times number (first_seat (seen_by r).board.seats).finished ≡ 0
-    → (first_seat (seen_by r).board.seats).holding ≡ true → CanRound number r
-can number r a b c d e f g = record { free = a; done = b; there = c; holder = d; drew_it = e; not_yet = f; holds = g }
+    → (first_seat (seen_by r).board.seats).holding ≡ true
+    → IsTrueOrNone w found → Goes w (round number found r) events last → Goes w r (passes number found events) last
+round_goes w number found r last events free done there holder once not_yet holds truth rest =
+    let drawn : 0 < times number (first_seat (seen_by r).board.seats).drawn = omega arith in (
+      drawn_by r,
+      (first_seat r.board.seats, free, free_of (first_seat r.board.seats) done),
+      refl,
+      (
+        seen_by r,
+        (first_seat (drawn_by r).board.seats, there),
+        refl,
+        (round number found r, ((first_seat (seen_by r).board.seats, holder, (drawn, not_yet), holds), truth), refl, rest),
+      ),
+    )
 
 -- ---- a window
 
@@ -246,12 +233,12 @@ goes_by w s b runs truth =
     let e3 = passes 3 b.pio0 e4 in
     let e2 = passes 2 b.dma e3 in
     let e1 = passes 1 b.core1 e2 in
-    let g5 = round_goes w 5 b.outer r5 last e6 (can 5 r5 refl refl refl refl refl refl refl) truth.outer (ends w s b) in
-    let g4 = round_goes w 4 b.pio1 r4 last e5 (can 4 r4 refl refl refl refl refl refl refl) truth.pio1 g5 in
-    let g3 = round_goes w 3 b.pio0 r3 last e4 (can 3 r3 refl refl refl refl refl refl refl) truth.pio0 g4 in
-    let g2 = round_goes w 2 b.dma r2 last e3 (can 2 r2 refl refl refl refl refl refl refl) truth.dma g3 in
-    let g1 = round_goes w 1 b.core1 r1 last e2 (can 1 r1 refl refl refl refl refl refl refl) truth.core1 g2 in
-    let g0 = round_goes w 0 b.core0 r0 last e1 (can 0 r0 refl refl refl refl refl refl refl) truth.core0 g1 in
+    let g5 = round_goes w 5 b.outer r5 last e6 refl refl refl refl refl refl refl truth.outer (ends w s b) in
+    let g4 = round_goes w 4 b.pio1 r4 last e5 refl refl refl refl refl refl refl truth.pio1 g5 in
+    let g3 = round_goes w 3 b.pio0 r3 last e4 refl refl refl refl refl refl refl truth.pio0 g4 in
+    let g2 = round_goes w 2 b.dma r2 last e3 refl refl refl refl refl refl refl truth.dma g3 in
+    let g1 = round_goes w 1 b.core1 r1 last e2 refl refl refl refl refl refl refl truth.core1 g2 in
+    let g0 = round_goes w 0 b.core0 r0 last e1 refl refl refl refl refl refl refl truth.core0 g1 in
     (r0, ((refl, refl, omega arith), runs, refl), refl, g0)
 
 abbrev committed : Setting → State → RunState → RunState

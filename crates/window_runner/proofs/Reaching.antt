@@ -124,19 +124,22 @@ by_number w s zero =
     ap (states w s) (sym none)
 by_number w s (suc n) = number_by w s n (stop w s) refl (by_number w (next w s) n)
 
-pub own_number : (w : Setting) (s t : State) → GoesOn w s t → t ≡ states w s (t.cycle - s.cycle)
+own_number : (w : Setting) (s t : State) → GoesOn w s t → t ≡ states w s (t.cycle - s.cycle)
 own_number w s t on = subst (λ (x : State). x ≡ states w s (x.cycle - s.cycle)) (sym on.state) (by_number w s on.count)
 
-pub last_later : (w : Setting) (s : State) → s.cycle ≤ (last_state w s).cycle
+last_later : (w : Setting) (s : State) → s.cycle ≤ (last_state w s).cycle
 unfolding last_state
 last_later w s = not_back w s (w.limit - s.cycle)
 
-pub is_on_run : (w : Setting) (first : State) (p : Position) → Reached w first p → IsOnRun w first p.state
-is_on_run w first p r = record {
-  forward = r.forward;
-  within = subst (λ (t : State). p.state.cycle ≤ t.cycle) r.last (last_later w p.state);
-  state = own_number w first p.state r.way;
+pub on_run_by : (w : Setting) (first s : State) → first.cycle ≤ s.cycle → GoesOn w first s → last_state w s ≡ last_state w first → IsOnRun w first s
+on_run_by w first s forward way last = record {
+  forward = forward;
+  within = subst (λ (t : State). s.cycle ≤ t.cycle) last (last_later w s);
+  state = own_number w first s way;
 }
+
+pub is_on_run : (w : Setting) (first : State) (p : Position) → Reached w first p → IsOnRun w first p.state
+is_on_run w first p r = on_run_by w first p.state r.forward r.way r.last
 
 -- ---- the stop
 

@@ -10,8 +10,8 @@ use Rattle.trace_text.specs.Tape.{Tells}
 use Rattle.bus_fabric.specs.State.{has_hold}
 use Rattle.rp_machine.specs.State.{State}
 use Rattle.rp_machine.specs.Cycle.{stop, next, mark}
-use Rattle.rp_machine.specs.Events.{Event, events_of, events}
-use Rattle.rp_machine.specs.Run.{states, events_in, unless_stopped}
+use Rattle.rp_machine.specs.Events.{events_of, events}
+use Rattle.rp_machine.specs.Run.{states, events_in}
 use Rattle.rp_machine.proofs.Runs.{below_limit, next_cycle}
 use Rattle.window_merge.specs.Window.{Position, is_tried, by_window, by_cycle, next_position, window_length}
 use Rattle.window_merge.specs.Merging.{marks_in}
@@ -27,31 +27,21 @@ use Rattle.window_runner.proofs.Telling.{TakesNone, tells_none, tells_same}
 
 -- ---- where it goes
 
--- where a step finds no stop, it goes to the next position
-goes : (w : Setting) (p q : Position) (found : Option Why) → found ≡ None → q ≡ next_position w p → q ≡ unless_stopped found p (next_position w p)
-goes w p q found none e = rw none e
-
-goes_by_window : (w : Setting) (s t : State) (old new : Counts) (n : ℕ) (found : Option Why) → found ≡ None
-    → is_tried old.after_empty s ≡ true → n ≡ window_length w s → t ≡ states w s n
+goes_by_window : (w : Setting) (s t : State) (old new : Counts) (n : ℕ) → is_tried old.after_empty s ≡ true → n ≡ window_length w s → t ≡ states w s n
     → new.windows ≡ old.windows + 1 → new.cycles ≡ old.cycles + n → new.after_empty ≡ (n == 0)
-    → position_at t new ≡ unless_stopped found (position_at s old) (next_position w (position_at s old))
-goes_by_window w s t old new n found none tried len state windows cycles after =
+    → position_at t new ≡ next_position w (position_at s old)
+goes_by_window w s t old new n tried len state windows cycles after =
     let here : position_at t new ≡ by_window w n (position_at s old) = rw (state, windows, cycles, after) refl in
-    goes w (position_at s old) (position_at t new) found none
-    (here ∙ ap (λ k. by_window w k (position_at s old)) len ∙ sym (window_on w (position_at s old) tried))
+    here ∙ ap (λ k. by_window w k (position_at s old)) len ∙ sym (window_on w (position_at s old) tried)
 
-goes_by_cycle : (w : Setting) (s t : State) (old new : Counts) (found : Option Why) → found ≡ None
-    → is_tried old.after_empty s ≡ false → t ≡ next w s
+goes_by_cycle : (w : Setting) (s t : State) (old new : Counts) → is_tried old.after_empty s ≡ false → t ≡ next w s
     → new.windows ≡ old.windows → new.cycles ≡ old.cycles → new.after_empty ≡ false
-    → position_at t new ≡ unless_stopped found (position_at s old) (next_position w (position_at s old))
-goes_by_cycle w s t old new found none tried state windows cycles after =
+    → position_at t new ≡ next_position w (position_at s old)
+goes_by_cycle w s t old new tried state windows cycles after =
     let here : position_at t new ≡ by_cycle w (position_at s old) = rw (state, windows, cycles, after) refl in
-    goes w (position_at s old) (position_at t new) found none (here ∙ sym (cycle_on w (position_at s old) tried))
+    here ∙ sym (cycle_on w (position_at s old) tried)
 
 -- ---- the events that are told of it
-
-pub told : (found : Option Why) (xs ys : List Event) → found ≡ None → xs ≡ ys → xs ≡ unless_stopped found [] ys
-told found xs ys none e = rw none e
 
 events_of_window : (w : Setting) (p : Position) → is_tried p.after_empty p.state ≡ true → step_events w p ≡ events_in w p.state (window_length w p.state)
 events_of_window w p e = rw e refl
@@ -59,28 +49,24 @@ events_of_window w p e = rw e refl
 events_of_cycle : (w : Setting) (p : Position) → is_tried p.after_empty p.state ≡ false → step_events w p ≡ events w p.state
 events_of_cycle w p e = rw e refl
 
-tells_window : (w : Setting) (s t : State) (old : Counts) (n cycle before : ℕ) (marks : List Mark) (found : Option Why) → found ≡ None
+tells_window : (w : Setting) (s t : State) (old : Counts) (n cycle before : ℕ) (marks : List Mark)
     → is_tried old.after_empty s ≡ true → n ≡ window_length w s → t ≡ states w s n → t.cycle ≡ s.cycle + n
     → cycle ≡ s.cycle → before ≡ s.outer.pads.current → marks ≡ marks_in w s n
-    → events_by cycle before marks ≡ unless_stopped found [] (step_events w (position_at s old))
-tells_window w s t old n cycle before marks found none tried len state number at levels left =
+    → events_by cycle before marks ≡ step_events w (position_at s old)
+tells_window w s t old n cycle before marks tried len state number at levels left =
     let count : (states w s n).cycle ≡ s.cycle + n = ap (λ (x : State). x.cycle) (sym state) ∙ number in
     let here : events_by cycle before marks ≡ events_by s.cycle s.outer.pads.current (marks_in w s n) = rw (at, levels, left) refl in
-    told found (events_by cycle before marks) (step_events w (position_at s old)) none
-    (here ∙ marks_tell w s n count ∙ ap (events_in w s) len ∙ sym (events_of_window w (position_at s old) tried))
+    here ∙ marks_tell w s n count ∙ ap (events_in w s) len ∙ sym (events_of_window w (position_at s old) tried)
 
-pub only_one : (w : Setting) (s : State) → events_by s.cycle s.outer.pads.current (mark w s ∷ []) ≡ events w s
+only_one : (w : Setting) (s : State) → events_by s.cycle s.outer.pads.current (mark w s ∷ []) ≡ events w s
 unfolding events
 only_one w s = append-nil (events_of s.cycle s.outer.pads.current (mark w s))
 
-tells_cycle : (w : Setting) (s : State) (old : Counts) (cycle before : ℕ) (marks : List Mark) (found : Option Why) → found ≡ None
-    → is_tried old.after_empty s ≡ false
-    → cycle ≡ s.cycle → before ≡ s.outer.pads.current → marks ≡ mark w s ∷ []
-    → events_by cycle before marks ≡ unless_stopped found [] (step_events w (position_at s old))
-tells_cycle w s old cycle before marks found none tried at levels left =
+pub tells_one : (w : Setting) (s : State) (cycle before : ℕ) (marks : List Mark) → cycle ≡ s.cycle → before ≡ s.outer.pads.current → marks ≡ mark w s ∷ []
+    → events_by cycle before marks ≡ events w s
+tells_one w s cycle before marks at levels left =
     let here : events_by cycle before marks ≡ events_by s.cycle s.outer.pads.current (mark w s ∷ []) = rw (at, levels, left) refl in
-    told found (events_by cycle before marks) (step_events w (position_at s old)) none
-    (here ∙ only_one w s ∙ sym (events_of_cycle w (position_at s old) tried))
+    here ∙ only_one w s
 
 -- ---- its numbers
 
@@ -147,9 +133,9 @@ module _ {T : Type 0} {took : T → List Shown → T → Type 0} {missed : T →
       let more = h.5 in
       record {
         cause = h.0 ∙ sym none;
-        position = goes_by_window w s t old new n (stop_in r) none h.1 h.2 h.3 windows cycles after;
-        told = tells_same took missed a b f g (all_shown (events_by cycle before marks)) (all_shown (unless_stopped (stop_in r) [] (step_events w (position_at s old)))) r
-            (ap all_shown (tells_window w s t old n cycle before marks (stop_in r) none h.1 h.2 h.3 h.6 at levels h.4)) told;
+        position = rw none (goes_by_window w s t old new n h.1 h.2 h.3 windows cycles after);
+        told = rw none (tells_same took missed a b f g (all_shown (events_by cycle before marks)) (all_shown (step_events w (position_at s old))) r
+            (ap all_shown (tells_window w s t old n cycle before marks h.1 h.2 h.3 h.6 at levels h.4)) told);
         counted = omega (arith, number, cycles);
         steps = omega (arith, number, more);
       }
@@ -165,9 +151,9 @@ module _ {T : Type 0} {took : T → List Shown → T → Type 0} {missed : T →
       let more = h.4 in
       record {
         cause = h.0 ∙ sym none;
-        position = goes_by_cycle w s t old new (stop_in r) none h.1 h.2 windows cycles after;
-        told = tells_same took missed a b f g (all_shown (events_by cycle before marks)) (all_shown (unless_stopped (stop_in r) [] (step_events w (position_at s old)))) r
-            (ap all_shown (tells_cycle w s old cycle before marks (stop_in r) none h.1 at levels h.3)) told;
+        position = rw none (goes_by_cycle w s t old new h.1 h.2 windows cycles after);
+        told = rw none (tells_same took missed a b f g (all_shown (events_by cycle before marks)) (all_shown (step_events w (position_at s old))) r
+            (ap all_shown (tells_one w s cycle before marks at levels h.3 ∙ sym (events_of_cycle w (position_at s old) h.1))) told);
         counted = omega (arith, one, cycles);
         steps = omega (arith, one, more);
       }
