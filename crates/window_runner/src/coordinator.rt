@@ -12,7 +12,7 @@ ghost use Rattle.window_merge.specs.Merging.{marks_in, IsStep};
 ghost use Rattle.window_merge.specs.Jobs.{AreAlone, IsJobFor, IsTrueIn};
 ghost use Rattle.window_runner.specs.Told.{run_shown};
 ghost use Rattle.window_runner.specs.Alone.{StepsTo, position_at};
-ghost use Rattle.window_runner.specs.Seated.{IsSeatAt, IsReady};
+ghost use Rattle.window_runner.specs.Seated.{IsSeatAt, IsLed};
 ghost use Rattle.window_runner.specs.Windows.{Leaves};
 
 use crate::alone::{Counts, Ran, count_window, tell_step};
@@ -100,13 +100,11 @@ fn gather<'w, X: Device, G: Gate, H: Wait>(
     lead: &mut Lead<'w, X>,
     pieces: Six<Piece>,
 ) -> Six<Found>
-    requires ready { IsReady desk.now.board.now (λ w. w.now ≡ desk.now.world.now) lead.old.opened
-        lead.old.kept lead.old.master lead.old.seat }
+    requires ready { IsLed desk.now lead.old }
     requires pieces { EachLane (λ lane piece. IfSome piece.job (IsJobFor (setting X.meaning
         desk.now.world.now))) pieces }
     requires few { lead.old.opened + 6 ≤ 2 ^ 62 }
-    ensures ready { IsReady desk.now.board.now (λ w. w.now ≡ desk.now.world.now) lead.new.opened
-        lead.new.kept lead.new.master lead.new.seat }
+    ensures ready { IsLed desk.now lead.new }
     ensures begun { lead.new.sets.value.begun ≡ lead.old.sets.value.begun }
     ensures found { EachLane (λ lane found. IfSome found.report (IsTrueIn (setting X.meaning
         desk.now.world.now))) result }
@@ -171,8 +169,7 @@ fn window_over<'w, X: Device, G: Gate, H: Wait, L: Ledger>(
 ) -> u16
     requires number { machine.old.cycle ≤ desk.now.world.now.limit }
     requires free { has_hold machine.old.fabric ≡ false }
-    requires ready { IsReady desk.now.board.now (λ w. w.now ≡ desk.now.world.now) lead.old.opened
-        lead.old.kept lead.old.master lead.old.seat }
+    requires ready { IsLed desk.now lead.old }
     requires begun { lead.old.sets.value.begun ≡ begun machine.old }
     requires few { lead.old.opened + 6 ≤ 2 ^ 62 }
     requires words { length machine.old.outer.device ≡ (X.meaning
@@ -182,8 +179,7 @@ fn window_over<'w, X: Device, G: Gate, H: Wait, L: Ledger>(
     ensures number { machine.new.cycle ≡ machine.old.cycle + result }
     ensures marks { marks.new ≡ marks_in (setting X.meaning desk.now.world.now) machine.old result }
     ensures steps { steps.new ≡ steps.old + result }
-    ensures ready { IsReady desk.now.board.now (λ w. w.now ≡ desk.now.world.now) lead.new.opened
-        lead.new.kept lead.new.master lead.new.seat }
+    ensures ready { IsLed desk.now lead.new }
     ensures begun { lead.new.sets.value.begun ≡ begun machine.new }
 {
     lead.left = SHARE;
@@ -209,16 +205,14 @@ fn next_window<'w, X: Device, G: Gate, H: Wait, L: Ledger>(
 ) -> u16
     requires number { machine.old.cycle ≤ desk.now.world.now.limit }
     requires free { has_hold machine.old.fabric ≡ false }
-    requires ready { IsReady desk.now.board.now (λ w. w.now ≡ desk.now.world.now) lead.old.opened
-        lead.old.kept lead.old.master lead.old.seat }
+    requires ready { IsLed desk.now lead.old }
     requires begun { lead.old.sets.value.begun ≡ begun machine.old }
     ensures length { result ≡ window_length (setting X.meaning desk.now.world.now) machine.old }
     ensures state { machine.new ≡ states (setting X.meaning desk.now.world.now) machine.old result }
     ensures number { machine.new.cycle ≡ machine.old.cycle + result }
     ensures marks { marks.new ≡ marks_in (setting X.meaning desk.now.world.now) machine.old result }
     ensures steps { steps.new ≡ steps.old + result }
-    ensures ready { IsReady desk.now.board.now (λ w. w.now ≡ desk.now.world.now) lead.new.opened
-        lead.new.kept lead.new.master lead.new.seat }
+    ensures ready { IsLed desk.now lead.new }
     ensures begun { lead.new.sets.value.begun ≡ begun machine.new }
 {
     if goes_over(desk, lead, machine) {
@@ -243,13 +237,11 @@ fn go<'w, X: Device, G: Gate, H: Wait, L: Ledger>(
     steps: &mut Steps<L>,
 ) -> Moved
     requires number { machine.old.cycle ≤ desk.now.world.now.limit }
-    requires ready { IsReady desk.now.board.now (λ w. w.now ≡ desk.now.world.now) lead.old.opened
-        lead.old.kept lead.old.master lead.old.seat }
+    requires ready { IsLed desk.now lead.old }
     requires begun { lead.old.sets.value.begun ≡ begun machine.old }
     ensures moved { IsStep (setting X.meaning desk.now.world.now) after_empty result machine.old
         machine.new marks.old marks.new steps.old steps.new }
-    ensures ready { IsReady desk.now.board.now (λ w. w.now ≡ desk.now.world.now) lead.new.opened
-        lead.new.kept lead.new.master lead.new.seat }
+    ensures ready { IsLed desk.now lead.new }
     ensures begun { lead.new.sets.value.begun ≡ begun machine.new }
 {
     let begun = &mut lead.sets.begun;
@@ -277,8 +269,7 @@ fn step<'w, X: Device, G: Gate, H: Wait, T: Tape, L: Ledger>(
     steps: &mut Steps<L>,
 ) -> Result<Option<Why>, SinkFault>
     requires number { machine.old.cycle ≤ desk.now.world.now.limit }
-    requires ready { IsReady desk.now.board.now (λ w. w.now ≡ desk.now.world.now) lead.old.opened
-        lead.old.kept lead.old.master lead.old.seat }
+    requires ready { IsLed desk.now lead.old }
     requires begun { lead.old.sets.value.begun ≡ begun machine.old }
     requires windows { counts.old.windows
         ≤ machine.old.cycle + (if counts.old.after_empty then 1 else 0) }
@@ -286,8 +277,7 @@ fn step<'w, X: Device, G: Gate, H: Wait, T: Tape, L: Ledger>(
     ensures step { StepsTo T.took T.missed tape.old tape.new (T.faults tape.old) (T.faults tape.new)
         (setting X.meaning desk.now.world.now) (position_at machine.old counts.old) (position_at machine.new
         counts.new) steps.old steps.new result }
-    ensures ready { IsReady desk.now.board.now (λ w. w.now ≡ desk.now.world.now) lead.new.opened
-        lead.new.kept lead.new.master lead.new.seat }
+    ensures ready { IsLed desk.now lead.new }
     ensures begun { lead.new.sets.value.begun ≡ begun machine.new }
 {
     fact_limit_is_bounded(desk.world);
@@ -316,14 +306,12 @@ pub(crate) fn run<'w, X: Device, G: Gate, H: Wait, T: Tape, L: Ledger>(
     steps: &mut Steps<L>,
 ) -> Result<Ran, SinkFault>
     requires number { machine.old.cycle ≤ desk.now.world.now.limit }
-    requires ready { IsReady desk.now.board.now (λ w. w.now ≡ desk.now.world.now) lead.old.opened
-        lead.old.kept lead.old.master lead.old.seat }
+    requires ready { IsLed desk.now lead.old }
     ensures told { Tells T.took T.missed tape.old tape.new (T.faults tape.old) (T.faults tape.new)
         (run_shown (setting X.meaning desk.now.world.now) machine.old) result }
     ensures left { Leaves T.took T.missed tape.old tape.new (setting X.meaning desk.now.world.now)
         machine.old machine.new steps.old steps.new result }
-    ensures ready { IsReady desk.now.board.now (λ w. w.now ≡ desk.now.world.now) lead.new.opened
-        lead.new.kept lead.new.master lead.new.seat }
+    ensures ready { IsLed desk.now lead.new }
 {
     let mut counts = Counts {
         windows: 0,
