@@ -1,6 +1,7 @@
 -- What the answers of the calls mean.
 use Rattle.std.specs.Prelude.{◌≡◌, ℕ, ◌+◌, ◌%◌, ◌<◌, ◌≤◌, Bool, true, false, Some, None}
-use Rattle.turn_board.specs.Tickets.{SeatState, MasterState, saw}
+use Rattle.atomic_table.specs.Seated.{TableId}
+use Rattle.turn_board.specs.Tickets.{IsFree, SeatState, MasterState, saw}
 use Rattle.turn_board.specs.Rule.{open_word}
 use Rattle.turn_board.specs.Plays.{IsLook, IsPoll}
 use Rattle.turn_board.specs.Shown.{SeatView, MasterView}
@@ -61,3 +62,7 @@ IsSettled Closed = Unit {0}
 abbrev pub IsWhole : {R : Type 0} → Gather R → Type 0
 IsWhole (All results) = Unit {0}
 IsWhole (Part done) = ⊥
+
+-- the seat is at the board, whose values are made for w, and may draw
+abbrev pub IsReady : {J R W : Type 0} → TableId → W → SeatView J R W → Type 0
+IsReady z w s = (s.board ≡ z) × (s.made_for ≡ w) × IsFree s.state
