@@ -90,8 +90,7 @@ fn tell_changes<T: Tape>(cycle: u64, before: u32, after: u32, tape: &mut T) -> R
 fn is_quiet(before: u32, mark: &Mark) -> bool
     ensures { Decides result ((mark.now.uart ≡ None ∷ None ∷ []) × (before ≡ mark.now.pads)) }
 {
-    let silent = mark.uart == [None, None];
-    silent & (before == mark.pads)
+    matches!(mark.uart, [None, None]) && before == mark.pads
 }
 
 /// Tells the events of a cycle that left this mark, where the pads had these levels before.
