@@ -61,9 +61,9 @@ fn a_generated_program_runs(rt: HostRuntime) -> Result<(), Fail> {
     Ok(())
 }
 
-/// A shorter run.
+/// A shorter run, of which three windows go over the board.
 const SHORTER: Case = Case {
-    words: &["gen", "1", "--cycles", "50000", "--stats"],
+    words: &["gen", "1", "--cycles", "140000", "--stats"],
     ..NOTHING
 };
 
