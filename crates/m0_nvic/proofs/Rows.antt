@@ -3,10 +3,13 @@ use Rattle.std.proofs.Common.{◌≡◌, refl, sym, ap, ◌∙◌, ℕ, false, t
 use Rattle.std.specs.Prelude.{◌==◌, ◌≤◌, nat_lt, if◌then◌else◌, is_some, ⊤}
 use Rattle.std.proofs.lemmas.Grind.{common_steps}
 use Rattle.std.proofs.lemmas.Bool.Decides.{nat_tests}
-use Rattle.rp_base.specs.Rows.{Row, at_row, word_at, effect_at}
+use Rattle.rp_base.specs.Rows.{IsListed, Row, at_row, word_at, effect_at}
 use Rattle.rp_base.proofs.Rows.{listed, cut, still}
 use Rattle.m0_nvic.specs.State.{State}
 use Rattle.m0_nvic.specs.Words.{timer_rows, interrupt_rows, priority_rows, control_rows, bus_rows, of_timer, word_of, is_word, after_access}
+
+pub registers : IsListed bus_rows
+registers = listed bus_rows refl
 
 parts : {A : Type 0} (none : A) (found : Row ℕ State → ℕ → A) (at : ℕ)
     → at_row none found bus_rows at
@@ -71,4 +74,4 @@ reads at s = ap (λ x. if at == 0x010 then of_timer (λ t. record t { counted = 
 
 pub there : (s : State) (at ipsr : ℕ) → is_some (word_of at ipsr s) ≡ is_word at
 unfolding word_of is_word
-there s at ipsr = sym ((listed bus_rows refl).is_word at ipsr s)
+there s at ipsr = sym (registers.is_word at ipsr s)

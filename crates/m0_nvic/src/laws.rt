@@ -6,6 +6,7 @@ ghost use Rattle.m0_nvic.specs.Words.{EachRegisterIsAtItsOffset};
 
 /// The execution priority is the least of the active exceptions' priorities and of that of PRIMASK, which is 0 where it is
 /// set; it is 256 where there is neither.
+#[tactic(auto, using(crate::proofs::InForce::the_priority_is_the_least))]
 pub fn the_priority_is_the_least()
     ensures { ThePriorityIsTheLeast }
 {}
@@ -24,6 +25,7 @@ pub fn the_timer_has_its_period()
 {}
 
 /// At the offset of each register stands that register, and nothing at any other.
+#[tactic(auto, using(crate::proofs::Rows::registers))]
 pub fn each_register_is_at_its_offset()
     ensures { EachRegisterIsAtItsOffset }
 {}
