@@ -3,12 +3,14 @@ ghost use Rattle.bus_fabric.specs.Laws.{RoundLaw, ArbitrationLaw, FairnessLaw};
 ghost use Rattle.bus_fabric.specs.WaitLaws.{ApbLaw, WaitLaw};
 
 /// The distance of a master is from 1 to 4, and so many steps in the round arrive at it.
+#[tactic(auto, using(crate::proofs::Arbitration::round))]
 pub fn goes_round()
     ensures { RoundLaw }
 {}
 
 /// On each port at most one master wins, it asks, it is beaten by no master that asks, and where a master asks, one wins.
 /// The master that won last does not win again where another one of its priority asks.
+#[tactic(auto, using(crate::proofs::Arbitration::arbitrated))]
 pub fn arbitrates()
     ensures { ArbitrationLaw }
 {}
