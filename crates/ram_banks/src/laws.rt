@@ -2,6 +2,7 @@
 ghost use Rattle.ram_banks.specs.Laws.{LanesLaw};
 
 /// A write of some byte lanes changes the chosen bytes of the word to those of the value, and no other byte.
+#[tactic(auto, using(crate::proofs::Lanes::writes_lanes))]
 pub fn writes_lanes()
     ensures { LanesLaw }
 {}
