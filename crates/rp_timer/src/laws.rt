@@ -5,17 +5,20 @@ ghost use Rattle.rp_timer.specs.Words.{EachRegisterIsAtItsOffset, ATimerThatIsHe
 ghost use Rattle.rp_timer.specs.InterruptLaws.{WhatIsEnabledOrForcedIsShown};
 
 /// A timer that is not paused counts the microseconds that end, of 125 cycles each.
+#[tactic(auto, using(crate::proofs::Count::time_counts_microseconds))]
 pub fn time_counts_microseconds()
     ensures { TimeCountsMicroseconds }
 {}
 
 /// TIMELR, and TIMEHR any number of cycles after it, are the two words of one time, unless the high word rises in the cycle in
 /// which TIMELR is read.
+#[tactic(auto, using(crate::proofs::Latched::the_time_reads_as_one))]
 pub fn the_time_reads_as_one()
     ensures { TheTimeReadsAsOne }
 {}
 
 /// Where the high word rises in the cycle in which TIMELR is read, the low word is ffffffff and TIMEHR has the next high word.
+#[tactic(auto, using(crate::proofs::Latched::a_carry_tears_the_read))]
 pub fn a_carry_tears_the_read()
     ensures { ACarryTearsTheRead }
 {}
@@ -31,6 +34,7 @@ pub fn each_register_is_at_its_offset()
 {}
 
 /// A timer that RESETS holds reads as 0 at each register, and no access changes it.
+#[tactic(auto, using(rp_base::proofs::Rows::held))]
 pub fn a_timer_that_is_held_is_still()
     ensures { ATimerThatIsHeldIsStill }
 {}
