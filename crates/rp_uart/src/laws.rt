@@ -5,6 +5,7 @@ ghost use Rattle.rp_uart.specs.Words.{EachRegisterIsAtItsOffset};
 
 /// A receiver that samples each bit of a frame, as a sender with the same parity and number of data bits sends it, hears the
 /// data bits of its byte, and no error.
+#[tactic(auto, using(crate::proofs::Heard::heard_law))]
 pub fn what_is_sent_is_heard()
     ensures { WhatIsSentIsHeard }
 {}
@@ -16,6 +17,7 @@ pub fn a_frame_takes_its_time()
 {}
 
 /// A UART at rest with LBE that is given a byte to send has it in its receive FIFO, without an error, once its frame is over.
+#[tactic(auto, using(crate::proofs::Loopback::the_byte_comes_back))]
 pub fn the_byte_comes_back()
     ensures { TheByteComesBack }
 {}
