@@ -4,12 +4,15 @@ use Rattle.std.specs.Prelude.{◌==◌, nat_lt, if◌then◌else◌, slice_index
 use Rattle.std.proofs.lemmas.Grind.{common_steps}
 use Rattle.std.proofs.lemmas.Bool.Decides.{nat_tests}
 use Rattle.std.proofs.lemmas.List.{get_or-drop, get_or-take, drop-drop}
-use Rattle.rp_base.specs.Rows.{Row, at_row, word_at, effect_at}
-use Rattle.rp_base.proofs.Rows.{cut, in_stride, strided}
+use Rattle.rp_base.specs.Rows.{IsListed, Row, at_row, word_at, effect_at}
+use Rattle.rp_base.proofs.Rows.{listed, cut, in_stride, strided}
 use Rattle.pwm_block.specs.State.{Slice, State, slice_at_reset, slice_at}
 use Rattle.pwm_block.specs.Words.{with_csr, with_div, with_ctr, with_cc, with_top, only, with_slices, slice_rows, block_rows, pwm_rows}
 use Rattle.pwm_block.specs.Packing.{slice_of, slices_in, block_of}
 use Rattle.pwm_block.proofs.Slices.{one_more}
+
+pub registers : IsListed pwm_rows
+registers = listed pwm_rows refl
 
 pub words : (at : ℕ) (b : State) → word_at pwm_rows tt at b
     ≡ (if nat_lt at 0xa0 then word_at slice_rows tt at b else word_at block_rows tt at b)

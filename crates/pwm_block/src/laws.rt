@@ -4,6 +4,7 @@ ghost use Rattle.pwm_block.specs.Words.{EachRegisterIsAtItsOffset};
 ghost use Rattle.pwm_block.specs.Laws.{CountsAreThoseOfTheDivider, ADisabledSliceKeepsStill, AWriteShowsAtTheWrap, OutputAIsHighForCc, PhaseCorrectPeriodsAreSymmetric, TheWordsHoldTheBlock, EachPinHasItsOutput};
 
 /// The words of the device hold a block of eight slices from the start on, and each call does to them what it does to the block.
+#[tactic(auto, using(crate::proofs::Held::the_words_hold_the_block))]
 pub fn the_words_hold_the_block()
     ensures { TheWordsHoldTheBlock }
 {}
@@ -14,6 +15,7 @@ pub fn counts_are_those_of_the_divider()
 {}
 
 /// Over one period, of TOP + 1 counts, output A is high for CC of them, and at most for all.
+#[tactic(auto, using(crate::proofs::Periods::output_a_is_high_for_cc))]
 pub fn output_a_is_high_for_cc()
     ensures { OutputAIsHighForCc }
 {}
@@ -29,6 +31,7 @@ pub fn phase_correct_periods_are_symmetric()
 {}
 
 /// A slice that is not enabled stays as it is.
+#[tactic(auto, using(crate::proofs::Wraps::a_disabled_slice_keeps_still))]
 pub fn a_disabled_slice_keeps_still()
     ensures { ADisabledSliceKeepsStill }
 {}
@@ -39,6 +42,7 @@ pub fn each_pin_has_its_output()
 {}
 
 /// At the offset of each register stands that register, and nothing at any other.
+#[tactic(auto, using(crate::proofs::Rows::registers))]
 pub fn each_register_is_at_its_offset()
     ensures { EachRegisterIsAtItsOffset }
 {}
