@@ -3,6 +3,7 @@
 ghost use Rattle.uf2_image.specs.Writing.{WhatIsReadCanBeWritten, WhatIsWrittenIsRead};
 
 /// The file of an image holds that image.
+#[tactic(auto, using(crate::proofs::Written::what_is_written_is_read))]
 pub fn what_is_written_is_read()
     ensures { WhatIsWrittenIsRead }
 {}
