@@ -7,16 +7,19 @@ ghost use Rattle.pio_machine.specs.Clock.{AMachineTicksByItsDivider, ACycleKeeps
 ghost use Rattle.pio_machine.specs.WordLaws.{AWordBeginsUntried, AWrittenWordComesNext, TheBitsInStandAtTheirEnd, AStallKeepsTheRest};
 
 /// An IN that completes has shifted its bits exactly once since it was first tried, however often it stalled.
+#[tactic(auto, using(crate::proofs::Once::an_in_shifts_once))]
 pub fn an_in_shifts_once()
     ensures { AnInShiftsOnce }
 {}
 
 /// An IRQ with Wait that completes has raised its flag at its first try and at no other one, and finds it clear at the last.
+#[tactic(auto, using(crate::proofs::Once::an_irq_raises_once))]
 pub fn an_irq_raises_once()
     ensures { AnIrqRaisesOnce }
 {}
 
 /// In so many cycles from a divider at rest an enabled machine ticks once for each begun period of its divider.
+#[tactic(auto, using(crate::proofs::Clock::a_machine_ticks_by_its_divider))]
 pub fn a_machine_ticks_by_its_divider()
     ensures { AMachineTicksByItsDivider }
 {}
@@ -28,6 +31,7 @@ pub fn a_cycle_keeps_the_fifos_within()
 
 /// The bits that OUTs give up to the threshold, and then those that wait, are the bits of the words that were sent, in order,
 /// while nothing but autopull loads the OSR (no PULL that does something, no MOV to it) and SHIFTCTRL stays.
+#[tactic(auto, using(crate::proofs::Stream::the_bits_out_are_those_sent))]
 pub fn the_bits_out_are_those_sent()
     ensures { TheBitsOutAreThoseSent }
 {}
@@ -49,6 +53,7 @@ pub fn a_word_begins_untried()
 {}
 
 /// A word that was written to INSTR is the one that is tried in the next cycle, whether the machine is enabled or not.
+#[tactic(auto, using(crate::proofs::Tries::comes_next))]
 pub fn a_written_word_comes_next()
     ensures { AWrittenWordComesNext }
 {}
@@ -59,6 +64,7 @@ pub fn the_bits_in_stand_at_their_end()
 {}
 
 /// A try that stalls leaves PC, the delay, X, Y and the RX FIFO as they were.
+#[tactic(auto, using(crate::proofs::Tries::stall_keeps))]
 pub fn a_stall_keeps_the_rest()
     ensures { AStallKeepsTheRest }
 {}
