@@ -4,13 +4,16 @@ use Rattle.std.specs.Prelude.{◌==◌, ◌≢◌, ◌≤◌, nat_eq, nat_lt, if
 use Rattle.std.proofs.lemmas.Grind.{common_steps}
 use Rattle.std.proofs.lemmas.Bool.{and_parts, cond-true, cond-false}
 use Rattle.std.proofs.lemmas.Bool.Decides.{nat_tests}
-use Rattle.rp_base.specs.Rows.{Place, At, Each, first_of, is_at, number_at, Row, at_row, word_at, effect_at}
-use Rattle.rp_base.proofs.Rows.{cut, told, in_stride, strided, still, either-way}
+use Rattle.rp_base.specs.Rows.{IsListed, Place, At, Each, first_of, is_at, number_at, Row, at_row, word_at, effect_at}
+use Rattle.rp_base.proofs.Rows.{listed, cut, told, in_stride, strided, still, either-way}
 use Rattle.pio_machine.specs.declared.machine.Machine1.{Machine1}
 use Rattle.pio_block.specs.State.{State, machine_of, changed, with_machines}
 use Rattle.pio_block.specs.Queues.{taken}
 use Rattle.pio_block.specs.Registers.{machine_rows, register_of, register_written}
 use Rattle.pio_block.specs.Words.{control_rows, fifo_rows, pin_rows, memory_rows, of_machines, interrupt_rows, pio_rows, is_word, word_of, after_any}
+
+pub registers : IsListed pio_rows
+registers = listed pio_rows refl
 
 parts : {A : Type 0} (none : A) (found : Row ⊤ State → ℕ → A) (at : ℕ) → at_row none found pio_rows at
     ≡ (if nat_lt at 0x010 then at_row none found control_rows at else
