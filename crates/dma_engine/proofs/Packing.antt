@@ -17,11 +17,11 @@ later count rest k h =
 one_index : (n : ℕ) → n / 2 ^ (6 * 0) % 2 ^ 6 ≡ n % 2 ^ 6
 one_index n = omega arith
 
-pub count_at-packed_counts : CountsAreTakenAsPacked
-count_at-packed_counts [] index fits h = absurd (omega arith)
-count_at-packed_counts (count ∷ counts) zero fits h =
+pub taken_as_packed : CountsAreTakenAsPacked
+taken_as_packed [] index fits h = absurd (omega arith)
+taken_as_packed (count ∷ counts) zero fits h =
     one_index (count + packed_counts counts * 2 ^ 6) ∙ first count (packed_counts counts) (fits 0 h)
-count_at-packed_counts (count ∷ counts) (suc k) fits h =
+taken_as_packed (count ∷ counts) (suc k) fits h =
     let small : count ≤ 63 = fits 0 (omega arith) in
     ap (λ n. n % 2 ^ 6) (later count (packed_counts counts) k small)
-    ∙ count_at-packed_counts counts k (λ index below. fits (suc index) (omega arith)) (omega arith)
+    ∙ taken_as_packed counts k (λ index below. fits (suc index) (omega arith)) (omega arith)

@@ -3,10 +3,13 @@ use Rattle.std.proofs.Common.{◌≡◌, refl, sym, ap, ◌∙◌, ℕ, ◌/◌,
 use Rattle.std.specs.Prelude.{◌≤◌, nat_lt, is_some, ⊤}
 use Rattle.std.proofs.lemmas.Grind.{common_steps}
 use Rattle.std.proofs.lemmas.Bool.Decides.{nat_tests}
-use Rattle.rp_base.specs.Rows.{Row, at_row, word_at, effect_at}
+use Rattle.rp_base.specs.Rows.{IsListed, Row, at_row, word_at, effect_at}
 use Rattle.rp_base.proofs.Rows.{listed, cut, in_stride, strided, still}
 use Rattle.dma_engine.specs.State.{State}
 use Rattle.dma_engine.specs.Words.{channel_rows, block_rows, dma_rows, word_of, is_word, effect_of}
+
+pub registers : IsListed dma_rows
+registers = listed dma_rows refl
 
 low : {A : Type 0} (none : A) (found : Row ⊤ State → ℕ → A) (at : ℕ) → at < 0x300
     → at_row none found dma_rows at ≡ in_stride 0 none (λ row. found row (at / 64)) channel_rows (at % 64)
@@ -47,4 +50,4 @@ reads at s = still dma_rows at s (search rules)
 
 pub there : (s : State) (at : ℕ) → is_some (word_of at s) ≡ is_word at
 unfolding word_of is_word
-there s at = sym ((listed dma_rows refl).is_word at tt s)
+there s at = sym (registers.is_word at tt s)

@@ -8,6 +8,7 @@ ghost use Rattle.dma_engine.specs.InterruptLaws.{WhatIsEnabledOrForcedIsShown};
 ghost use Rattle.dma_engine.specs.Words.{EachRegisterIsAtItsOffset, AnEngineThatIsHeldIsStill};
 
 /// Counts of at most 63 that are packed into one answer are taken from it as they were.
+#[tactic(auto, using(crate::proofs::Packing::taken_as_packed))]
 pub fn counts_are_taken_as_packed()
     ensures { CountsAreTakenAsPacked }
 {}
@@ -15,6 +16,7 @@ pub fn counts_are_taken_as_packed()
 /// Of the channels that can be chosen, the choice is one of high priority, or one of all where none of these can be chosen;
 /// and of its kind it is the one whose turn comes first after the channel that was chosen last. There is a choice wherever a
 /// channel can be chosen.
+#[tactic(auto, using(crate::proofs::First::choice_comes_first))]
 pub fn the_choice_comes_first()
     ensures { TheChoiceComesFirst }
 {}
@@ -26,6 +28,7 @@ pub fn a_copy_is_exact()
 {}
 
 /// In a ring the bits of an address above it stay.
+#[tactic(auto, using(crate::proofs::Copying::ring_kept))]
 pub fn a_ring_keeps_its_high_bits()
     ensures { ARingKeepsItsHighBits }
 {}
@@ -36,11 +39,13 @@ pub fn an_abort_raises_nothing()
 {}
 
 /// INTS of a line is INTR where its INTE enables it, and its INTF whatever is enabled.
+#[tactic(auto, unfolding(crate::specs::Words::word_of))]
 pub fn what_is_enabled_or_forced_is_shown()
     ensures { WhatIsEnabledOrForcedIsShown }
 {}
 
 /// At the offset of each register stands that register, and nothing at any other.
+#[tactic(auto, using(crate::proofs::Rows::registers))]
 pub fn each_register_is_at_its_offset()
     ensures { EachRegisterIsAtItsOffset }
 {}
@@ -51,6 +56,7 @@ pub fn an_engine_at_reset_never_acts()
 {}
 
 /// An engine that is held reads 0, and no access changes it.
+#[tactic(auto, using(rp_base::proofs::Rows::held))]
 pub fn an_engine_that_is_held_is_still()
     ensures { AnEngineThatIsHeldIsStill }
 {}
