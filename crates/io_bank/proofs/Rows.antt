@@ -3,11 +3,14 @@ use Rattle.std.proofs.Common.{◌≡◌, refl, ap, ◌∙◌, ℕ, ◌/◌, ◌%
 use Rattle.std.specs.Prelude.{◌==◌, nat_le, nat_lt, if◌then◌else◌}
 use Rattle.std.proofs.lemmas.Grind.{common_steps}
 use Rattle.std.proofs.lemmas.Bool.Decides.{nat_tests}
-use Rattle.rp_base.specs.Rows.{Each, is_at, number_at, Row, at_row, word_at, has_row, effect_at}
-use Rattle.rp_base.proofs.Rows.{cut, told}
+use Rattle.rp_base.specs.Rows.{IsListed, Each, is_at, number_at, Row, at_row, word_at, has_row, effect_at}
+use Rattle.rp_base.proofs.Rows.{listed, cut, told}
 use Rattle.io_bank.specs.declared.outputs.Outs.{Outs}
 use Rattle.io_bank.specs.State.{State}
 use Rattle.io_bank.specs.Words.{pin_rows, event_rows, pad_rows, bank_rows}
+
+pub registers : IsListed bank_rows
+registers = listed bank_rows refl
 
 parts : {A : Type 0} (none : A) (found : Row Outs State → ℕ → A) (at : ℕ)
     → at_row none found bank_rows at

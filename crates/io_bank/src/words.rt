@@ -237,6 +237,7 @@ fn is_pad(offset: u16) -> bool
 }
 
 /// At the offset of each register stands that register, and nothing at any other.
+#[tactic(auto, using(crate::proofs::Rows::registers))]
 pub fn each_register_is_at_its_offset()
     ensures { EachRegisterIsAtItsOffset }
 {}
