@@ -7,6 +7,7 @@ ghost use Rattle.dma_laws.specs.Copies.{ACopyIsExactOnAnyChannel, AnEndIsRaisedO
 
 /// Whatever the other channels, the bus and the data requests do: a channel makes the reads of its transfers in order, each word that it
 /// reads is written to the place of its transfer, in this order and once, and its sequence is over exactly where all are written.
+#[tactic(auto, using(crate::proofs::Copying::a_copy_is_exact))]
 pub fn a_copy_is_exact_on_any_channel()
     ensures { ACopyIsExactOnAnyChannel }
 {}
