@@ -140,6 +140,7 @@ impl Dma {
     }
 
     /// Both are in the same state.
+    #[tactic(auto, using(rp_base::proofs::Exact::seen))]
     pub fn is_same(&self, other: &Dma) -> bool
         ensures { Decides result (self.now ≡ other.now) }
     {

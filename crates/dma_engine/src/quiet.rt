@@ -78,6 +78,7 @@ impl Engine {
     ghost use Rattle.dma_engine.specs.Quiet.{GivesNone, engine_after};
 
     /// In so many cycles from now on no timer gives a credit.
+    #[tactic(auto, using(crate::proofs::Lasting::none_by_timers))]
     fn quiet_timers(&self) -> u64
         ensures { GivesNone self.now result }
     {
