@@ -13,6 +13,7 @@ pub fn runs_follow_each_other()
 
 /// A word of SRAM after a cycle is what the writes that are done make of the word before, those of core 0, core 1 and the DMA
 /// engine one after another; so a word that none of them writes stays, and of two writes to one word the later stays.
+#[tactic(auto, using(crate::proofs::Kept::sram_by_writes))]
 pub fn sram_changes_by_the_writes_alone()
     ensures { SramChangesByTheWritesAlone }
 {}
@@ -21,24 +22,28 @@ pub fn sram_changes_by_the_writes_alone()
 /// state at the start, and what is done comes after its step. Of all that is done only SEV reaches core 0, and only SEV and
 /// what the launcher has a core 1 that is awake; the DMA engine, a PIO block and the peripherals are after the cycle as their own
 /// step left them, where no access is to their registers, to RESETS or to the device.
+#[tactic(auto, using(crate::proofs::Kept::effects_after))]
 pub fn effects_come_after_the_steps()
     ensures { EffectsComeAfterTheSteps }
 {}
 
 /// A cycle in which nobody wants anything and no access lasts changes the lanes, SIO and the number alone: SRAM, the fabric and
 /// RESETS stay, and each lane steps by what it has begun.
+#[tactic(auto, using(crate::proofs::Wantless::cycles_without_wants))]
 pub fn cycles_without_wants_change_the_lanes_alone()
     ensures { CyclesWithoutWantsChangeTheLanesAlone }
 {}
 
 /// Where core 0 alone is at work a cycle is its own and the peripherals': core 1 stays as it is, and the DMA engine and PIO come to what
 /// they come to by themselves.
+#[tactic(auto, using(crate::proofs::OneCore::next_alone))]
 pub fn one_core_goes_alone()
     ensures { OneCoreGoesAlone }
 {}
 
 /// In the first state and after each cycle the pads know the levels and enables that SIO puts out, and core 1 whether its
 /// launcher has a word.
+#[tactic(auto, using(crate::proofs::Copies::sio_known))]
 pub fn sio_is_known()
     ensures { SioIsKnown }
 {}
