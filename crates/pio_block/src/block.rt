@@ -161,6 +161,7 @@ impl PioBlock {
     }
 
     /// Both are in the same state.
+    #[tactic(auto, using(rp_base::proofs::Exact::seen))]
     pub fn is_same(&self, other: &PioBlock) -> bool
         ensures { Decides result (self.now ≡ other.now) }
     {
