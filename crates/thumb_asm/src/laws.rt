@@ -4,6 +4,7 @@ ghost use Rattle.thumb_asm.specs.Laws.{InstructionsAreDecoded, WhatIsAssembledIs
 
 /// The image of a source is that of bytes in which each instruction of the source stands at its address: the table of encodings gives
 /// that operation for the halfwords there.
+#[tactic(auto, using(crate::proofs::Decoded::decoded))]
 pub fn instructions_are_decoded()
     ensures { InstructionsAreDecoded }
 {}
