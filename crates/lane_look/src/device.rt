@@ -70,6 +70,7 @@ pub trait Device: Sync + Drop {
 
     /// For so many cycles from this one on it is quiet: as long as the pads have these levels it drives in each of them what it
     /// drives in the first one. Any smaller number is right too.
+    #[tactic(auto, using(crate::proofs::Quiet::quiet_none))]
     fn quiet(&self, _state: &[u32], _cycle: u64, _pads: u32) -> u64
         requires { length _state.now ≡ (meaning self.now).count }
         ensures { IsDeviceQuiet (meaning self.now) _state.now _cycle _pads result }
@@ -120,9 +121,11 @@ impl Device for NoDevice {
         Wires::default()
     }
 
+    #[tactic(auto, using(crate::proofs::Quiet::none_quiet))]
     fn quiet(&self, _state: &[u32], _cycle: u64, _pads: u32) -> u64 {
         u64::MAX
     }
 
+    #[tactic(auto, using(crate::proofs::Quiet::none_after))]
     fn pass(&self, _state: &mut [u32], _first: u64, _pads: u32, _n: u64) {}
 }
