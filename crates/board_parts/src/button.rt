@@ -62,6 +62,7 @@ impl Part for Button {
     }
 
     /// Up to the next half of a turn.
+    #[tactic(auto, using(crate::proofs::Quiet::button_quiet))]
     fn quiet(&self, _state: &[u32], cycle: u64, _pads: u32) -> u64 {
         PRESSED - cycle % PRESSED
     }

@@ -52,6 +52,7 @@ impl Part for Loop {
         at_level(self.pins[1], level_of(self.pins[0], pads))
     }
 
+    #[tactic(auto, using(lane_look::proofs::Quiet::quiet_rest))]
     fn quiet(&self, _state: &[u32], _cycle: u64, _pads: u32) -> u64 {
         u64::MAX
     }

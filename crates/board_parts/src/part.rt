@@ -66,6 +66,7 @@ pub trait Part: Drop {
 
     /// For so many cycles from this one on it is quiet: as long as the pads have these levels it drives in each of them what it
     /// drives in the first one. Any smaller number is right too.
+    #[tactic(auto, using(lane_look::proofs::Quiet::quiet_none))]
     fn quiet(&self, _state: &[u32], _cycle: u64, _pads: u32) -> u64
         requires state { length _state.now ≡ (meaning self.now).words }
         requires placed { are_pins (meaning self.now).pins (attached self.now) ≡ true }

@@ -61,6 +61,7 @@ impl Part for Shift {
         at_level(self.pins[2], level_of(7, state[0]))
     }
 
+    #[tactic(auto, using(crate::proofs::Quiet::shift_quiet, lane_look::proofs::Quiet::quiet_none))]
     fn quiet(&self, state: &[u32], _cycle: u64, pads: u32) -> u64 {
         if state[1] == level_of(self.pins[0], pads) {
             u64::MAX
