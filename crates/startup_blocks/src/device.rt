@@ -51,10 +51,12 @@ impl Device for Startup {
         Wires::default()
     }
 
+    #[tactic(auto, using(lane_look::proofs::Quiet::quiet_rest))]
     fn quiet(&self, _state: &[u32], _cycle: u64, _pads: u32) -> u64 {
         u64::MAX
     }
 
+    #[tactic(auto, using(lane_look::proofs::Times::times_rest))]
     fn pass(&self, _state: &mut [u32], _first: u64, _pads: u32, _n: u64) {}
 }
 
