@@ -69,6 +69,7 @@ pub fn each_fourth_place_has_a_word()
 {}
 
 /// Code that SRAM holds is fetched from there.
+#[tactic(auto, using(crate::proofs::Bytes::code_is_fetched))]
 pub fn code_is_fetched()
     ensures { CodeIsFetched }
 {}
