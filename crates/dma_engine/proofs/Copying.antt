@@ -1,6 +1,5 @@
 -- The cycles of a copy, one after another.
 use Rattle.std.proofs.Common.{◌≡◌, ℕ, zero, suc, ◌+◌, ◌-◌, ◌*◌, ◌/◌, ◌%◌, ◌^◌, ◌<◌, ◌≤◌, ◌==◌, true, false, cond, List, [], ◌∷◌, ◌++◌, Option, Some, None, refl, ap, ap₂, ◌∙◌, arith}
-use Rattle.std.specs.Prelude.{◌&&◌, not}
 use Rattle.std.proofs.lemmas.Bool.{le-leb}
 use Rattle.std.proofs.lemmas.Bool.Decides.{nat_tests}
 use Rattle.std.proofs.lemmas.Nat.{pow_pos, mod-mul-add, div-mul-add}
@@ -8,17 +7,18 @@ use Rattle.std.proofs.Math.Nat.{mod-lt}
 use Rattle.rp_base.specs.declared.Size.TheVariants as sizes
 use Rattle.rp_base.specs.declared.map.Spot.TheVariants as spot
 use Rattle.rp_base.specs.Map.{place_of}
+use Rattle.lane_look.specs.declared.lane.Turn.{Turn}
 use Rattle.lane_look.specs.declared.lane.Turn.TheVariants.{Done}
 use Rattle.lane_look.specs.Asking.{answered}
 use Rattle.dma_engine.specs.declared.waiting.WaitingWrite.{WaitingWrite}
 use Rattle.dma_engine.specs.declared.begun.Access.{Access}
 use Rattle.dma_engine.specs.declared.begun.Access.TheVariants as access
 use Rattle.dma_engine.specs.declared.begun.BegunTransfer.{BegunTransfer}
-use Rattle.dma_engine.specs.Asks.{begun_with, asks, asks_at, asks_read, next_request, write_at, write_begun}
+use Rattle.dma_engine.specs.Asks.{begun_with, idle_begun, asks, asks_at, asks_read, next_request, write_at, write_begun}
 use Rattle.dma_engine.specs.Channel.{with_trigger, with_abort, with_end, in_turn}
 use Rattle.dma_engine.specs.Choice.{is_ready, first_in_turn, choice_of}
-use Rattle.dma_engine.specs.Cycle.{want_of, is_in_flight, after_ends, with_read, after_read_of, after_write_of, after_choice, after_transfers, next}
-use Rattle.dma_engine.specs.Timer.{gets_credit, after_timers}
+use Rattle.dma_engine.specs.Cycle.{want_of, after_ends, with_read, after_transfers, next}
+use Rattle.dma_engine.specs.Timer.{after_timers}
 use Rattle.dma_engine.specs.Transfer.{advanced, moved, data_of, read_of, write_after, request_of}
 use Rattle.dma_engine.specs.State.{State}
 use Rattle.dma_engine.specs.TransferLaws.{copier, with_channel_0, memory_answer, granted, begun_by, engine_after, written_by, writes, copies, AreInSram, ACopyIsExact, ARingKeepsItsHighBits, AnAbortRaisesNothing}
@@ -37,9 +37,8 @@ writing address value = access.Write (record { address = address; size = sizes.W
 abbrev busy : ℕ → ℕ → ℕ → ℕ → Option ℕ → List WaitingWrite → State
 busy m r w k chosen waiting = with_channel_0 (copier m r w k true) chosen waiting 0
 
-begun_none : (memory : ℕ → ℕ) (m r w k : ℕ) → begun_by memory (busy m r w k None []) ≡ begun_with 0 access.Nothing access.Nothing
-unfolding asks asks_read next_request write_begun
-begun_none memory m r w k = refl
+abbrev both_done : List Turn
+both_done = Done 0 ∷ Done 0 ∷ []
 
 begun_read : (memory : ℕ → ℕ) (m r w k i b : ℕ) → place_of (r / 4 * 4) ≡ spot.Ram i b →
     begun_by memory (busy m r w k (Some 0) []) ≡ begun_with 0 (reading (r / 4 * 4) (memory (r / 4 * 4) % 2 ^ 32)) access.Nothing
@@ -53,79 +52,19 @@ unfolding asks asks_read next_request write_begun read_of request_of
 begun_both memory m r w k i b j c x v h g =
     ap₂ (λ p q. answered (memory_answer memory) (asks_at 0 (write_at (record { address = x; size = sizes.Word; write = Some v }) q) (record { address = r / 4 * 4; size = sizes.Word; write = None }) p)) h g
 
-begun_write : (memory : ℕ → ℕ) (m r w k j c x v : ℕ) → place_of x ≡ spot.Ram j c →
-    begun_by memory (busy m r w k None (pending x v ∷ [])) ≡ begun_with 0 access.Nothing (writing x v)
-unfolding asks asks_read next_request write_begun read_of request_of
-begun_write memory m r w k j c x v g =
-    ap (λ q. begun_with 0 access.Nothing (write_at (record { address = x; size = sizes.Word; write = Some v }) q)) g
-
--- ---- a cycle of a busy channel, by its parts
-
-goes : (s t : State) (begun : BegunTransfer) (choice : Option ℕ) → after_ends s ≡ s → choice_of begun.counts s ≡ choice →
-    after_timers (gets_credit s) (after_choice choice (after_write_of begun (Done 0 ∷ Done 0 ∷ []) (after_read_of begun (Done 0 ∷ Done 0 ∷ []) s))) ≡ t →
-    next s begun (Done 0 ∷ Done 0 ∷ []) ≡ t
-unfolding next after_transfers
-goes s t begun choice ends is last =
-    ap (λ e. after_timers (gets_credit s) (after_choice (choice_of begun.counts s) (after_write_of begun (Done 0 ∷ Done 0 ∷ []) (after_read_of begun (Done 0 ∷ Done 0 ∷ []) e)))) ends
-    ∙ ap (λ ch. after_timers (gets_credit s) (after_choice ch (after_write_of begun (Done 0 ∷ Done 0 ∷ []) (after_read_of begun (Done 0 ∷ Done 0 ∷ []) s)))) is
-    ∙ last
-
-ends_later : (m r w k : ℕ) (chosen : Option ℕ) (waiting : List WaitingWrite) → (k == 0) ≡ false →
-    after_ends (busy m r w k chosen waiting) ≡ busy m r w k chosen waiting
-unfolding after_ends in_turn
-ends_later m r w k chosen waiting h =
-    let s = busy m r w k chosen waiting in ap (λ b. cond (b && not (is_in_flight 0 s)) (with_end 0 s) s) h
-
-choice_is : (m r w k : ℕ) (chosen : Option ℕ) (waiting : List WaitingWrite) → (k == 0) ≡ false → choice_of 0 (busy m r w k chosen waiting) ≡ Some 0
-unfolding choice_of first_in_turn is_ready
-choice_is m r w k chosen waiting h = rw h refl
-
 -- ---- the cycles
 
-choose_last : (m r w k : ℕ) → after_timers (gets_credit (busy m r w k None [])) (after_choice (Some 0) (after_write_of (begun_with 0 access.Nothing access.Nothing) (Done 0 ∷ Done 0 ∷ []) (after_read_of (begun_with 0 access.Nothing access.Nothing) (Done 0 ∷ Done 0 ∷ []) (busy m r w k None []))))
-    ≡ busy m r w (k - 1) (Some 0) []
-unfolding in_turn after_timers with_read moved data_of write_after with_end
-choose_last m r w k = refl
-
-read_last : (m r w k x d : ℕ) → after_timers (gets_credit (busy m r w k (Some 0) [])) (after_choice (Some 0) (after_write_of (begun_with 0 (reading x d) access.Nothing) (Done 0 ∷ Done 0 ∷ []) (after_read_of (begun_with 0 (reading x d) access.Nothing) (Done 0 ∷ Done 0 ∷ []) (busy m r w k (Some 0) []))))
+read_more : (m r w k x d : ℕ) → (k == 0) ≡ false → next (busy m r w k (Some 0) []) (begun_with 0 (reading x d) access.Nothing) both_done
     ≡ busy m ((r + 4) % 2 ^ 32) ((w + 4) % 2 ^ 32) (k - 1) (Some 0) (pending (w / 4 * 4) d ∷ [])
-unfolding in_turn after_timers with_read moved data_of write_after with_end
-read_last m r w k x d = refl
+unfolding choice_of first_in_turn is_ready in_turn after_ends after_transfers next after_timers with_read moved data_of
+    write_after with_end with_trigger
+read_more m r w k x d h = rw h refl
 
-both_last : (m r w k x d y v : ℕ) → after_timers (gets_credit (busy m r w k (Some 0) (pending y v ∷ []))) (after_choice (Some 0) (after_write_of (begun_with 0 (reading x d) (writing y v)) (Done 0 ∷ Done 0 ∷ []) (after_read_of (begun_with 0 (reading x d) (writing y v)) (Done 0 ∷ Done 0 ∷ []) (busy m r w k (Some 0) (pending y v ∷ [])))))
+both_more : (m r w k x d y v : ℕ) → (k == 0) ≡ false → next (busy m r w k (Some 0) (pending y v ∷ [])) (begun_with 0 (reading x d) (writing y v)) both_done
     ≡ busy m ((r + 4) % 2 ^ 32) ((w + 4) % 2 ^ 32) (k - 1) (Some 0) (pending (w / 4 * 4) d ∷ [])
-unfolding in_turn after_timers with_read moved data_of write_after with_end
-both_last m r w k x d y v = refl
-
--- the last transfer
-read_end : (m r w x d : ℕ) → next (busy m r w 0 (Some 0) []) (begun_with 0 (reading x d) access.Nothing) (Done 0 ∷ Done 0 ∷ [])
-    ≡ busy m ((r + 4) % 2 ^ 32) ((w + 4) % 2 ^ 32) 0 None (pending (w / 4 * 4) d ∷ [])
-unfolding choice_of first_in_turn is_ready in_turn after_ends after_transfers next after_timers with_read moved data_of write_after with_end with_trigger
-read_end m r w x d = refl
-
-both_end : (m r w x d y v : ℕ) → next (busy m r w 0 (Some 0) (pending y v ∷ [])) (begun_with 0 (reading x d) (writing y v)) (Done 0 ∷ Done 0 ∷ [])
-    ≡ busy m ((r + 4) % 2 ^ 32) ((w + 4) % 2 ^ 32) 0 None (pending (w / 4 * 4) d ∷ [])
-unfolding choice_of first_in_turn is_ready in_turn after_ends after_transfers next after_timers with_read moved data_of write_after with_end with_trigger
-both_end m r w x d y v = refl
-
-write_end : (m r w y v : ℕ) → next (busy m r w 0 None (pending y v ∷ [])) (begun_with 0 access.Nothing (writing y v)) (Done 0 ∷ Done 0 ∷ [])
-    ≡ busy m r w 0 None []
-unfolding choice_of first_in_turn is_ready in_turn after_ends after_transfers next after_timers with_read moved data_of write_after with_end with_trigger
-write_end m r w y v = refl
-
-the_end : (m r w : ℕ) → next (busy m r w 0 None []) (begun_with 0 access.Nothing access.Nothing) (Done 0 ∷ Done 0 ∷ [])
-    ≡ with_channel_0 (copier m r w 0 false) None [] 1
-unfolding choice_of first_in_turn is_ready in_turn after_ends after_transfers next after_timers with_read moved data_of write_after with_end with_trigger
-the_end m r w = refl
-
-still : (m r w raised : ℕ) → next (with_channel_0 (copier m r w 0 false) None [] raised) (begun_with 0 access.Nothing access.Nothing) (Done 0 ∷ Done 0 ∷ [])
-    ≡ with_channel_0 (copier m r w 0 false) None [] raised
-unfolding choice_of first_in_turn is_ready in_turn after_ends after_transfers next after_timers with_read moved data_of write_after with_end with_trigger
-still m r w raised = refl
-
-begun_still : (memory : ℕ → ℕ) (m r w raised : ℕ) → begun_by memory (with_channel_0 (copier m r w 0 false) None [] raised) ≡ begun_with 0 access.Nothing access.Nothing
-unfolding asks asks_read next_request write_begun
-begun_still memory m r w raised = refl
+unfolding choice_of first_in_turn is_ready in_turn after_ends after_transfers next after_timers with_read moved data_of
+    write_after with_end with_trigger
+both_more m r w k x d y v h = rw h refl
 
 -- ---- cycles in turn
 
@@ -133,9 +72,9 @@ record Steps (memory : ℕ → ℕ) (s t : State) (done : List (ℕ × ℕ)) : T
   next_is : granted memory s ≡ t
   written : written_by (want_of (begun_by memory s).write) ≡ done
 
-steps : (memory : ℕ → ℕ) (s t : State) (b : BegunTransfer) → begun_by memory s ≡ b → next s b (Done 0 ∷ Done 0 ∷ []) ≡ t → Steps memory s t (written_by (want_of b.write))
+steps : (memory : ℕ → ℕ) (s t : State) (b : BegunTransfer) → begun_by memory s ≡ b → next s b both_done ≡ t → Steps memory s t (written_by (want_of b.write))
 steps memory s t b is goes = record {
-  next_is = ap (λ x. next s x (Done 0 ∷ Done 0 ∷ [])) is ∙ goes;
+  next_is = ap (λ x. next s x both_done) is ∙ goes;
   written = ap (λ (x : BegunTransfer). written_by (want_of x.write)) is;
 }
 
@@ -193,19 +132,17 @@ state_is m r w k x d e chosen h g same =
 word_at : (memory : ℕ → ℕ) (r : ℕ) → IsIn r → memory (r / 4 * 4) % 2 ^ 32 ≡ word memory r
 word_at memory r h = ap (λ a. memory a % 2 ^ 32) (whole r h)
 
-not_zero : (k : ℕ) → (suc k == 0) ≡ false
-not_zero k = grind (arith, nat_tests)
+not_zero : (n : ℕ) → 1 ≤ n → (n == 0) ≡ false
+not_zero n h = grind (arith, nat_tests)
 
 one_less : (k : ℕ) → suc k - 1 ≡ k
 one_less k = omega arith
 
 -- a channel is chosen
 chooses : (memory : ℕ → ℕ) (m r w k : ℕ) → Steps memory (busy m r w (suc k) None []) (busy m r w k (Some 0) []) []
-chooses memory m r w k =
-    steps memory _ _ (begun_with 0 access.Nothing access.Nothing) (begun_none memory m r w (suc k))
-    (goes (busy m r w (suc k) None []) (busy m r w (suc k - 1) (Some 0) []) (begun_with 0 access.Nothing access.Nothing) (Some 0)
-    (ends_later m r w (suc k) _ _ (not_zero k)) (choice_is m r w (suc k) None [] (not_zero k)) (choose_last m r w (suc k))
-    ∙ ap (λ c. busy m r w c (Some 0) []) (one_less k))
+unfolding asks asks_read next_request write_begun read_of request_of choice_of first_in_turn is_ready in_turn after_ends
+    after_transfers next after_timers with_read moved data_of write_after with_end with_trigger
+chooses memory m r w k = steps memory _ _ idle_begun refl (rw (not_zero (suc k) (omega arith), one_less k) refl)
 
 -- the first word is read
 reads_first : (memory : ℕ → ℕ) (m r w k : ℕ) → IsIn r → IsIn w →
@@ -213,18 +150,18 @@ reads_first : (memory : ℕ → ℕ) (m r w k : ℕ) → IsIn r → IsIn w →
 reads_first memory m r w k h g =
     let d = memory (r / 4 * 4) % 2 ^ 32 in
     steps memory _ _ (begun_with 0 (reading (r / 4 * 4) d) access.Nothing) (begun_read memory m r w (suc k) _ _ (placed r h))
-    (goes (busy m r w (suc k) (Some 0) []) (busy m ((r + 4) % 2 ^ 32) ((w + 4) % 2 ^ 32) (suc k - 1) (Some 0) (pending (w / 4 * 4) d ∷ []))
-    (begun_with 0 (reading (r / 4 * 4) d) access.Nothing) (Some 0)
-    (ends_later m r w (suc k) _ _ (not_zero k)) (choice_is m r w (suc k) (Some 0) [] (not_zero k)) (read_last m r w (suc k) (r / 4 * 4) d)
+    (read_more m r w (suc k) (r / 4 * 4) d (not_zero (suc k) (omega arith))
     ∙ ap (λ c. busy m ((r + 4) % 2 ^ 32) ((w + 4) % 2 ^ 32) c (Some 0) (pending (w / 4 * 4) d ∷ [])) (one_less k)
     ∙ state_is m r w k 0 d (word memory r) (Some 0) h g (word_at memory r h))
 
 reads_only : (memory : ℕ → ℕ) (m r w : ℕ) → IsIn r → IsIn w →
     Steps memory (busy m r w 0 (Some 0) []) (busy m (r + 4) (w + 4) 0 None (pending w (word memory r) ∷ [])) []
+unfolding asks asks_read next_request write_begun read_of request_of choice_of first_in_turn is_ready in_turn after_ends
+    after_transfers next after_timers with_read moved data_of write_after with_end with_trigger
 reads_only memory m r w h g =
     let d = memory (r / 4 * 4) % 2 ^ 32 in
     steps memory _ _ (begun_with 0 (reading (r / 4 * 4) d) access.Nothing) (begun_read memory m r w 0 _ _ (placed r h))
-    (read_end m r w (r / 4 * 4) d ∙ state_is m r w 0 0 d (word memory r) None h g (word_at memory r h))
+    (state_is m r w 0 0 d (word memory r) None h g (word_at memory r h))
 
 -- a word is read, and the one before is written
 does_both : (memory : ℕ → ℕ) (m r w k x v : ℕ) → IsIn r → IsIn w → IsIn x →
@@ -232,22 +169,25 @@ does_both : (memory : ℕ → ℕ) (m r w k x v : ℕ) → IsIn r → IsIn w →
 does_both memory m r w k x v h g f =
     let d = memory (r / 4 * 4) % 2 ^ 32 in
     steps memory _ _ (begun_with 0 (reading (r / 4 * 4) d) (writing x v)) (begun_both memory m r w (suc k) _ _ _ _ x v (placed r h) (place x f))
-    (goes (busy m r w (suc k) (Some 0) (pending x v ∷ [])) (busy m ((r + 4) % 2 ^ 32) ((w + 4) % 2 ^ 32) (suc k - 1) (Some 0) (pending (w / 4 * 4) d ∷ []))
-    (begun_with 0 (reading (r / 4 * 4) d) (writing x v)) (Some 0)
-    (ends_later m r w (suc k) _ _ (not_zero k)) (choice_is m r w (suc k) (Some 0) (pending x v ∷ []) (not_zero k)) (both_last m r w (suc k) (r / 4 * 4) d x v)
+    (both_more m r w (suc k) (r / 4 * 4) d x v (not_zero (suc k) (omega arith))
     ∙ ap (λ c. busy m ((r + 4) % 2 ^ 32) ((w + 4) % 2 ^ 32) c (Some 0) (pending (w / 4 * 4) d ∷ [])) (one_less k)
     ∙ state_is m r w k 0 d (word memory r) (Some 0) h g (word_at memory r h))
 
 does_last : (memory : ℕ → ℕ) (m r w x v : ℕ) → IsIn r → IsIn w → IsIn x →
     Steps memory (busy m r w 0 (Some 0) (pending x v ∷ [])) (busy m (r + 4) (w + 4) 0 None (pending w (word memory r) ∷ [])) ((x, v) ∷ [])
+unfolding asks asks_read next_request write_begun read_of request_of choice_of first_in_turn is_ready in_turn after_ends
+    after_transfers next after_timers with_read moved data_of write_after with_end with_trigger
 does_last memory m r w x v h g f =
     let d = memory (r / 4 * 4) % 2 ^ 32 in
     steps memory _ _ (begun_with 0 (reading (r / 4 * 4) d) (writing x v)) (begun_both memory m r w 0 _ _ _ _ x v (placed r h) (place x f))
-    (both_end m r w (r / 4 * 4) d x v ∙ state_is m r w 0 0 d (word memory r) None h g (word_at memory r h))
+    (state_is m r w 0 0 d (word memory r) None h g (word_at memory r h))
 
 writes_last : (memory : ℕ → ℕ) (m r w x v : ℕ) → IsIn x → Steps memory (busy m r w 0 None (pending x v ∷ [])) (busy m r w 0 None []) ((x, v) ∷ [])
+unfolding asks asks_read next_request write_begun read_of request_of choice_of first_in_turn is_ready in_turn after_ends
+    after_transfers next after_timers with_read moved data_of write_after with_end with_trigger
 writes_last memory m r w x v f =
-    steps memory _ _ (begun_with 0 access.Nothing (writing x v)) (begun_write memory m r w 0 _ _ x v (place x f)) (write_end m r w x v)
+    steps memory _ _ (begun_with 0 access.Nothing (writing x v))
+    (ap (λ q. begun_with 0 access.Nothing (write_at (record { address = x; size = sizes.Word; write = Some v }) q)) (place x f)) refl
 
 -- what is left where a write waits
 record Copied (memory : ℕ → ℕ) (m n r w cycles : ℕ) (s : State) (done : List (ℕ × ℕ)) : Type 0 where
@@ -303,8 +243,9 @@ from_start memory m (suc (suc k)) r w few h g =
 -- ---- the end
 
 stays : (memory : ℕ → ℕ) (m r w raised : ℕ) → Steps memory (with_channel_0 (copier m r w 0 false) None [] raised) (with_channel_0 (copier m r w 0 false) None [] raised) []
-stays memory m r w raised =
-    steps memory _ _ (begun_with 0 access.Nothing access.Nothing) (begun_still memory m r w raised) (still m r w raised)
+unfolding asks asks_read next_request write_begun read_of request_of choice_of first_in_turn is_ready in_turn after_ends
+    after_transfers next after_timers with_read moved data_of write_after with_end with_trigger
+stays memory m r w raised = steps memory _ _ idle_begun refl refl
 
 writes_none : (memory : ℕ → ℕ) (m r w raised n : ℕ) → writes memory n (with_channel_0 (copier m r w 0 false) None [] raised) ≡ []
 writes_none memory m r w raised zero = refl
@@ -315,8 +256,10 @@ stays_so memory m r w raised zero = refl
 stays_so memory m r w raised (suc n) = then_after memory n _ _ [] (stays memory m r w raised) ∙ stays_so memory m r w raised n
 
 ends_so : (memory : ℕ → ℕ) (m r w : ℕ) → engine_after memory 1 (busy m r w 0 None []) ≡ with_channel_0 (copier m r w 0 false) None [] 1
+unfolding asks asks_read next_request write_begun read_of request_of choice_of first_in_turn is_ready in_turn after_ends
+    after_transfers next after_timers with_read moved data_of write_after with_end with_trigger
 ends_so memory m r w =
-    then_after memory 0 _ _ [] (steps memory (busy m r w 0 None []) (with_channel_0 (copier m r w 0 false) None [] 1) (begun_with 0 access.Nothing access.Nothing) (begun_none memory m r w 0) (the_end m r w))
+    then_after memory 0 _ _ [] (steps memory (busy m r w 0 None []) (with_channel_0 (copier m r w 0 false) None [] 1) idle_begun refl refl)
 
 two_more : (n : ℕ) → n + 2 ≡ suc (suc n)
 two_more n = omega arith
@@ -337,12 +280,9 @@ copied memory n m r w few h g =
 
 -- ---- a ring
 
-no_zero : (n : ℕ) → 1 ≤ n → (n == 0) ≡ false
-no_zero n h = grind (arith, nat_tests)
-
 ring_is : (n bytes address : ℕ) → 1 ≤ n → advanced n bytes address ≡ address / 2 ^ n * 2 ^ n + (address % 2 ^ n + bytes) % 2 ^ n
 ring_is n bytes address h =
-    ap (λ b. cond b ((address + bytes) % 2 ^ 32) (address / 2 ^ n * 2 ^ n + (address % 2 ^ n + bytes) % 2 ^ n)) (no_zero n h)
+    ap (λ b. cond b ((address + bytes) % 2 ^ 32) (address / 2 ^ n * 2 ^ n + (address % 2 ^ n + bytes) % 2 ^ n)) (not_zero n h)
 
 pub ring_kept : ARingKeepsItsHighBits
 ring_kept n bytes address h =
@@ -361,16 +301,10 @@ abort_is : (m r w n : ℕ) → with_abort 0 (busy m r w n None []) ≡ aborted m
 unfolding with_abort
 abort_is m r w n = refl
 
-begun_aborted : (memory : ℕ → ℕ) (m r w : ℕ) → begun_by memory (aborted m r w) ≡ begun_with 0 access.Nothing access.Nothing
-unfolding asks asks_read next_request write_begun
-begun_aborted memory m r w = refl
-
-abort_ends : (m r w : ℕ) → next (aborted m r w) (begun_with 0 access.Nothing access.Nothing) (Done 0 ∷ Done 0 ∷ []) ≡ with_channel_0 (copier m r w 0 false) None [] 0
-unfolding choice_of first_in_turn is_ready in_turn after_ends after_transfers next after_timers with_read moved data_of write_after with_end with_trigger
-abort_ends m r w = refl
-
 after_abort : (memory : ℕ → ℕ) (m r w : ℕ) → Steps memory (aborted m r w) (with_channel_0 (copier m r w 0 false) None [] 0) []
-after_abort memory m r w = steps memory _ _ (begun_with 0 access.Nothing access.Nothing) (begun_aborted memory m r w) (abort_ends m r w)
+unfolding asks asks_read next_request write_begun read_of request_of choice_of first_in_turn is_ready in_turn after_ends
+    after_transfers next after_timers with_read moved data_of write_after with_end with_trigger
+after_abort memory m r w = steps memory _ _ idle_begun refl refl
 
 abort_writes : (memory : ℕ → ℕ) (m r w k : ℕ) → writes memory k (aborted m r w) ≡ []
 abort_writes memory m r w zero = refl
