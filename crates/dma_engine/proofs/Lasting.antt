@@ -1,5 +1,5 @@
 -- An engine that is quiet: nothing is begun, no timer gives a credit, and the timers alone step.
-use Rattle.std.proofs.Common.{◌≡◌, ℕ, zero, suc, ◌+◌, ◌-◌, ◌*◌, ◌/◌, ◌^◌, ◌<◌, ◌≤◌, min, Bool, true, false, not, ◌&&◌, ◌==◌, nat_le, cond, if◌then◌else◌, List, [], ◌∷◌, length, map, get_or, Option, Some, None, ◌⊎◌, inl, inr, refl, sym, ap, ◌∙◌, arith}
+use Rattle.std.proofs.Common.{◌≡◌, ℕ, zero, suc, ◌+◌, ◌-◌, ◌*◌, ◌/◌, ◌%◌, ◌^◌, ◌<◌, ◌≤◌, min, Bool, true, false, not, ◌&&◌, ◌==◌, nat_le, cond, if◌then◌else◌, List, [], ◌∷◌, length, map, get_or, Option, Some, None, ◌⊎◌, inl, inr, refl, sym, ap, ◌∙◌, arith}
 use Rattle.std.specs.List.{list_all, list_any}
 use Rattle.std.proofs.lemmas.Bool.{and_parts, and_right, or_parts}
 use Rattle.std.proofs.lemmas.Bool.Decides.{nat_tests}
@@ -141,7 +141,7 @@ step_more (t ∷ ts) k = ap (λ xs. timer_after (suc k) t ∷ xs) (step_more ts 
 
 -- ---- the engine, whose timers stand still
 
-engine_still : (s : State) (n : ℕ) → list_all is_idle_timer s.timers ≡ true → engine_after n s ≡ s
+pub engine_still : (s : State) (n : ℕ) → list_all is_idle_timer s.timers ≡ true → engine_after n s ≡ s
 engine_still s n h = ap (λ ts. record s { timers = ts }) (all_still s.timers n h)
 
 -- ---- the engine that lacks credits
@@ -237,21 +237,10 @@ four_none _ k d h p q r s = absurd (omega arith)
 pub none_by_timers : (i s : State) (n : ℕ) → i ≡ s → ((k : ℕ) → k < n → list_any gives (map (timer_after k) i.timers) ≡ false) → GivesNone s n
 none_by_timers i s n e h = record { credits = λ k lt. ap (λ (x : State). list_any gives (map (timer_after k) x.timers)) (sym e) ∙ h k lt }
 
-pub stands_by : (i s : State) (n : ℕ) → i ≡ s → list_all is_idle_timer i.timers ≡ true → s ≡ engine_after n s
-stands_by i s n e h = sym (ap (engine_after n) (sym e) ∙ engine_still i n h ∙ e)
-
 -- what a call of one timer reckons, whose step and sum so far are these
-pub record Reckons (t : PacingTimer) (n step sum : ℕ) : Type 0 where
-  pub added : n * step < 2 ^ 16
-  pub fits : sum + n * step < 2 ^ 16
-  pub after : record t { accumulator = sum + n * step } ≡ timer_after n t
-
-pub reckons : (t : PacingTimer) (n step sum : ℕ) → NoneOf t n → t.y < 2 ^ 16 → t.accumulator < 2 ^ 16 → step ≡ step_of t → sum ≡ t.accumulator → Reckons t n step sum
+pub reckons : (t : PacingTimer) (n step sum : ℕ) → NoneOf t n → t.y < 2 ^ 16 → t.accumulator < 2 ^ 16 → step ≡ step_of t → sum ≡ t.accumulator
+    → record t { accumulator = (sum + n * step % 2 ^ 64) % 2 ^ 64 % 2 ^ 16 } ≡ timer_after n t
 reckons t n step sum h y a e f =
     let same : sum + n * step ≡ t.accumulator + n * step_of t = rw (e, f) refl in
     let low : t.accumulator + n * step_of t < 2 ^ 16 = fits t n h a y in
-    record {
-      added = omega (arith, same, low);
-      fits = omega (arith, same, low);
-      after = ap (λ a. record t { accumulator = a }) same ∙ sym (added t n n h (omega arith));
-    }
+    ap (λ a. record t { accumulator = a }) (omega (arith, same, low)) ∙ sym (added t n n h (omega arith))

@@ -65,11 +65,10 @@ timers_alone s e h = in_turn-all_failing (gets_credit s) with_credit 12 (with_st
 stopped : (s : State) → list_all is_idle_timer s.timers ≡ true → after_timers (gets_credit s) s ≡ s
 stopped s h = timers_alone s s (none_give s.timers h) ∙ ap (λ ts. record s { timers = ts }) (idle_timers s.timers h)
 
-pub finished_without : (s moved new : State) (begun : BegunTransfer) (turns : List Turn) → list_any gives s.timers ≡ false →
-    moved ≡ after_transfers s begun turns → new ≡ with_stepped_timers moved → new ≡ next s begun turns
+pub next-without : (s : State) (begun : BegunTransfer) (turns : List Turn) → list_any gives s.timers ≡ false →
+    next s begun turns ≡ with_stepped_timers (after_transfers s begun turns)
 unfolding next
-finished_without s moved new begun turns none moves last =
-    last ∙ ap with_stepped_timers moves ∙ sym (timers_alone s (after_transfers s begun turns) none)
+next-without s begun turns none = timers_alone s (after_transfers s begun turns) none
 
 -- ---- a cycle in which nothing is read or written
 
@@ -99,6 +98,9 @@ nothing_moves s begun turns read write idle =
     (ap (λ a. after_read (word_read a told) s) read ∙ ap (λ w. after_read w s) (nothing_done told).0)
     (ap (λ a. after_write (is_written a done) s) write ∙ ap (λ b. after_write b s) (nothing_done done).1)
 
+pub stays_by : (s : State) (counts : ℕ) → list_all is_idle_timer s.timers ≡ true → AreIdle counts s 12 → StaysBy counts s
+stays_by s counts timers idle = record { timers = timers; idle = idle }
+
 pub unmoved_cycle : (s : State) (begun : BegunTransfer) (turns : List Turn) → StaysBy begun.counts s →
     begun.read ≡ access.Nothing → begun.write ≡ access.Nothing → next s begun turns ≡ s
 unfolding next
@@ -112,7 +114,7 @@ record Pauses (s : State) : Type 0 where
   waiting : s.waiting ≡ []
   channels : list_all is_paused_channel s.channels ≡ true
 
-none_is : (o : Option ℕ) → is_none o ≡ true → o ≡ None
+none_is : (o : Option ℕ) → is_some o ≡ false → o ≡ None
 none_is None h = refl
 none_is (Some n) h = absurd (cc)
 
@@ -125,7 +127,7 @@ unfolding is_paused
 pauses s h =
     let first = and_parts (is_none s.chosen) _ h in
     let others = and_parts (nat_eq (length s.waiting) 0) _ first.1 in
-    record { chosen = none_is s.chosen first.0; waiting = empty_is s.waiting others.0; channels = others.1 }
+    record { chosen = none_is s.chosen (not-true _ first.0); waiting = empty_is s.waiting others.0; channels = others.1 }
 
 paused_at : (cs : List Channel) (n : ℕ) → list_all is_paused_channel cs ≡ true → is_paused_channel (get_or cs n idle_channel) ≡ true
 paused_at [] n h = refl
@@ -189,14 +191,9 @@ reads_none : (s : State) (counts : ℕ) → s.chosen ≡ None → s.waiting ≡ 
 unfolding asks_read write_begun next_request
 reads_none s counts chosen waiting = rw (chosen, waiting) refl
 
-none_since : (r : Bool) (o : Option ℕ) → not r ≡ is_some o → r ≡ true → o ≡ None
-none_since true None h e = refl
-none_since true (Some n) h e = absurd (cc)
-none_since false o h e = absurd (cc)
-
-pub begins_nothing : (s : State) (counts : ℕ) (r : Bool) → not r ≡ is_some s.chosen → r ≡ true →
-    nat_eq (length s.waiting) 0 ≡ true → asks_read counts s ≡ Ready (begun_with counts access.Nothing access.Nothing)
-begins_nothing s counts r h i e = reads_none s counts (none_since r s.chosen h i) (empty_is s.waiting e)
+pub begins_nothing : (s : State) (counts : ℕ) → is_some s.chosen ≡ false → nat_eq (length s.waiting) 0 ≡ true →
+    asks_read counts s ≡ Ready (begun_with counts access.Nothing access.Nothing)
+begins_nothing s counts h e = reads_none s counts (none_is s.chosen h) (empty_is s.waiting e)
 
 pub asks-paused : (s : State) → is_paused s ≡ true → asks s ≡ Ready idle_begun
 unfolding asks
@@ -230,19 +227,6 @@ stays-paused s h idle = record {
   stays = λ begun turns. ap (after_timers (gets_credit s)) (paused_moves s begun turns h) ∙ stopped s idle;
 }
 
--- it is paused, and its lines are low, as before
-pub paused-stepped : (s new : State) → new ≡ with_stepped_timers s → is_paused new ≡ is_paused s
-unfolding is_paused
-paused-stepped s new h = ap is_paused h
-
-pub silent-stepped : (s new : State) → new ≡ with_stepped_timers s → is_silent new ≡ is_silent s
-silent-stepped s new h = ap is_silent h
-
--- the same of an engine that was opened
-pub paused-passed : (i s : State) (timers : List PacingTimer) → i ≡ s → is_paused (record i { timers = timers }) ≡ is_paused s
-unfolding is_paused
-paused-passed i s timers h = ap is_paused h
-
 -- ---- the interrupt lines
 
 silent : (e f r : ℕ) → nat_eq r 0 ≡ true → nat_eq f 0 ≡ true → not (nat_eq (bit_or (bit_and r e) f) 0) ≡ false
@@ -259,6 +243,6 @@ silent_lines s h =
 
 pub ruleset unmoved = (unmoved_cycle)
 
-pub ruleset stepping = (next-paused, paused-stepped, silent-stepped)
+pub ruleset stepping = (next-without, next-paused)
 
 pub ruleset paused = (asks-paused, stays-paused)

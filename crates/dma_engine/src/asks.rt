@@ -105,6 +105,7 @@ impl Engine {
 
     /// No channel is chosen and no write waits, so that nothing is begun.
     #[inline(always)]
+    #[tactic(auto, using(crate::proofs::Rest::begins_nothing))]
     fn begins_nothing(&self, counts: u128) -> bool
         ensures { result ≡ true
             → asks_read counts self.now ≡ Ready (begun_with counts Access.Nothing Access.Nothing) }

@@ -149,6 +149,7 @@ impl Dma {
 
     /// No interrupt is raised or forced, so that both lines are low.
     #[inline(always)]
+    #[tactic(auto, using(crate::proofs::Rest::silent_lines))]
     pub fn is_silent(&self) -> bool
         ensures value { result ≡ is_silent self.now }
         ensures lines { result ≡ true → lines_of self.now ≡ false ∷ false ∷ [] }

@@ -262,6 +262,7 @@ impl Engine {
 
     /// No pacing timer runs, and with these counts no channel can be chosen or is over, so that a cycle in which nothing is begun changes
     /// nothing.
+    #[tactic(auto, using(crate::proofs::Rest::stays_by))]
     pub(crate) fn stays_by(&self, counts: u128) -> Option<u128>
         ensures { IfSome result (λ counts. StaysBy counts self.now) }
     {
@@ -323,7 +324,7 @@ impl Engine {
 
     /// The transfers have their cycle.
     #[inline(never)]
-    #[tactic(auto, unfolding(crate::specs::Cycle::after_transfers))]
+    #[tactic(auto, unfolding(crate::specs::Cycle::after_transfers), using(crate::proofs::Finishing::turn_at))]
     fn move_on(&mut self, begun: &BegunTransfer, turns: &[Turn; 2])
         ensures { self.new ≡ after_transfers self.old begun.now turns.now }
     {
@@ -351,7 +352,7 @@ impl Engine {
     /// The cycle of an engine that is paused, where no timer gives a credit: the timers alone step. False, and nothing is changed, where
     /// one gives.
     #[inline(always)]
-    #[tactic(auto, using(crate::proofs::Rest::stepping))]
+    #[tactic(auto, unfolding(crate::specs::Rest::is_paused), using(crate::proofs::Rest::stepping))]
     pub(crate) fn step_paused(&mut self) -> bool
         requires { is_paused self.old ≡ true }
         ensures after { result ≡ true
@@ -370,7 +371,7 @@ impl Engine {
     /// The cycle, where this was begun and these turns were given; false where only timers stepped, so that the engine is paused as
     /// before.
     #[inline(always)]
-    #[tactic(auto, using(crate::proofs::Rest::stepping))]
+    #[tactic(auto, unfolding(crate::specs::Rest::is_paused), using(crate::proofs::Rest::stepping))]
     pub(crate) fn finish(&mut self, begun: &BegunTransfer, turns: &[Turn; 2]) -> bool
         ensures after { self.new ≡ next self.old begun.now turns.now }
         ensures paused { result ≡ false → is_paused self.new ≡ is_paused self.old }

@@ -16,6 +16,7 @@ impl PacingTimer {
     ghost use Rattle.dma_engine.specs.Quiet.{timer_after};
 
     /// In so many cycles from now on it gives no credit.
+    #[tactic(auto, using(crate::proofs::Lasting::none_still, crate::proofs::Lasting::steps_fit))]
     fn quiet(&self) -> u64
         ensures { (k : ℕ) → k < result → gives (timer_after k self.now) ≡ false }
     {
@@ -33,11 +34,11 @@ impl PacingTimer {
         ensures { result ≡ timer_after n self.now }
     {
         fact_fits(self.y, self.accumulator);
-        let added = n * u64::from(self.step());
+        let added = n.wrapping_mul(u64::from(self.step()));
         PacingTimer {
             x: self.x,
             y: self.y,
-            accumulator: (u64::from(self.accumulator) + added) as u16,
+            accumulator: (u64::from(self.accumulator).wrapping_add(added) % 0x1_0000) as u16,
         }
     }
 }
@@ -86,6 +87,7 @@ impl Engine {
     }
 
     /// So many cycles of the timers at once, in which none gives a credit.
+    #[tactic(auto, unfolding(crate::specs::Rest::is_paused))]
     fn pass_timers(&mut self, n: u64)
         requires { GivesNone self.old n }
         ensures after { self.new ≡ engine_after n self.old }
@@ -121,6 +123,7 @@ impl Dma {
     }
 
     /// So many cycles at once, in which the engine is quiet.
+    #[tactic(auto, using(crate::proofs::Lasting::engine_still))]
     pub fn pass(&mut self, n: u64)
         requires { GivesNone self.old n }
         ensures { self.new ≡ engine_after n self.old }

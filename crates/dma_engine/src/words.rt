@@ -41,6 +41,7 @@ impl PacingTimer {
 
 impl Engine {
     /// The word at an offset.
+    #[tactic(auto, using(crate::proofs::Rows::low_word, crate::proofs::Rows::high_word))]
     pub(crate) fn read(&self, offset: u16) -> Option<u32>
         ensures { result ≡ word_of offset self.now }
     {
@@ -72,6 +73,7 @@ impl Engine {
     }
 
     /// A write of a word.
+    #[tactic(auto, using(crate::proofs::Rows::low_write, crate::proofs::Rows::high_write))]
     fn write(&mut self, offset: u16, word: u32)
         ensures { self.new ≡ effect_of offset (Some word) self.old }
     {
