@@ -78,23 +78,6 @@ written-of_machine (row ∷ rows) index number w s e =
 
 -- ---- by the part in which an offset is
 
-at_control : {A : Type 0} (none : A) (found : Row ⊤ State → ℕ → A) (at : ℕ) → at < 0x010
-    → at_row none found pio_rows at ≡ at_row none found control_rows at
-at_control none found at h = parts none found at ∙ rw (lt-ltb at 0x010 h) refl
-
-at_fifo : {A : Type 0} (none : A) (found : Row ⊤ State → ℕ → A) (at : ℕ) → 0x010 ≤ at → at < 0x030
-    → at_row none found pio_rows at ≡ at_row none found fifo_rows at
-at_fifo none found at g h = parts none found at ∙ rw (le-ltb at 0x010 g, lt-ltb at 0x030 h) refl
-
-at_pin : {A : Type 0} (none : A) (found : Row ⊤ State → ℕ → A) (at : ℕ) → 0x030 ≤ at → at < 0x048
-    → at_row none found pio_rows at ≡ at_row none found pin_rows at
-at_pin none found at g h = parts none found at ∙ rw (le-ltb at 0x010 (omega (arith, g)), le-ltb at 0x030 g, lt-ltb at 0x048 h) refl
-
-at_memory : {A : Type 0} (none : A) (found : Row ⊤ State → ℕ → A) (at : ℕ) → 0x048 ≤ at → at < 0x0c8
-    → at_row none found pio_rows at ≡ at_row none found memory_rows at
-at_memory none found at g h =
-    parts none found at ∙ rw (le-ltb at 0x010 (omega (arith, g)), le-ltb at 0x030 (omega (arith, g)), le-ltb at 0x048 g, lt-ltb at 0x0c8 h) refl
-
 at_machine : {A : Type 0} (none : A) (found : Row ⊤ State → ℕ → A) (at : ℕ) → 0x0c8 ≤ at → at < 0x128
     → at_row none found pio_rows at
     ≡ in_stride 0x0c8 none (λ row. found row ((at - 0x0c8) / 24)) (map of_machines machine_rows) ((at - 0x0c8) % 24)
@@ -124,19 +107,23 @@ at_interrupt none found at g =
 
 pub control_word : (s : State) (at : ℕ) → at < 0x010 → word_of at s ≡ word_at (control_rows {V = ⊤}) tt at s
 unfolding word_of
-control_word s at h = at_control None (λ row n. Some (row.reads n tt s)) at h
+control_word s at h = parts None (λ row n. Some (row.reads n tt s)) at ∙ rw (lt-ltb at 0x010 h) refl
 
 pub fifo_word : (s : State) (at : ℕ) → 0x010 ≤ at → at < 0x030 → word_of at s ≡ word_at (fifo_rows {V = ⊤}) tt at s
 unfolding word_of
-fifo_word s at g h = at_fifo None (λ row n. Some (row.reads n tt s)) at g h
+fifo_word s at g h = parts None (λ row n. Some (row.reads n tt s)) at ∙ rw (le-ltb at 0x010 g, lt-ltb at 0x030 h) refl
 
 pub pin_word : (s : State) (at : ℕ) → 0x030 ≤ at → at < 0x048 → word_of at s ≡ word_at (pin_rows {V = ⊤}) tt at s
 unfolding word_of
-pin_word s at g h = at_pin None (λ row n. Some (row.reads n tt s)) at g h
+pin_word s at g h =
+    parts None (λ row n. Some (row.reads n tt s)) at
+    ∙ rw (le-ltb at 0x010 (omega (arith, g)), le-ltb at 0x030 g, lt-ltb at 0x048 h) refl
 
 pub memory_word : (s : State) (at : ℕ) → 0x048 ≤ at → at < 0x0c8 → word_of at s ≡ word_at (memory_rows {V = ⊤}) tt at s
 unfolding word_of
-memory_word s at g h = at_memory None (λ row n. Some (row.reads n tt s)) at g h
+memory_word s at g h =
+    parts None (λ row n. Some (row.reads n tt s)) at
+    ∙ rw (le-ltb at 0x010 (omega (arith, g)), le-ltb at 0x030 (omega (arith, g)), le-ltb at 0x048 g, lt-ltb at 0x0c8 h) refl
 
 pub machine_word : (s : State) (at : ℕ) → 0x0c8 ≤ at → at < 0x128
     → word_of at s ≡ register_of ((at - 0x0c8) % 24) s.memory (machine_of ((at - 0x0c8) / 24) s.machines)
@@ -150,19 +137,23 @@ interrupt_word s at g = at_interrupt None (λ row n. Some (row.reads n tt s)) at
 
 pub control_write : (at w : ℕ) (s : State) → at < 0x010 → after_any at (Some w) s ≡ effect_at (control_rows {V = ⊤}) at (Some w) s
 unfolding after_any
-control_write at w s h = at_control s (λ row n. row.write_does n w s) at h
+control_write at w s h = parts s (λ row n. row.write_does n w s) at ∙ rw (lt-ltb at 0x010 h) refl
 
 pub fifo_write : (at w : ℕ) (s : State) → 0x010 ≤ at → at < 0x030 → after_any at (Some w) s ≡ effect_at (fifo_rows {V = ⊤}) at (Some w) s
 unfolding after_any
-fifo_write at w s g h = at_fifo s (λ row n. row.write_does n w s) at g h
+fifo_write at w s g h = parts s (λ row n. row.write_does n w s) at ∙ rw (le-ltb at 0x010 g, lt-ltb at 0x030 h) refl
 
 pub pin_write : (at w : ℕ) (s : State) → 0x030 ≤ at → at < 0x048 → after_any at (Some w) s ≡ effect_at (pin_rows {V = ⊤}) at (Some w) s
 unfolding after_any
-pin_write at w s g h = at_pin s (λ row n. row.write_does n w s) at g h
+pin_write at w s g h =
+    parts s (λ row n. row.write_does n w s) at
+    ∙ rw (le-ltb at 0x010 (omega (arith, g)), le-ltb at 0x030 g, lt-ltb at 0x048 h) refl
 
 pub memory_write : (at w : ℕ) (s : State) → 0x048 ≤ at → at < 0x0c8 → after_any at (Some w) s ≡ effect_at (memory_rows {V = ⊤}) at (Some w) s
 unfolding after_any
-memory_write at w s g h = at_memory s (λ row n. row.write_does n w s) at g h
+memory_write at w s g h =
+    parts s (λ row n. row.write_does n w s) at
+    ∙ rw (le-ltb at 0x010 (omega (arith, g)), le-ltb at 0x030 (omega (arith, g)), le-ltb at 0x048 g, lt-ltb at 0x0c8 h) refl
 
 pub machine_write : (at w : ℕ) (s : State) → 0x0c8 ≤ at → at < 0x128
     → after_any at (Some w) s ≡ with_machines (changed ((at - 0x0c8) / 24) (register_written ((at - 0x0c8) % 24) w) s.machines) s
