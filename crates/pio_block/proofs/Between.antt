@@ -32,7 +32,7 @@ advanced_off m off = rw off refl
 advanced_on : (m : Machine1) (a : ℕ) → m.enabled ≡ true → nat_lt a 256 ≡ false → advanced (record m { acc = a }) ≡ record m { acc = a - 256 }
 advanced_on m a on high = rw (on, high) refl
 
-after_off : (m : Machine1) (n : ℕ) → m.enabled ≡ false → divider_after n m ≡ m
+pub after_off : (m : Machine1) (n : ℕ) → m.enabled ≡ false → divider_after n m ≡ m
 unfolding times
 after_off m zero off = refl
 after_off m (suc n) off = ap advanced (after_off m n off) ∙ advanced_off m off
@@ -63,8 +63,8 @@ left m n (suc k) h on le =
 
 -- ---- for how long
 
-pub between_ticks : (m : Machine1) → is_written m.waiting ≡ false → m.enabled ≡ true → IsBetweenTicks m (m.acc / 256)
-between_ticks m none on = record {
+pub between_ticks : (m : Machine1) (n : ℕ) → is_written m.waiting ≡ false → m.enabled ≡ true → n ≡ m.acc / 256 → IsBetweenTicks m n
+between_ticks m n none on e = record {
   unwritten = λ some. none;
   between = λ k lt.
       ap ticks (after_on m k on (omega arith)) ∙ ticks_on m (m.acc - 256 * k) on ∙ le-ltb (m.acc - 256 * k) 256 (omega arith);
@@ -244,9 +244,3 @@ taken_fits m n from h on e = rw e (left m n n h on (omega arith))
 
 pub gone_on : (m : Machine1) (n from : ℕ) → IsBetweenTicks m n → m.enabled ≡ true → from ≡ m.acc → record m { acc = from - 256 * n } ≡ divider_after n m
 gone_on m n from h on e = ap (λ a. record m { acc = a - 256 * n }) e ∙ sym (after_on m n on (left m n n h on (omega arith)))
-
-pub stands : (m : Machine1) (n : ℕ) → m.enabled ≡ false → m ≡ divider_after n m
-stands m n off = sym (after_off m n off)
-
-pub between_by : (m : Machine1) (r : ℕ) → is_written m.waiting ≡ false → m.enabled ≡ true → r ≡ m.acc / 256 → IsBetweenTicks m r
-between_by m r none on e = rw e (between_ticks m none on)

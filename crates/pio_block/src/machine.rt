@@ -30,6 +30,7 @@ pub(crate) fn is_running(machine: &Machine1) -> bool
 
 /// For so many cycles from now on the machine does not tick, and no word that was written waits.
 #[inline(always)]
+#[tactic(auto, using(crate::proofs::Between::between_ticks, crate::proofs::Between::never_ticks))]
 pub(crate) fn quiet(machine: &Machine1) -> u64
     ensures { IsBetweenTicks machine.now result }
 {
@@ -45,6 +46,7 @@ pub(crate) fn quiet(machine: &Machine1) -> u64
 
 /// So many cycles at once, in which the machine does not tick.
 #[inline(always)]
+#[tactic(auto, using(crate::proofs::Between::taken_fits, crate::proofs::Between::gone_on, crate::proofs::Between::after_off))]
 pub(crate) fn pass(machine: &mut Machine1, n: u64)
     requires { IsBetweenTicks machine.old n }
     ensures after { machine.new ≡ divider_after n machine.old }

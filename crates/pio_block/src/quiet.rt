@@ -41,6 +41,7 @@ impl PioBlock {
     /// For so many cycles from now on no machine of the block ticks or tries a word: whatever its inputs are, only the dividers go on,
     /// and it shows the same. Any smaller number is right too.
     #[inline(always)]
+    #[tactic(auto, using(crate::proofs::Between::idle_quiet))]
     pub fn quiet(&self) -> u64
         ensures { IsQuiet self.now result }
     {
@@ -54,6 +55,7 @@ impl PioBlock {
 
     /// So many cycles at once, in which the block is quiet.
     #[inline(always)]
+    #[tactic(auto, using(crate::proofs::Between::idle_stays))]
     pub fn pass(&mut self, n: u64)
         requires { IsQuiet self.old n }
         ensures { self.new ≡ block_after n self.old }
