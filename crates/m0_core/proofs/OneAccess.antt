@@ -1,6 +1,6 @@
 -- A load or a store of one register has its access last, in its first beat or its second.
 use Rattle.std.proofs.Common.{◌≡◌, ◌∙◌, ◌≢◌, not, ◌||◌, if◌then◌else◌, refl, ◌+◌, true, false, ap, cond, arith, length, nat_lt, Some, sym}
-use Rattle.std.proofs.Math.Bool.{or-false}
+use Rattle.std.proofs.Math.Bool.{or-false, or-true}
 use Rattle.std.proofs.lemmas.Bool.Decides.{nat_tests}
 use Rattle.rp_base.specs.declared.op.Op.{Op}
 use Rattle.m0_beats.specs.Instructions.{beats_of, is_unaligned_of}
@@ -14,7 +14,8 @@ use Rattle.m0_beats.specs.declared.timing.Beat.TheVariants.{Inner}
 use Rattle.lane_look.specs.Asking.Asking.{Ready}
 use Rattle.m0_core.specs.Fetch.{asks_beat, asks_decoded, asks_fault, beat_of, in_beat}
 use Rattle.m0_beats.specs.Shapes.{is_one_access, beats_of_shape}
-use Rattle.m0_core.proofs.Plain.{accessing}
+use Rattle.m0_core.proofs.Plain.{accessing, ordinary}
+use Rattle.m0_core.specs.Shortcuts.{is_plain}
 use Rattle.m0_core.specs.State.{State}
 use Rattle.m0_core.specs.declared.doing.Act.TheVariants as act
 use Rattle.m0_core.specs.declared.doing.Work.TheVariants as works
@@ -23,7 +24,7 @@ use Rattle.m0_core.specs.declared.doing.Work.TheVariants as works
 pub last_over : (o : Op) (s : State) → is_one_access o ≡ true → s.beats_done ≢ 0 → passed_instruction o s ≡ ended o s
 unfolding passed_instruction
 last_over o s h begun =
-    let two = (accessing o h).1 s.regs in
+    let two = accessing o s.regs h in
     let last : nat_lt (s.beats_done + 1) (length (beats_of o s.regs)) ≡ false = grind (arith, nat_tests) in
     ap (λ more. cond more (followed (works.Instruction o) s) (ended o s)) last
 
@@ -34,7 +35,7 @@ asked_one : (o : Op) (s : State) → is_one_access o ≡ true
     → asks_decoded o s ≡ (if not s.regs.t || is_unaligned_of o s.regs then asks_fault s else asks_beat (works.Instruction o) s)
 unfolding asks_decoded
 asked_one o s h =
-    let k = (accessing o h).0 in
+    let k = ordinary o (ap (λ b. is_plain o || b) h ∙ or-true (is_plain o)) in
     rw (k.breakpoint, k.undefined, k.call, or-false (is_unaligned_of o s.regs)) refl
 
 -- by its shape: an inner beat and the access behind it

@@ -1,9 +1,9 @@
 -- A plain instruction begins with an inner beat in Thumb state, and its end begins no return, calls nothing and waits for nothing.
-use Rattle.std.proofs.Common.{◌≡◌, ◌+◌, ℕ, zero, suc, Bool, true, false, not, ◌||◌, ◌&&◌, cond, nat_lt, nat_le, refl, ap, arith, rules, ◌≤◌, ◌∙◌}
+use Rattle.std.proofs.Common.{◌≡◌, ◌+◌, ℕ, zero, suc, Bool, true, false, not, ◌||◌, ◌&&◌, cond, nat_lt, nat_le, refl, ap, sym, subst, arith, rules, ◌≤◌, ◌∙◌}
 use Rattle.std.specs.Prelude.{slice_get, unwrap_or, length, List, [], Option, None, ◌==◌}
 use Rattle.std.specs.List.{list_any}
 use Rattle.std.proofs.Math.Bool.{and-false, and-true}
-use Rattle.std.proofs.lemmas.Bool.{and_parts}
+use Rattle.std.proofs.lemmas.Bool.{and_parts, cond_both}
 use Rattle.std.proofs.lemmas.Bool.Decides.{nat_tests}
 use Rattle.rp_base.specs.declared.op.Op.{Op}
 use Rattle.rp_base.specs.declared.op.Op.TheVariants as op
@@ -69,88 +69,64 @@ decoded o s n breakpoint undefined call beats t =
     breakpoint fault
     ∙ begins o s (inner_beat o s n beats)
 
--- what a plain instruction is not; it begins no return
-pub record Ordinary (o : Op) : Type 0 where
-  pub breakpoint : is_breakpoint o ≡ false
-  pub undefined : is_undefined o ≡ false
-  pub call : is_call o ≡ false
-  pub event : awaits_event o ≡ false
-  pub interrupt : awaits_interrupt o ≡ false
-  pub returns : (g : Regs) (read : List ℕ) → return_of o g read ≡ None
+-- what an instruction is not where a test holds of it; it begins no return
+pub record Ordinary (test : Bool) (o : Op) : Type 0 where
+  pub breakpoint : cond test (is_breakpoint o) false ≡ false
+  pub undefined : cond test (is_undefined o) false ≡ false
+  pub call : cond test (is_call o) false ≡ false
+  pub event : cond test (awaits_event o) false ≡ false
+  pub interrupt : cond test (awaits_interrupt o) false ≡ false
+  pub returns : (g : Regs) (read : List ℕ) → cond test (return_of o g read) None ≡ None
 
-ordinary : {o : Op} → is_breakpoint o ≡ false → is_undefined o ≡ false → is_call o ≡ false → awaits_event o ≡ false →
-    awaits_interrupt o ≡ false → ((g : Regs) (read : List ℕ) → return_of o g read ≡ None) → Ordinary o
-ordinary b u c e i r = record { breakpoint = b; undefined = u; call = c; event = e; interrupt = i; returns = r }
+-- a move to a register that may be PC
+moving : (test : Bool) (d m : ℕ) → Ordinary (test || false) (op.MovHigh d m)
+unfolding return_of
+moving true d m = record { breakpoint = refl; undefined = refl; call = refl; event = refl; interrupt = refl; returns = λ g read. refl }
+moving false d m = record { breakpoint = refl; undefined = refl; call = refl; event = refl; interrupt = refl; returns = λ g read. refl }
 
--- of a move to a register that may be PC
+each_ordinary : (o : Op) → Ordinary (is_plain o || is_one_access o) o
+unfolding return_of
+each_ordinary (op.MovHigh d m) = moving (nat_lt d 15) d m
+each_ordinary _ = record { breakpoint = refl; undefined = refl; call = refl; event = refl; interrupt = refl; returns = λ g read. refl }
+
+-- a plain instruction, and a load or a store of one register
+pub ordinary : (o : Op) → (is_plain o || is_one_access o) ≡ true → Ordinary true o
+ordinary o h = subst (λ test. Ordinary test o) h (each_ordinary o)
+
 low : (d : ℕ) → nat_lt d 15 ≡ true → inner_to d ≡ inner 1
 low d h = let less : nat_le 15 d ≡ false = grind (arith, nat_tests) in ap (λ b. cond b (inner 2) (inner 1)) less
 
--- one that is no branch has one beat
-singly : (o : Op) → is_single o ≡ true → Ordinary o × ((g : Regs) → beats_of o g ≡ inner 1)
-unfolding beats_of return_of
-singly (op.LslImm i m d) h = (ordinary refl refl refl refl refl (λ g read. refl), λ g. refl)
-singly (op.LsrImm i m d) h = (ordinary refl refl refl refl refl (λ g read. refl), λ g. refl)
-singly (op.AsrImm i m d) h = (ordinary refl refl refl refl refl (λ g read. refl), λ g. refl)
-singly (op.AddReg m n d) h = (ordinary refl refl refl refl refl (λ g read. refl), λ g. refl)
-singly (op.SubReg m n d) h = (ordinary refl refl refl refl refl (λ g read. refl), λ g. refl)
-singly (op.AddImm3 i n d) h = (ordinary refl refl refl refl refl (λ g read. refl), λ g. refl)
-singly (op.SubImm3 i n d) h = (ordinary refl refl refl refl refl (λ g read. refl), λ g. refl)
-singly (op.MovImm d i) h = (ordinary refl refl refl refl refl (λ g read. refl), λ g. refl)
-singly (op.CmpImm d i) h = (ordinary refl refl refl refl refl (λ g read. refl), λ g. refl)
-singly (op.AddImm8 d i) h = (ordinary refl refl refl refl refl (λ g read. refl), λ g. refl)
-singly (op.SubImm8 d i) h = (ordinary refl refl refl refl refl (λ g read. refl), λ g. refl)
-singly (op.And m d) h = (ordinary refl refl refl refl refl (λ g read. refl), λ g. refl)
-singly (op.Eor m d) h = (ordinary refl refl refl refl refl (λ g read. refl), λ g. refl)
-singly (op.LslReg m d) h = (ordinary refl refl refl refl refl (λ g read. refl), λ g. refl)
-singly (op.LsrReg m d) h = (ordinary refl refl refl refl refl (λ g read. refl), λ g. refl)
-singly (op.AsrReg m d) h = (ordinary refl refl refl refl refl (λ g read. refl), λ g. refl)
-singly (op.Adc m d) h = (ordinary refl refl refl refl refl (λ g read. refl), λ g. refl)
-singly (op.Sbc m d) h = (ordinary refl refl refl refl refl (λ g read. refl), λ g. refl)
-singly (op.Ror m d) h = (ordinary refl refl refl refl refl (λ g read. refl), λ g. refl)
-singly (op.Tst m d) h = (ordinary refl refl refl refl refl (λ g read. refl), λ g. refl)
-singly (op.Rsb m d) h = (ordinary refl refl refl refl refl (λ g read. refl), λ g. refl)
-singly (op.Cmp m d) h = (ordinary refl refl refl refl refl (λ g read. refl), λ g. refl)
-singly (op.Cmn m d) h = (ordinary refl refl refl refl refl (λ g read. refl), λ g. refl)
-singly (op.Orr m d) h = (ordinary refl refl refl refl refl (λ g read. refl), λ g. refl)
-singly (op.Mul m d) h = (ordinary refl refl refl refl refl (λ g read. refl), λ g. refl)
-singly (op.Bic m d) h = (ordinary refl refl refl refl refl (λ g read. refl), λ g. refl)
-singly (op.Mvn m d) h = (ordinary refl refl refl refl refl (λ g read. refl), λ g. refl)
-singly (op.CmpHigh d m) h = (ordinary refl refl refl refl refl (λ g read. refl), λ g. refl)
-singly (op.SubSpImm i) h = (ordinary refl refl refl refl refl (λ g read. refl), λ g. refl)
-singly (op.Sxth m d) h = (ordinary refl refl refl refl refl (λ g read. refl), λ g. refl)
-singly (op.Sxtb m d) h = (ordinary refl refl refl refl refl (λ g read. refl), λ g. refl)
-singly (op.Uxth m d) h = (ordinary refl refl refl refl refl (λ g read. refl), λ g. refl)
-singly (op.Uxtb m d) h = (ordinary refl refl refl refl refl (λ g read. refl), λ g. refl)
-singly (op.Rev m d) h = (ordinary refl refl refl refl refl (λ g read. refl), λ g. refl)
-singly (op.Rev16 m d) h = (ordinary refl refl refl refl refl (λ g read. refl), λ g. refl)
-singly (op.Revsh m d) h = (ordinary refl refl refl refl refl (λ g read. refl), λ g. refl)
-singly (op.MovHigh d m) h = (ordinary refl refl refl refl refl (λ g read. refl), λ g. low d (and_parts (nat_lt d 15) true h).0)
-singly _ h = absurd (cc h)
+-- a plain instruction that is no branch has one beat
+single_beat : (o : Op) (g : Regs) → cond (is_single o) (beats_of o g) (inner 1) ≡ inner 1
+unfolding beats_of
+single_beat (op.MovHigh d m) g =
+    cond_both (nat_lt d 15 && true) (inner_to d) (inner 1) (λ l. l ≡ inner 1) (λ e. low d (and_parts (nat_lt d 15) true e).0) (λ e. refl)
+single_beat _ g = refl
 
-branches : (o : Op) → is_branch o ≡ true → Ordinary o × ((g : Regs) → (n : ℕ) × (beats_of o g ≡ inner n))
-unfolding beats_of return_of
-branches (op.BCond c i) h =
-    (ordinary refl refl refl refl refl (λ g read. refl), λ g. (cond (condition_holds c g) 2 1, either_inner (condition_holds c g)))
-branches (op.B i) h = (ordinary refl refl refl refl refl (λ g read. refl), λ g. (2, refl))
-branches (op.Bl q i j) h = (ordinary refl refl refl refl refl (λ g read. refl), λ g. (3, refl))
-branches _ h = absurd (cc h)
+singly : (o : Op) (g : Regs) → is_single o ≡ true → beats_of o g ≡ inner 1
+singly o g h = sym (ap (λ b. cond b (beats_of o g) (inner 1)) h) ∙ single_beat o g
 
-plainly : (o : Op) (branch : Bool) → is_branch o ≡ branch → is_plain o ≡ true → Ordinary o × ((g : Regs) → (n : ℕ) × (beats_of o g ≡ inner n))
-plainly o true e h = branches o e
-plainly o false e h =
-    let s = singly o (rw (h, e) refl) in (s.0, λ g. (1, s.1 g))
+branches : (o : Op) (g : Regs) → is_branch o ≡ true → (n : ℕ) × (beats_of o g ≡ inner n)
+unfolding beats_of
+branches (op.BCond c i) g h = (cond (condition_holds c g) 2 1, either_inner (condition_holds c g))
+branches (op.B i) g h = (2, refl)
+branches (op.Bl q i j) g h = (3, refl)
+branches _ g h = absurd (cc h)
+
+plainly : (o : Op) (g : Regs) (branch : Bool) → is_branch o ≡ branch → is_plain o ≡ true → (n : ℕ) × (beats_of o g ≡ inner n)
+plainly o g true e h = branches o g e
+plainly o g false e h = (1, singly o g (rw (h, e) refl))
 
 pub plain_decoded : (o : Op) (s : State) → is_plain o ≡ true → s.regs.t ≡ true →
     asks_decoded o s ≡ Ready (act.Inner (works.Instruction o))
 plain_decoded o s h t =
-    let q = plainly o (is_branch o) refl h in
-    let beats = q.1 s.regs in
-    decoded o s beats.0 q.0.breakpoint q.0.undefined q.0.call beats.1 t
+    let q = ordinary o (ap (λ b. b || is_one_access o) h) in
+    let beats = plainly o s.regs (is_branch o) refl h in
+    decoded o s beats.0 q.breakpoint q.undefined q.call beats.1 t
 
 -- each beat of a branch by an offset is inside the core
 pub branch_begins : (o : Op) (s : State) → is_branch o ≡ true → asks_beat (works.Instruction o) s ≡ Ready (act.Inner (works.Instruction o))
-branch_begins o s h = let beats = (branches o h).1 s.regs in begins o s (inner_beat o s beats.0 beats.1)
+branch_begins o s h = let beats = branches o s.regs h in begins o s (inner_beat o s beats.0 beats.1)
 
 -- so is each beat of WFI and WFE
 pub pause_begins : (o : Op) (s : State) → (awaits_interrupt o || awaits_event o) ≡ true
@@ -179,38 +155,20 @@ same_end o s call wait value p q r =
 at_most : (address : ℕ) (beat : Beat) → length (single address beat) ≤ 2
 at_most address beat = search rules
 
--- it has two beats at most
-pub accessing : (o : Op) → is_one_access o ≡ true → Ordinary o × ((g : Regs) → length (beats_of o g) ≤ 2)
-unfolding beats_of return_of
-accessing (op.LdrLit t i) h = (ordinary refl refl refl refl refl (λ g read. refl), λ g. at_most _ _)
-accessing (op.StrReg m n t) h = (ordinary refl refl refl refl refl (λ g read. refl), λ g. at_most _ _)
-accessing (op.StrhReg m n t) h = (ordinary refl refl refl refl refl (λ g read. refl), λ g. at_most _ _)
-accessing (op.StrbReg m n t) h = (ordinary refl refl refl refl refl (λ g read. refl), λ g. at_most _ _)
-accessing (op.LdrsbReg m n t) h = (ordinary refl refl refl refl refl (λ g read. refl), λ g. at_most _ _)
-accessing (op.LdrReg m n t) h = (ordinary refl refl refl refl refl (λ g read. refl), λ g. at_most _ _)
-accessing (op.LdrhReg m n t) h = (ordinary refl refl refl refl refl (λ g read. refl), λ g. at_most _ _)
-accessing (op.LdrbReg m n t) h = (ordinary refl refl refl refl refl (λ g read. refl), λ g. at_most _ _)
-accessing (op.LdrshReg m n t) h = (ordinary refl refl refl refl refl (λ g read. refl), λ g. at_most _ _)
-accessing (op.StrImm i n t) h = (ordinary refl refl refl refl refl (λ g read. refl), λ g. at_most _ _)
-accessing (op.LdrImm i n t) h = (ordinary refl refl refl refl refl (λ g read. refl), λ g. at_most _ _)
-accessing (op.StrbImm i n t) h = (ordinary refl refl refl refl refl (λ g read. refl), λ g. at_most _ _)
-accessing (op.LdrbImm i n t) h = (ordinary refl refl refl refl refl (λ g read. refl), λ g. at_most _ _)
-accessing (op.StrhImm i n t) h = (ordinary refl refl refl refl refl (λ g read. refl), λ g. at_most _ _)
-accessing (op.LdrhImm i n t) h = (ordinary refl refl refl refl refl (λ g read. refl), λ g. at_most _ _)
-accessing (op.StrSp t i) h = (ordinary refl refl refl refl refl (λ g read. refl), λ g. at_most _ _)
-accessing (op.LdrSp t i) h = (ordinary refl refl refl refl refl (λ g read. refl), λ g. at_most _ _)
-accessing _ h = absurd (cc h)
+few_beats : (o : Op) (g : Regs) (address : ℕ) (beat : Beat) → length (cond (is_one_access o) (beats_of o g) (single address beat)) ≤ 2
+unfolding beats_of
+few_beats (op.LdrLit t i) g address beat = at_most _ _
+few_beats _ g address beat = at_most _ _
 
--- so are a plain instruction, and a load or a store of one register
-ordinary_by : (o : Op) (plain : Bool) → is_plain o ≡ plain → (plain || is_one_access o) ≡ true → Ordinary o
-ordinary_by o true p h = (plainly o (is_branch o) refl p).0
-ordinary_by o false p h = (accessing o h).0
+-- a load or a store of one register has two beats at most
+pub accessing : (o : Op) (g : Regs) → is_one_access o ≡ true → length (beats_of o g) ≤ 2
+accessing o g h = subst (λ b. length (cond b (beats_of o g) (single 0 Inner)) ≤ 2) h (few_beats o g 0 Inner)
 
 pub plainly_ended : (o : Op) (s : State) → (is_plain o || is_one_access o) ≡ true →
     ended o s ≡ record s { regs = effect_of o s.regs s.read; work = None; beats_done = 0; read = [] }
 unfolding ended
 plainly_ended o s h =
-    let q = ordinary_by o (is_plain o) refl h in
+    let q = ordinary o h in
     same_end o s (is_call o) (awaits_event o) (return_of o s.regs s.read) q.call q.event (q.returns s.regs s.read)
 
 pub single_plain : (o : Op) → is_single o ≡ true → is_plain o ≡ true
@@ -233,13 +191,13 @@ passes o s n h =
 pub single_after : (o : Op) (s : State) → is_single o ≡ true → after_inner (works.Instruction o) s ≡ ended o s
 unfolding after_inner passed passed_instruction
 single_after o s h =
-    let one = singly o h in
-    ap (λ paused. cond paused (waiting (works.Instruction o) s) (passed (works.Instruction o) None s)) (goes_on o s one.0.event one.0.interrupt)
-    ∙ passes o s (length (beats_of o s.regs)) (ap length (one.1 s.regs))
+    let one = ordinary o (ap (λ b. b || is_one_access o) (single_plain o h)) in
+    ap (λ paused. cond paused (waiting (works.Instruction o) s) (passed (works.Instruction o) None s)) (goes_on o s one.event one.interrupt)
+    ∙ passes o s (length (beats_of o s.regs)) (ap length (singly o s.regs h))
 
 -- neither lasts
 pub plainly_after : (o : Op) (s : State) → (is_plain o || is_one_access o) ≡ true → after_inner (works.Instruction o) s ≡ passed_instruction o s
 unfolding after_inner passed
 plainly_after o s h =
-    let none = ordinary_by o (is_plain o) refl h in
+    let none = ordinary o h in
     ap (λ paused. cond paused (waiting (works.Instruction o) s) (passed (works.Instruction o) None s)) (goes_on o s none.event none.interrupt)
