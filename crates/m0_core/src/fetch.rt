@@ -210,7 +210,7 @@ impl Core {
 
     /// The first beat of an instruction, or the stop at it. Most instructions are plain, which costs one test.
     #[inline(always)]
-    #[tactic(auto, unfolding(crate::specs::Fetch::asks_decoded))]
+    #[tactic(auto, using(crate::proofs::Plain::plain_decoded))]
     fn begin_decoded<K: Look>(&self, op: Op, look: &mut K, act: &mut Act)
         ensures { Runs K.answers look.old (asks_decoded op self.now) act.new look.new }
     {
@@ -317,6 +317,7 @@ impl Core {
 
     /// The next beat of what is in progress. All beats of a branch by an offset, of WFI and of WFE are inside the core.
     #[inline(always)]
+    #[tactic(auto, using(crate::proofs::Plain::branch_begins, crate::proofs::Plain::pause_begins))]
     fn begin_work<K: Look>(&self, work: &Work, look: &mut K, act: &mut Act)
         requires { self.now.work ≡ Some work.now }
         ensures { Runs K.answers look.old (asks_work work.now self.now) act.new look.new }

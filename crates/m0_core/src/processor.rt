@@ -73,6 +73,7 @@ fn clear_registers(sp: u32, lr: u32, pc: u32, t: bool) -> Regs
 }
 
 /// No exception is pending or active, and the vector table is there.
+#[tactic(auto, unfolding(m0_nvic::specs::Words::is_word, m0_nvic::specs::Words::after_access))]
 fn with_vectors(vtor: u32) -> Nvic
     ensures { result ≡ with_vectors vtor }
 {

@@ -48,6 +48,7 @@ impl Core {
     /// For so many cycles from that one on, and maybe for more, the core is quiet, as long as its interrupt lines (line 0 in bit 0) stay
     /// as they are: it asks for nothing else, wants nothing, and moves nothing but the count of its system timer. It is `u64::MAX`
     /// where the core is asleep, and where it waits and the timer does not count.
+    #[tactic(auto, using(crate::proofs::Lasting::quiet_asleep, crate::proofs::Lasting::quiet_while, crate::proofs::Lasting::quiet_never))]
     pub fn quiet(&self, lines: u32, cycle: u64) -> u64
         ensures { IsQuiet lines self.now cycle result }
     {
@@ -61,6 +62,7 @@ impl Core {
     }
 
     /// So many cycles at once from a first one on, with these interrupt lines (line 0 in bit 0), in which nothing is given for a want.
+    #[tactic(auto, using(crate::proofs::Lasting::stays_asleep, crate::proofs::Lasting::passes_while))]
     pub fn pass(&mut self, lines: u32, first: u64, n: u64)
         requires { first + n < 2 ^ 64 }
         ensures { self.new ≡ times (rested lines) first n self.old }
@@ -86,6 +88,7 @@ impl Core {
     }
 
     /// So many cycles one by one.
+    #[tactic(auto, using(lane_look::proofs::Times::times_more, lane_look::proofs::Times::times_none))]
     fn rest_each(&mut self, lines: u32, first: u64, n: u64)
         requires { first + n < 2 ^ 64 }
         ensures { self.new ≡ times (rested lines) first n self.old }

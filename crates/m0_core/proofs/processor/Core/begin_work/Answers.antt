@@ -1,16 +1,7 @@
-use Rattle.std.proofs.Common.{sym, refl, subst, ◌∙◌}
+use Rattle.std.proofs.Common.{sym, subst}
 use Rattle.lane_look.specs.Asking.{Runs}
 use Rattle.m0_core.proofs.Kept.{kept_in}
-use Rattle.m0_core.proofs.Plain.{branch_begins, pause_begins}
 use Rattle.m0_core.proofs.processor.Core.begin_work.Goals as goal
-
-pub returns-in-Instruction : goal.returns-in-Instruction
-returns-in-Instruction g c =
-    rw (c.in-Instruction.is, branch_begins c.in-Instruction.op c.args.self.now (sym c.is_branch.ensures ∙ c.if-is_branch.true)) (refl, refl)
-
-pub returns-in-Instruction-2 : goal.returns-in-Instruction-2
-returns-in-Instruction-2 g c =
-    rw (c.in-Instruction-2.is, pause_begins c.in-Instruction-2.op c.args.self.now (sym c.is_pause.ensures ∙ c.if-is_pause.true)) (refl, refl)
 
 pub returns-in-Instruction-3 : goal.returns-in-Instruction-3
 returns-in-Instruction-3 g c =
