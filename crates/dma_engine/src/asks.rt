@@ -1,12 +1,10 @@
 //! What the engine asks in a cycle.
 
-ghost use Rattle.std.specs.Prelude.{◌≡◌, ◌%◌, ◌^◌, true};
+ghost use Rattle.std.specs.Prelude.{◌≡◌, ◌%◌, ◌^◌};
 ghost use Rattle.std.specs.List.{list_any};
 ghost use Rattle.rp_base.specs.Map.{place_of};
 ghost use Rattle.lane_look.specs.Asking.{Runs};
-ghost use Rattle.lane_look.specs.Asking.Asking.{Ready};
-ghost use Rattle.dma_engine.specs.declared.begun.Access.TheVariants as Access;
-ghost use Rattle.dma_engine.specs.Asks.{may_be_device, elsewhere, write_for, write_begun, next_request, asks_for, asks_read, begun_with, waits_for_counts, asks};
+ghost use Rattle.dma_engine.specs.Asks.{may_be_device, elsewhere, write_for, write_begun, next_request, asks_for, asks_read, waits_for_counts, asks};
 
 use crate::begun::{Access, BegunTransfer};
 use crate::channel::Channel;
@@ -103,16 +101,6 @@ impl Engine {
         }
     }
 
-    /// No channel is chosen and no write waits, so that nothing is begun.
-    #[inline(always)]
-    #[tactic(auto, using(crate::proofs::Rest::begins_nothing))]
-    fn begins_nothing(&self, counts: u128) -> bool
-        ensures { result ≡ true
-            → asks_read counts self.now ≡ Ready (begun_with counts Access.Nothing Access.Nothing) }
-    {
-        self.chosen.is_none() && self.waiting.is_empty()
-    }
-
     /// The read and the write, where these are the counts and some access is begun.
     #[inline(never)]
     #[tactic(auto, unfolding(crate::specs::Asks::asks_read))]
@@ -126,12 +114,13 @@ impl Engine {
         }
     }
 
-    /// The read and the write, where the counts are found.
+    /// The read and the write, where the counts are found. Where no channel is chosen and no write waits nothing is begun.
     #[inline(always)]
+    #[tactic(auto, using(crate::proofs::Rest::begins_nothing))]
     fn begin<K: Look>(&self, look: &mut K, begun: &mut BegunTransfer)
         ensures { Runs K.answers look.old (asks_read begun.old.counts self.now) begun.new look.new }
     {
-        if self.begins_nothing(begun.counts) {
+        if self.chosen.is_none() && self.waiting.is_empty() {
             begun.read = Access::Nothing;
             begun.write = Access::Nothing;
         } else {

@@ -1,7 +1,7 @@
 //! How a cycle ends: sequences end, the read and the write are done or wait, the next channel is chosen, and the pacing
 //! timers give their credits.
 
-ghost use Rattle.std.specs.Prelude.{◌≡◌, ◌<◌, ℕ, List, false, true, length, map, slice_index_or, IfSome, Some};
+ghost use Rattle.std.specs.Prelude.{◌≡◌, ◌<◌, ℕ, List, false, true, length, slice_index_or, IfSome, Some};
 ghost use Rattle.std.specs.List.{list_all, list_any};
 ghost use Rattle.lane_look.specs.declared.lane.Turn.{Turn};
 ghost use Rattle.dma_engine.specs.Control.{treq_of};
@@ -10,7 +10,7 @@ ghost use Rattle.dma_engine.specs.Requests.{pace_of};
 ghost use Rattle.dma_engine.specs.declared.begun.Access.TheVariants as Access;
 ghost use Rattle.dma_engine.specs.declared.begun.BegunTransfer.{BegunTransfer};
 ghost use Rattle.dma_engine.specs.State.{channel_at};
-ghost use Rattle.dma_engine.specs.Timer.{gives, stepped, given_by, is_given, gets_credit, credited, with_credit, with_stepped_timers, after_timers};
+ghost use Rattle.dma_engine.specs.Timer.{gives, given_by, is_given, gets_credit, credited, with_credit, with_stepped_timers, after_timers};
 ghost use Rattle.dma_engine.specs.Rest.{is_idle_timer, is_paused, AreIdle, StaysBy};
 ghost use Rattle.dma_engine.specs.Words.{is_silent};
 ghost use Rattle.dma_engine.specs.Cycle.{want_of, word_of, word_read, with_data, with_read, after_read, is_written, after_write, credits_left, counted, after_choice, is_over, after_transfers, next};
@@ -75,18 +75,6 @@ fn some_gives(timers: &[PacingTimer; 4]) -> bool
     ensures { result ≡ list_any gives timers.now }
 {
     timers.iter().any(|timer| timer.gives())
-}
-
-/// A cycle of the timers.
-#[inline(always)]
-#[tactic(auto, using(crate::proofs::Four::four))]
-fn step_all(timers: &mut [PacingTimer; 4])
-    ensures { timers.new ≡ map stepped timers.old }
-{
-    timers[0].step_once();
-    timers[1].step_once();
-    timers[2].step_once();
-    timers[3].step_once();
 }
 
 /// The access is none.
@@ -307,10 +295,14 @@ impl Engine {
 
     /// The pacing timers have their cycle.
     #[inline(always)]
+    #[tactic(auto, using(crate::proofs::Four::four))]
     fn advance_timers(&mut self)
         ensures { self.new ≡ with_stepped_timers self.old }
     {
-        step_all(&mut self.timers);
+        self.timers[0].step_once();
+        self.timers[1].step_once();
+        self.timers[2].step_once();
+        self.timers[3].step_once();
     }
 
     /// The pacing timers have their cycle, in which these channels get a credit.
