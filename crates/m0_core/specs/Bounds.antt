@@ -34,9 +34,7 @@ few_in_ram n work request (Some value) = few_ready _ _
 few_at_spot : (n : ℕ) (work : Work) (request : Request) (s : State) (spot : Spot) → Few (suc n) (at_spot work request s spot)
 few_at_spot n work request s (spot.Ram index bank) = few_in_ram n work request request.write
 few_at_spot n work request s (spot.Ppb offset) = few_if (suc n) _ _ _ (few_ready _ _) (few_ready _ _)
-few_at_spot n work request s (spot.Reg block offset alias) = few_ready _ _
-few_at_spot n work request s (spot.Sio offset) = few_ready _ _
-few_at_spot n work request s spot.Outside = few_ready _ _
+few_at_spot n work request s _ = few_ready _ _
 
 few_in_beat : (n : ℕ) (work : Work) (s : State) (beat : Beat) → Few (suc n) (in_beat work s beat)
 few_in_beat n work s Inner = few_ready _ _
@@ -110,18 +108,11 @@ four_at_most s cycle = (asks_few s cycle).few
 
 reads_none_of : (act : Act) (s : State) (turns : List Turn) → after act (done_word (slice_get (without_words (want_of_act act ∷ want.Nothing ∷ []) turns) 0)) s ≡ after act (done_word (slice_get turns 0)) s
 reads_none_of act s [] = refl
-reads_none_of act.Asleep s (t ∷ ts) = refl
-reads_none_of (act.Stopped cause) s (t ∷ ts) = refl
-reads_none_of act.Fault s (t ∷ ts) = refl
-reads_none_of (act.Inner work) s (t ∷ ts) = refl
-reads_none_of (act.Read work request told) s (turn.Nothing ∷ ts) = refl
-reads_none_of (act.Read work request told) s (turn.Wait ∷ ts) = refl
 reads_none_of (act.Read work request told) s (turn.Done word ∷ ts) = refl
-reads_none_of (act.Write work request) s (turn.Nothing ∷ ts) = refl
-reads_none_of (act.Write work request) s (turn.Wait ∷ ts) = refl
+reads_none_of (act.Read work request told) s (_ ∷ ts) = refl
 reads_none_of (act.Write work request) s (turn.Done word ∷ ts) = refl
-reads_none_of (act.Outward work request) s (t ∷ ts) = refl
-reads_none_of (act.Private work request offset) s (t ∷ ts) = refl
+reads_none_of (act.Write work request) s (_ ∷ ts) = refl
+reads_none_of _ s (t ∷ ts) = refl
 
 -- an access to SRAM has told its word already
 pub reads_none : (s : State) (begun : Doing) (turns : List Turn) → next s begun (without_words (wanted begun) turns) ≡ next s begun turns
