@@ -54,13 +54,15 @@ begun_both memory m r w k i b j c x v h g =
 
 -- ---- the cycles
 
-read_more : (m r w k x d : ℕ) → (k == 0) ≡ false → next (busy m r w k (Some 0) []) (begun_with 0 (reading x d) access.Nothing) both_done
+read_more : (m r w k x d : ℕ) → (k == 0) ≡ false
+    → next (busy m r w k (Some 0) []) (begun_with 0 (reading x d) access.Nothing) both_done
     ≡ busy m ((r + 4) % 2 ^ 32) ((w + 4) % 2 ^ 32) (k - 1) (Some 0) (pending (w / 4 * 4) d ∷ [])
 unfolding choice_of first_in_turn is_ready in_turn after_ends after_transfers next after_timers with_read moved data_of
     write_after with_end with_trigger
 read_more m r w k x d h = rw h refl
 
-both_more : (m r w k x d y v : ℕ) → (k == 0) ≡ false → next (busy m r w k (Some 0) (pending y v ∷ [])) (begun_with 0 (reading x d) (writing y v)) both_done
+both_more : (m r w k x d y v : ℕ) → (k == 0) ≡ false
+    → next (busy m r w k (Some 0) (pending y v ∷ [])) (begun_with 0 (reading x d) (writing y v)) both_done
     ≡ busy m ((r + 4) % 2 ^ 32) ((w + 4) % 2 ^ 32) (k - 1) (Some 0) (pending (w / 4 * 4) d ∷ [])
 unfolding choice_of first_in_turn is_ready in_turn after_ends after_transfers next after_timers with_read moved data_of
     write_after with_end with_trigger
@@ -72,7 +74,8 @@ record Steps (memory : ℕ → ℕ) (s t : State) (done : List (ℕ × ℕ)) : T
   next_is : granted memory s ≡ t
   written : written_by (want_of (begun_by memory s).write) ≡ done
 
-steps : (memory : ℕ → ℕ) (s t : State) (b : BegunTransfer) → begun_by memory s ≡ b → next s b both_done ≡ t → Steps memory s t (written_by (want_of b.write))
+steps : (memory : ℕ → ℕ) (s t : State) (b : BegunTransfer) → begun_by memory s ≡ b → next s b both_done ≡ t
+    → Steps memory s t (written_by (want_of b.write))
 steps memory s t b is goes = record {
   next_is = ap (λ x. next s x both_done) is ∙ goes;
   written = ap (λ (x : BegunTransfer). written_by (want_of x.write)) is;
@@ -187,7 +190,8 @@ unfolding asks asks_read next_request write_begun read_of request_of choice_of f
     after_transfers next after_timers with_read moved data_of write_after with_end with_trigger
 writes_last memory m r w x v f =
     steps memory _ _ (begun_with 0 access.Nothing (writing x v))
-    (ap (λ q. begun_with 0 access.Nothing (write_at (record { address = x; size = sizes.Word; write = Some v }) q)) (place x f)) refl
+    (ap (λ q. begun_with 0 access.Nothing (write_at (record { address = x; size = sizes.Word; write = Some v }) q)) (place x f))
+    refl
 
 -- what is left where a write waits
 record Copied (memory : ℕ → ℕ) (m n r w cycles : ℕ) (s : State) (done : List (ℕ × ℕ)) : Type 0 where
@@ -259,7 +263,8 @@ ends_so : (memory : ℕ → ℕ) (m r w : ℕ) → engine_after memory 1 (busy m
 unfolding asks asks_read next_request write_begun read_of request_of choice_of first_in_turn is_ready in_turn after_ends
     after_transfers next after_timers with_read moved data_of write_after with_end with_trigger
 ends_so memory m r w =
-    then_after memory 0 _ _ [] (steps memory (busy m r w 0 None []) (with_channel_0 (copier m r w 0 false) None [] 1) idle_begun refl refl)
+    then_after memory 0 _ _ []
+    (steps memory (busy m r w 0 None []) (with_channel_0 (copier m r w 0 false) None [] 1) idle_begun refl refl)
 
 two_more : (n : ℕ) → n + 2 ≡ suc (suc n)
 two_more n = omega arith

@@ -238,7 +238,8 @@ pub none_by_timers : (i s : State) (n : ℕ) → i ≡ s → ((k : ℕ) → k < 
 none_by_timers i s n e h = record { credits = λ k lt. ap (λ (x : State). list_any gives (map (timer_after k) x.timers)) (sym e) ∙ h k lt }
 
 -- what a call of one timer reckons, whose step and sum so far are these
-pub reckons : (t : PacingTimer) (n step sum : ℕ) → NoneOf t n → t.y < 2 ^ 16 → t.accumulator < 2 ^ 16 → step ≡ step_of t → sum ≡ t.accumulator
+pub reckons : (t : PacingTimer) (n step sum : ℕ) → NoneOf t n → t.y < 2 ^ 16 → t.accumulator < 2 ^ 16
+    → step ≡ step_of t → sum ≡ t.accumulator
     → record t { accumulator = (sum + n * step % 2 ^ 64) % 2 ^ 64 % 2 ^ 16 } ≡ timer_after n t
 reckons t n step sum h y a e f =
     let same : sum + n * step ≡ t.accumulator + n * step_of t = rw (e, f) refl in

@@ -81,13 +81,16 @@ pub record Ordinary (test : Bool) (o : Op) : Type 0 where
 -- a move to a register that may be PC
 moving : (test : Bool) (d m : ℕ) → Ordinary (test || false) (op.MovHigh d m)
 unfolding return_of
-moving true d m = record { breakpoint = refl; undefined = refl; call = refl; event = refl; interrupt = refl; returns = λ g read. refl }
-moving false d m = record { breakpoint = refl; undefined = refl; call = refl; event = refl; interrupt = refl; returns = λ g read. refl }
+moving true d m =
+    record { breakpoint = refl; undefined = refl; call = refl; event = refl; interrupt = refl; returns = λ g read. refl }
+moving false d m =
+    record { breakpoint = refl; undefined = refl; call = refl; event = refl; interrupt = refl; returns = λ g read. refl }
 
 each_ordinary : (o : Op) → Ordinary (is_plain o || is_one_access o) o
 unfolding return_of
 each_ordinary (op.MovHigh d m) = moving (nat_lt d 15) d m
-each_ordinary _ = record { breakpoint = refl; undefined = refl; call = refl; event = refl; interrupt = refl; returns = λ g read. refl }
+each_ordinary _ =
+    record { breakpoint = refl; undefined = refl; call = refl; event = refl; interrupt = refl; returns = λ g read. refl }
 
 -- a plain instruction, and a load or a store of one register
 pub ordinary : (o : Op) → (is_plain o || is_one_access o) ≡ true → Ordinary true o
@@ -100,7 +103,8 @@ low d h = let less : nat_le 15 d ≡ false = grind (arith, nat_tests) in ap (λ 
 single_beat : (o : Op) (g : Regs) → cond (is_single o) (beats_of o g) (inner 1) ≡ inner 1
 unfolding beats_of
 single_beat (op.MovHigh d m) g =
-    cond_both (nat_lt d 15 && true) (inner_to d) (inner 1) (λ l. l ≡ inner 1) (λ e. low d (and_parts (nat_lt d 15) true e).0) (λ e. refl)
+    cond_both (nat_lt d 15 && true) (inner_to d) (inner 1) (λ l. l ≡ inner 1)
+    (λ e. low d (and_parts (nat_lt d 15) true e).0) (λ e. refl)
 single_beat _ g = refl
 
 singly : (o : Op) (g : Regs) → is_single o ≡ true → beats_of o g ≡ inner 1
@@ -155,7 +159,8 @@ same_end o s call wait value p q r =
 at_most : (address : ℕ) (beat : Beat) → length (single address beat) ≤ 2
 at_most address beat = search rules
 
-few_beats : (o : Op) (g : Regs) (address : ℕ) (beat : Beat) → length (cond (is_one_access o) (beats_of o g) (single address beat)) ≤ 2
+few_beats : (o : Op) (g : Regs) (address : ℕ) (beat : Beat)
+    → length (cond (is_one_access o) (beats_of o g) (single address beat)) ≤ 2
 unfolding beats_of
 few_beats (op.LdrLit t i) g address beat = at_most _ _
 few_beats _ g address beat = at_most _ _

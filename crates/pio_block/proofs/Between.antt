@@ -63,7 +63,8 @@ left m n (suc k) h on le =
 
 -- ---- for how long
 
-pub between_ticks : (m : Machine1) (n : ℕ) → is_written m.waiting ≡ false → m.enabled ≡ true → n ≡ m.acc / 256 → IsBetweenTicks m n
+pub between_ticks : (m : Machine1) (n : ℕ) → is_written m.waiting ≡ false → m.enabled ≡ true
+    → n ≡ m.acc / 256 → IsBetweenTicks m n
 between_ticks m n none on e = record {
   unwritten = λ some. none;
   between = λ k lt.
