@@ -5,9 +5,9 @@ use Rattle.std.proofs.lemmas.List.{get_or-map, map-set}
 use Rattle.pio_words.specs.declared.op.PioOp.{PioOp}
 use Rattle.pio_words.specs.Operation.{operation_of}
 
-pub operation_at : (operations : List PioOp) (words now : List ℕ) (i : ℕ) (d : PioOp) → operations ≡ map operation_of words → words ≡ now → i < length words
-    → slice_index_or operations i d ≡ operation_of (slice_index now i)
-operation_at operations words now i d beside same low = rw beside (rw (sym same) (get_or-map operation_of words i 0 d low))
+pub operation_at : (operations : List PioOp) (words : List ℕ) (i : ℕ) (d : PioOp) → operations ≡ map operation_of words → i < length words
+    → slice_index_or operations i d ≡ operation_of (slice_index words i)
+operation_at operations words i d beside low = rw beside (get_or-map operation_of words i 0 d low)
 
 pub operations_set : (words : List ℕ) (i word : ℕ) → slice_set (map operation_of words) i (operation_of word) ≡ map operation_of (slice_set words i word)
 operations_set words i word = sym (map-set operation_of words i word)

@@ -47,6 +47,7 @@ impl Memory {
 
     /// The operation of the word at an address, 0 to 31.
     #[inline(always)]
+    #[tactic(auto, using(crate::proofs::Beside::operation_at))]
     pub(crate) fn operation(&self, address: u8) -> &PioOp
         requires { address < 32 }
         ensures { result.now ≡ operation_of (slice_index self.now address) }
