@@ -1,5 +1,5 @@
 -- How often a machine ticks, and that its FIFOs stay within their depths.
-use Rattle.std.proofs.Common.{◌≡◌, ◌∙◌, ap, sym, subst, ℕ, zero, suc, ◌+◌, ◌-◌, ◌*◌, ◌/◌, ◌%◌, ◌^◌, ◌<◌, ◌≤◌, max, Bool, true, false, ◌&&◌, ◌==◌, nat_lt, if◌then◌else◌, List, [], ◌∷◌, length, Option, Some, None, refl, arith}
+use Rattle.std.proofs.Common.{◌≡◌, ◌∙◌, ap, sym, subst, ℕ, zero, suc, ◌+◌, ◌-◌, ◌*◌, ◌/◌, ◌%◌, ◌^◌, ◌<◌, ◌≤◌, Bool, true, false, ◌&&◌, ◌==◌, nat_lt, if◌then◌else◌, List, [], ◌∷◌, length, Option, Some, None, refl, arith}
 use Rattle.std.proofs.lemmas.Bool.{cond_both, ltb-true, ltb-false}
 use Rattle.std.proofs.lemmas.Nat.{div-mul-add}
 use Rattle.std.proofs.Math.Nat.{add-mul, one-mul, zero-add}
@@ -8,12 +8,13 @@ use Rattle.pio_machine.specs.declared.machine.Seen.{Seen}
 use Rattle.pio_machine.specs.Fields.{divider, tx_depth, rx_depth}
 use Rattle.pio_machine.specs.Cycle.{ticks, divided, advanced, word_tried, passed, after_word, after_cycle}
 use Rattle.pio_machine.specs.Clock.{ticks_over, AMachineTicksByItsDivider, ACycleKeepsTheFifosWithin}
-use Rattle.pio_machine.proofs.Goes.{Goes, goes, next_goes, stays, goes-refill, goes-try}
+use Rattle.pio_machine.proofs.Changes.{refill}
+use Rattle.pio_machine.proofs.Goes.{Goes, same_depth, next_goes, stays, holds, load, goes-try}
 
 -- ---- a cycle
 
 goes-passed : (ticked : Bool) (m : Machine1) → Goes m (passed ticked m)
-goes-passed true m = next_goes (goes m _ refl refl refl refl refl refl refl refl) (goes-refill (record m { delay = m.delay - 1 }))
+goes-passed true m = next_goes (holds.beside m _ _ _ _ _ _ _ _) (refill Goes stays load (record m { delay = m.delay - 1 }))
 goes-passed false m = stays m
 
 goes-word : (word : Option ℕ) (ticked : Bool) (number : ℕ) (seen : Seen) (m : Machine1) → Goes m (after_word word ticked number seen m)
@@ -122,15 +123,6 @@ a_machine_ticks_by_its_divider number seens m on rest =
 same_tx_depth : (m next : Machine1) → next.shiftctrl ≡ m.shiftctrl → tx_depth next ≡ tx_depth m
 same_tx_depth m next h = rw h refl
 
-same_rx_depth : (m next : Machine1) → next.shiftctrl ≡ m.shiftctrl → rx_depth next ≡ rx_depth m
-same_rx_depth m next h = rw h refl
-
-within : (a b d e : ℕ) → b ≤ a → a ≤ d → e ≡ d → b ≤ e
-within a b d e h k s = omega arith
-
-within_both : (a b d e f : ℕ) → b ≤ max a f → a ≤ d → e ≡ d → f ≡ d → b ≤ e
-within_both a b d e f h k s t = omega arith
-
 pub a_cycle_keeps_the_fifos_within : ACycleKeepsTheFifosWithin
 a_cycle_keeps_the_fifos_within number seen m w =
     let g = goes-cycle number seen m in
@@ -139,7 +131,7 @@ a_cycle_keeps_the_fifos_within number seen m w =
     let tx : length (advanced m).tx ≤ tx_depth m = subst (λ (ws : List ℕ). length ws ≤ tx_depth m) (sym (advanced-keeps (λ x. x.tx) (λ x a. refl) m)) w.tx in
     let rx : length (advanced m).rx ≤ rx_depth m = subst (λ (ws : List ℕ). length ws ≤ rx_depth m) (sym (advanced-keeps (λ x. x.rx) (λ x a. refl) m)) w.rx in
     record {
-      tx = within (length (advanced m).tx) (length next.tx) (tx_depth m) (tx_depth next) g.tx tx (same_tx_depth m next (g.shiftctrl ∙ first));
-      rx = within_both (length (advanced m).rx) (length next.rx) (rx_depth m) (rx_depth next) (rx_depth (advanced m)) g.rx rx
-          (same_rx_depth m next (g.shiftctrl ∙ first)) (same_rx_depth m (advanced m) first);
+      tx = let same = same_tx_depth m next (g.shiftctrl ∙ first) in omega (arith, g.tx, tx, same);
+      rx = let same = same_depth m next (g.shiftctrl ∙ first) in
+          let before = same_depth m (advanced m) first in omega (arith, g.rx, rx, same, before);
     }

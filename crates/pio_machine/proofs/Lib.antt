@@ -1,3 +1,4 @@
+pub mod Changes
 pub mod Clock
 pub mod Comparisons
 pub mod Drives

@@ -1,31 +1,21 @@
 -- What autopull and the end of a word leave.
-use Rattle.std.proofs.Common.{◌≡◌, ◌∙◌, ap, ℕ, Bool, true, false, if◌then◌else◌, List, [], ◌∷◌, Option, Some, None, refl}
+use Rattle.std.proofs.Common.{◌≡◌, ◌∙◌, ap, ℕ, List, Option, Some, None, refl}
 use Rattle.pio_machine.specs.declared.machine.Machine1.{Machine1}
 use Rattle.pio_machine.specs.declared.machine.Progress.{Progress}
 use Rattle.pio_machine.specs.declared.machine.Waiting.{Waiting}
 use Rattle.pio_machine.specs.Ending.{Ending}
 use Rattle.pio_machine.specs.Ending.Ending.{Stalled, Completed}
-use Rattle.pio_machine.specs.Fields.{autopull}
-use Rattle.pio_machine.specs.Queue.{loaded_from, loaded, is_spent, refilled}
+use Rattle.pio_machine.specs.Queue.{refilled}
 use Rattle.pio_machine.specs.Progress.{untried}
 use Rattle.pio_machine.specs.Operation.{next_address, stepped_past, stepped, with_delay, ended}
+use Rattle.pio_machine.proofs.Changes.{refill}
 
 -- it changes the OSR, its count and the TX FIFO alone
 abbrev pub LooksElsewhere : {A : Type 0} → (Machine1 → A) → Type 0
 LooksElsewhere f = (m : Machine1) (word : ℕ) (rest : List ℕ) → f (record m { osr = word; osr_count = 0; tx = rest }) ≡ f m
 
-loaded-keeps : {A : Type 0} (f : Machine1 → A) → LooksElsewhere f → (words : List ℕ) (m : Machine1) → f (loaded_from words m) ≡ f m
-loaded-keeps f h [] m = refl
-loaded-keeps f h (word ∷ rest) m = h m word rest
-
-refilled-cases : {A : Type 0} (f : Machine1 → A) → LooksElsewhere f → (b c : Bool) (m : Machine1) → f (if b then (if c then loaded m else m) else m) ≡ f m
-refilled-cases f h true true m = loaded-keeps f h m.tx m
-refilled-cases f h true false m = refl
-refilled-cases f h false c m = refl
-
 pub refilled-keeps : {A : Type 0} (f : Machine1 → A) → LooksElsewhere f → (m : Machine1) → f (refilled m) ≡ f m
-unfolding refilled
-refilled-keeps f h m = refilled-cases f h (autopull m) (is_spent m) m
+refilled-keeps f h m = refill (λ a b. f b ≡ f a) (λ a. refl) (λ a word rest e. h a word rest) m
 
 -- what neither autopull nor the end of a word changes
 pub record Ignores {A : Type 0} (f : Machine1 → A) : Type 0 where

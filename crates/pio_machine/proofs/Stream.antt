@@ -1,8 +1,8 @@
 -- What OUTs give, bit after bit, is what was sent, word after word.
-use Rattle.std.proofs.Common.{◌≡◌, ◌∙◌, ap, sym, ℕ, zero, suc, ◌+◌, ◌-◌, ◌*◌, ◌/◌, ◌%◌, ◌^◌, ◌<◌, ◌≤◌, min, Bool, true, false, not, ◌&&◌, nat_le, if◌then◌else◌, List, [], ◌∷◌, ◌++◌, Option, Some, None, refl, arith}
+use Rattle.std.proofs.Common.{◌≡◌, ◌∙◌, ap, sym, ℕ, zero, suc, ◌+◌, ◌-◌, ◌*◌, ◌/◌, ◌%◌, ◌^◌, ◌<◌, ◌≤◌, min, Bool, true, false, not, nat_le, if◌then◌else◌, List, [], ◌∷◌, ◌++◌, Option, Some, None, refl, arith, true≢false}
 use Rattle.std.specs.Int.{bit_at}
 use Rattle.std.specs.List.{flat_map}
-use Rattle.std.proofs.lemmas.Bool.{cond_both}
+use Rattle.std.proofs.lemmas.Bool.{and_parts, cond_both}
 use Rattle.std.proofs.lemmas.Bool.Decides.{nat_tests}
 use Rattle.std.proofs.lemmas.Grind.{flat_map-append}
 use Rattle.std.proofs.lemmas.List.{append_assoc, append-nil}
@@ -11,45 +11,32 @@ use Rattle.std.proofs.Math.Nat.{div-div-eq-div-mul, mul-div_cancel, mod-lt, zero
 use Rattle.std.proofs.Math.Pow.{mod-mod-pow}
 use Rattle.pio_words.specs.declared.op.PioOp.{PioOp}
 use Rattle.pio_words.specs.declared.op.PioOp.TheVariants.{Jmp, In, Out, Push, Pull, Mov, Irq, Set}
-use Rattle.pio_words.specs.declared.op.JmpCondition.{JmpCondition}
-use Rattle.pio_words.specs.declared.op.JmpCondition.TheVariants as jump
-use Rattle.pio_words.specs.declared.op.InSource.{InSource}
 use Rattle.pio_words.specs.declared.op.OutDestination.{OutDestination}
-use Rattle.pio_words.specs.declared.op.OutDestination.TheVariants as out
-use Rattle.pio_words.specs.declared.op.SetDestination.{SetDestination}
-use Rattle.pio_words.specs.declared.op.SetDestination.TheVariants as set
-use Rattle.pio_words.specs.declared.op.MovDestination.{MovDestination}
-use Rattle.pio_words.specs.declared.op.MovDestination.TheVariants as moved
 use Rattle.pio_words.specs.Operation.{operation_of}
 use Rattle.pio_machine.specs.declared.machine.Machine1.{Machine1}
 use Rattle.pio_machine.specs.declared.machine.Seen.{Seen}
-use Rattle.pio_machine.specs.declared.machine.Waiting.{Waiting}
-use Rattle.pio_machine.specs.declared.machine.Progress.{Progress}
 use Rattle.pio_machine.specs.Bits.{taken, remaining, counted}
-use Rattle.pio_machine.specs.Ending.{Ending}
-use Rattle.pio_machine.specs.Ending.Ending.{Stalled, Completed, Jumped, Executes}
-use Rattle.pio_machine.specs.Fields.{out_right, pull_threshold, autopull, is_rx_full}
-use Rattle.pio_machine.specs.Flags.{flag_of, waits_for_clear}
-use Rattle.pio_machine.specs.Progress.{kept_in, with_shifted, with_raised, progress_of}
-use Rattle.pio_machine.specs.Jump.{after_jmp}
-use Rattle.pio_machine.specs.Input.{shifted_in, shifted_once, try_in}
-use Rattle.pio_machine.specs.Queue.{completed, stalled, loaded_from, loaded, is_spent, refilled, with_tx_stall, with_rx_stall, is_pull_void, pulled_from, try_pull, pushed, with_isr_cleared, try_push_now, try_push}
-use Rattle.pio_machine.specs.Output.{out_value, shifted_out, with_out, out_stalls, starved, out_done, try_out, after_set}
-use Rattle.pio_machine.specs.Move.{mov_value, with_moved}
-use Rattle.pio_machine.specs.Operation.{tried, is_osr, loads_osr, stepped_past, stepped, ended}
-use Rattle.pio_machine.specs.Cycle.{worked, after_op, after_try, ticks, divided, advanced, word_tried, passed, after_word, after_cycle}
+use Rattle.pio_machine.specs.Fields.{out_right, pull_threshold, autopull}
+use Rattle.pio_machine.specs.Flags.{flag_of}
+use Rattle.pio_machine.specs.Queue.{completed, stalled, loaded_from, loaded, is_spent, refilled, is_pull_void, pulled_from, try_pull}
+use Rattle.pio_machine.specs.Output.{out_value, shifted_out, with_out, out_stalls, starved, out_done, try_out}
+use Rattle.pio_machine.specs.Move.{mov_value}
+use Rattle.pio_machine.specs.Operation.{tried, is_osr, loads_osr}
+use Rattle.pio_machine.specs.Cycle.{worked, after_op, after_try, ticks, advanced, word_tried, passed, after_word, after_cycle}
 use Rattle.pio_machine.specs.Stream.{listed, bit_index, leading, bits_of_word, bits_waiting, bits_of_out, given_by, given_by_word, given_in_cycle, replaces_osr, word_replaces_osr, Feeds, end_of, given_over, sent_over, TheBitsOutAreThoseSent}
+use Rattle.pio_machine.proofs.Changes.{Holds, OfIsr, OfPush}
+use Rattle.pio_machine.proofs.Changes as change
 use Rattle.pio_machine.proofs.Clock.{advanced-keeps, goes-cycle}
 
 -- ---- lists of bits
 
-listed-same : (n : ℕ) (f g : ℕ → ℕ) → ((i : ℕ) → i < n → f i ≡ g i) → listed n f ≡ listed n g
+pub listed-same : (n : ℕ) (f g : ℕ → ℕ) → ((i : ℕ) → i < n → f i ≡ g i) → listed n f ≡ listed n g
 listed-same zero f g h = refl
 listed-same (suc n) f g h =
     ap (λ b. b ∷ listed n (λ i. f (suc i))) (h 0 (omega arith))
     ∙ ap (λ bs. g 0 ∷ bs) (listed-same n (λ i. f (suc i)) (λ i. g (suc i)) (λ i low. h (suc i) (omega (arith, low))))
 
-listed-append : (a b : ℕ) (f : ℕ → ℕ) → listed (a + b) f ≡ listed a f ++ listed b (λ i. f (a + i))
+pub listed-append : (a b : ℕ) (f : ℕ → ℕ) → listed (a + b) f ≡ listed a f ++ listed b (λ i. f (a + i))
 listed-append zero b f = ap (λ n. listed n f) (zero-add b) ∙ listed-same b f (λ i. f (0 + i)) (λ i low. ap f (sym (zero-add i)))
 listed-append (suc a) b f =
     let longer : suc a + b ≡ suc (a + b) = omega arith in
@@ -65,12 +52,12 @@ low_bits w j i =
     ∙ ap (λ n. n % 2) (div-mul-add (w / 2 ^ i % 2 ^ (j + 1)) (2 ^ i) (w % 2 ^ i) (mod-lt w (pow_pos i)))
     ∙ mod-mod-pow (w / 2 ^ i) j 1
 
-bit-mod : (w c i : ℕ) → i < c → bit_at (w % 2 ^ c) i ≡ bit_at w i
+pub bit-mod : (w c i : ℕ) → i < c → bit_at (w % 2 ^ c) i ≡ bit_at w i
 bit-mod w c i h =
     let split : c ≡ ((c - suc i) + 1) + i = omega (arith, h) in
     ap (λ n. bit_at (w % 2 ^ n) i) split ∙ low_bits w (c - suc i) i
 
-bit-div : (w c i : ℕ) → bit_at (w / 2 ^ c) i ≡ bit_at w (c + i)
+pub bit-div : (w c i : ℕ) → bit_at (w / 2 ^ c) i ≡ bit_at w (c + i)
 bit-div w c i = ap (λ n. n % 2) (div-div-eq-div-mul w (2 ^ c) (2 ^ i) ∙ ap (λ n. w / n) (sym (pow-add 2 c i)))
 
 bit-mul : (w c i : ℕ) → bit_at (w * 2 ^ c) (c + i) ≡ bit_at w i
@@ -101,22 +88,6 @@ parted right c left w h k =
 
 -- ---- what waits, in machines that agree
 
--- the OSR, its count, the TX FIFO and SHIFTCTRL are the same
-record Agrees (m next : Machine1) : Type 0 where
-  osr : next.osr ≡ m.osr
-  osr_count : next.osr_count ≡ m.osr_count
-  tx : next.tx ≡ m.tx
-  shiftctrl : next.shiftctrl ≡ m.shiftctrl
-
-agrees : (m next : Machine1) → next.osr ≡ m.osr → next.osr_count ≡ m.osr_count → next.tx ≡ m.tx → next.shiftctrl ≡ m.shiftctrl → Agrees m next
-agrees m next o c t s = record { osr = o; osr_count = c; tx = t; shiftctrl = s }
-
-itself : (m : Machine1) → Agrees m m
-itself m = agrees m m refl refl refl refl
-
-and_then : {a b c : Machine1} → Agrees a b → Agrees b c → Agrees a c
-and_then g h = record { osr = h.osr ∙ g.osr; osr_count = h.osr_count ∙ g.osr_count; tx = h.tx ∙ g.tx; shiftctrl = h.shiftctrl ∙ g.shiftctrl }
-
 same_word : (m next : Machine1) → next.shiftctrl ≡ m.shiftctrl → (word : ℕ) → bits_of_word next word ≡ bits_of_word m word
 same_word m next h word = rw h refl
 
@@ -130,11 +101,18 @@ same_rest : (m next : Machine1) → next.osr ≡ m.osr → next.osr_count ≡ m.
     → leading (out_right next) 32 (pull_threshold next - next.osr_count) next.osr ≡ leading (out_right m) 32 (pull_threshold m - m.osr_count) m.osr
 same_rest m next o c s = rw (o, c, s) refl
 
-same_bits : (m next : Machine1) → Agrees m next → bits_waiting next ≡ bits_waiting m
-same_bits m next g =
-    ap (λ bs. bs ++ flat_map (bits_of_word next) next.tx) (same_rest m next g.osr g.osr_count g.shiftctrl)
-    ∙ ap (λ bs. leading (out_right m) 32 (pull_threshold m - m.osr_count) m.osr ++ bs)
-    (ap (λ ws. flat_map (bits_of_word next) ws) g.tx ∙ same_words m next g.shiftctrl m.tx)
+-- as much waits
+abbrev SameBits : Machine1 → Machine1 → Type 0
+SameBits m next = bits_waiting next ≡ bits_waiting m
+
+holds : Holds SameBits
+holds = record { none = λ m. refl; beside = λ m x y pc delay w p t r. refl; both = λ g h. h ∙ g }
+
+isr : OfIsr SameBits
+isr m v c = refl
+
+push : OfPush SameBits
+push m h = refl
 
 -- ---- a spent OSR is loaded
 
@@ -177,31 +155,21 @@ shift-bits count m h =
     ∙ sym (append_assoc (bits_of_out count m) (leading (out_right m) 32 (left - count) (remaining (out_right m) count m.osr)) (flat_map (bits_of_word m) m.tx))
     ∙ ap (λ bs. bs ++ flat_map (bits_of_word m) m.tx) (parted (out_right m) count left m.osr h (omega (arith, threshold-fits m)))
 
-agrees-put : (destination : OutDestination) (value count : ℕ) (m : Machine1) → Agrees m (with_out destination value count m)
-agrees-put out.X v c m = agrees m _ refl refl refl refl
-agrees-put out.Y v c m = agrees m _ refl refl refl refl
-agrees-put out.Isr v c m = agrees m _ refl refl refl refl
-agrees-put _ v c m = itself m
-
 done-bits : (destination : OutDestination) (count : ℕ) (m : Machine1) → count ≤ 32
     → bits_of_out count m ++ bits_waiting (out_done destination count m).machine ≡ bits_waiting m
 done-bits destination count m h =
     ap (λ bs. bits_of_out count m ++ bs)
     (refilled-bits (with_out destination (out_value count m) count (shifted_out count m))
-    ∙ same_bits (shifted_out count m) _ (agrees-put destination (out_value count m) count (shifted_out count m)))
+    ∙ change.put holds destination (λ e. isr) (out_value count m) count (shifted_out count m))
     ∙ shift-bits count m h
 
-is_both : (a b : Bool) → (a && b) ≡ true → b ≡ true
-is_both true b h = h
-is_both false b h = absurd (cc)
-
 starved-bits : (words : List ℕ) (m : Machine1) → m.tx ≡ words → is_spent m ≡ true → bits_waiting (starved words m) ≡ bits_waiting m
-starved-bits [] m h spent = same_bits m _ (agrees m (with_tx_stall m) refl refl refl refl)
+starved-bits [] m h spent = refl
 starved-bits (word ∷ rest) m h spent = loaded-bits m.tx m refl spent
 
 out-by : (b : Bool) (destination : OutDestination) (count : ℕ) (m : Machine1) → out_stalls m ≡ b → count ≤ 32
     → (if b then [] else bits_of_out count m) ++ bits_waiting (if b then stalled (starved m.tx m) else out_done destination count m).machine ≡ bits_waiting m
-out-by true destination count m h k = starved-bits m.tx m refl (is_both (autopull m) (is_spent m) h)
+out-by true destination count m h k = starved-bits m.tx m refl (and_parts (autopull m) (is_spent m) h).1
 out-by false destination count m h k = done-bits destination count m k
 
 out-bits : (destination : OutDestination) (count : ℕ) (m : Machine1)
@@ -211,93 +179,38 @@ out-bits destination count m = out-by (out_stalls m) destination (min count 32) 
 
 -- ---- the other operations
 
-agrees-jmp : (condition : JmpCondition) (m : Machine1) → Agrees m (after_jmp condition m)
-agrees-jmp jump.XDecrement m = agrees m _ refl refl refl refl
-agrees-jmp jump.YDecrement m = agrees m _ refl refl refl refl
-agrees-jmp _ m = itself m
+void-bits : (b block : Bool) (m : Machine1) → not b ≡ false
+    → SameBits m (if b then completed m else pulled_from m.tx block m).machine
+void-bits true block m h = refl
+void-bits false block m h = absurd (cc)
 
-agrees-keep : (w : Option Waiting) (p : Progress) (m : Machine1) → Agrees m (kept_in w p m)
-agrees-keep None p m = agrees m _ refl refl refl refl
-agrees-keep (Some w) p m = agrees m _ refl refl refl refl
-
-agrees-shift : (before : Bool) (value count : ℕ) (m : Machine1) → Agrees m (if before then m else shifted_in value count m)
-agrees-shift true v c m = itself m
-agrees-shift false v c m = agrees m _ refl refl refl refl
-
-agrees-autopush : (pushes full : Bool) (m : Machine1)
-    → Agrees m (if pushes then (if full then stalled (with_rx_stall (with_shifted m)) else completed (pushed m)) else completed m).machine
-agrees-autopush true true m = and_then (agrees-keep m.waiting _ m) (agrees _ _ refl refl refl refl)
-agrees-autopush true false m = agrees m _ refl refl refl refl
-agrees-autopush false full m = itself m
-
-agrees-in : (source : InSource) (count : ℕ) (seen : Seen) (m : Machine1) → Agrees m (try_in source count seen m).machine
-unfolding try_in
-agrees-in source count seen m =
-    and_then (agrees-shift (progress_of m).shifted _ _ m) (agrees-autopush _ _ (shifted_once source count seen m))
-
-agrees-push-now : (full block : Bool) (m : Machine1)
-    → Agrees m (if full then (if block then stalled (with_rx_stall m) else completed (with_isr_cleared (with_rx_stall m))) else completed (pushed m)).machine
-agrees-push-now true true m = agrees m _ refl refl refl refl
-agrees-push-now true false m = agrees m _ refl refl refl refl
-agrees-push-now false block m = agrees m _ refl refl refl refl
-
-agrees-push : (if_full block : Bool) (m : Machine1) → Agrees m (try_push if_full block m).machine
-unfolding try_push
-agrees-push if_full block m =
-    cond_both _ (completed m) (try_push_now block m) (λ t. Agrees m t.machine) (λ e. itself m) (λ e. agrees-push-now (is_rx_full m) block m)
-
-agrees-pull-by : (b block : Bool) (m : Machine1) → not b ≡ false → Agrees m (if b then completed m else pulled_from m.tx block m).machine
-agrees-pull-by true block m h = itself m
-agrees-pull-by false block m h = absurd (cc)
-
-agrees-pull : (if_empty block : Bool) (m : Machine1) → not (is_pull_void if_empty m) ≡ false → Agrees m (try_pull if_empty block m).machine
+pull-bits : (if_empty block : Bool) (m : Machine1) → not (is_pull_void if_empty m) ≡ false
+    → SameBits m (try_pull if_empty block m).machine
 unfolding try_pull
-agrees-pull if_empty block m h = agrees-pull-by (is_pull_void if_empty m) block m h
-
-agrees-mov : (destination : MovDestination) (value : ℕ) (m : Machine1) → is_osr destination ≡ false → Agrees m (with_moved destination value m)
-agrees-mov moved.X v m h = agrees m _ refl refl refl refl
-agrees-mov moved.Y v m h = agrees m _ refl refl refl refl
-agrees-mov moved.Isr v m h = agrees m _ refl refl refl refl
-agrees-mov moved.Osr v m h = absurd (cc)
-agrees-mov _ v m h = itself m
-
-agrees-set : (destination : SetDestination) (value : ℕ) (m : Machine1) → Agrees m (after_set destination value m)
-agrees-set set.X v m = agrees m _ refl refl refl refl
-agrees-set set.Y v m = agrees m _ refl refl refl refl
-agrees-set _ v m = itself m
+pull-bits if_empty block m h = void-bits (is_pull_void if_empty m) block m h
 
 op-bits : (op : PioOp) (number : ℕ) (seen : Seen) (m : Machine1) → replaces_osr op m ≡ false
     → given_by op m ++ bits_waiting (tried op number seen m).machine ≡ bits_waiting m
-op-bits (Jmp condition address) number seen m h = same_bits m _ (agrees-jmp condition m)
-op-bits (In source count) number seen m h = same_bits m _ (agrees-in source count seen m)
+op-bits (Jmp condition address) number seen m h = change.jmp holds condition m
+op-bits (In source count) number seen m h = change.in_ holds isr push source count seen m
 op-bits (Out destination count) number seen m h = out-bits destination count m
-op-bits (Push if_full block) number seen m h = same_bits m _ (agrees-push if_full block m)
-op-bits (Pull if_empty block) number seen m h = same_bits m _ (agrees-pull if_empty block m h)
-op-bits (Mov destination operation source) number seen m h = same_bits m _ (agrees-mov destination (mov_value operation source seen m) m h)
-op-bits (Irq clear wait index) number seen m h = same_bits m _
-    (cond_both (waits_for_clear clear wait (flag_of index number) seen m) (with_raised m) m (Agrees m) (λ e. agrees-keep m.waiting _ m) (λ e. itself m))
-op-bits (Set destination value) number seen m h = same_bits m _ (agrees-set destination value m)
+op-bits (Push if_full block) number seen m h = change.push holds isr push if_full block m
+op-bits (Pull if_empty block) number seen m h = pull-bits if_empty block m h
+op-bits (Mov destination operation source) number seen m h =
+    change.mov holds destination (λ e. isr) (λ e. absurd (true≢false (sym (ap is_osr e) ∙ h)))
+    (mov_value operation source seen m) m
+op-bits (Irq clear wait index) number seen m h = change.irq holds clear wait (flag_of index number) seen m
+op-bits (Set destination value) number seen m h = change.set_ holds destination value m
 op-bits _ number seen m h = refl
 
 -- ---- a cycle
-
-agrees-past : (w : Option Waiting) (m : Machine1) → Agrees m (stepped_past w m)
-agrees-past None m = agrees m _ refl refl refl refl
-agrees-past (Some w) m = agrees m _ refl refl refl refl
-
-agrees-end : (delay : ℕ) (e : Ending) (m : Machine1) → Agrees m (ended delay e m)
-unfolding ended
-agrees-end delay Stalled m = itself m
-agrees-end delay Completed m = and_then (agrees-past m.waiting m) (agrees (stepped m) _ refl refl refl refl)
-agrees-end delay (Jumped address) m = agrees m _ refl refl refl refl
-agrees-end delay (Executes word) m = and_then (agrees-past m.waiting m) (agrees (stepped m) _ refl refl refl refl)
 
 try-bits-of : (word : ℕ) (op : PioOp) (number : ℕ) (seen : Seen) (m : Machine1) → replaces_osr op m ≡ false
     → given_by op m ++ bits_waiting (after_op word op number seen m) ≡ bits_waiting m
 try-bits-of word op number seen m h =
     let t = (tried op number seen m).machine in
     ap (λ bs. given_by op m ++ bs)
-    (same_bits (worked op number seen m) _ (agrees-end _ (tried op number seen m).ending (worked op number seen m))
+    (change.end holds _ (tried op number seen m).ending (worked op number seen m)
     ∙ cond_both (loads_osr op) t (refilled t) (λ x. bits_waiting x ≡ bits_waiting t) (λ e. refl) (λ e. refilled-bits t))
     ∙ op-bits op number seen m h
 
@@ -307,7 +220,7 @@ unfolding after_try
 try-bits word number seen m h = try-bits-of word (operation_of word) number seen m h
 
 passed-bits : (ticked : Bool) (m : Machine1) → bits_waiting (passed ticked m) ≡ bits_waiting m
-passed-bits true m = refilled-bits (record m { delay = m.delay - 1 }) ∙ same_bits m _ (agrees m (record m { delay = m.delay - 1 }) refl refl refl refl)
+passed-bits true m = refilled-bits (record m { delay = m.delay - 1 })
 passed-bits false m = refl
 
 word-bits : (word : Option ℕ) (ticked : Bool) (number : ℕ) (seen : Seen) (m : Machine1) → word_replaces_osr word m ≡ false
@@ -315,15 +228,11 @@ word-bits : (word : Option ℕ) (ticked : Bool) (number : ℕ) (seen : Seen) (m 
 word-bits None ticked number seen m h = passed-bits ticked m
 word-bits (Some word) ticked number seen m h = try-bits word number seen m h
 
-agrees-advanced : (b : Bool) (m : Machine1) (a : ℕ) → Agrees m (if b then record m { acc = a } else m)
-agrees-advanced true m a = agrees m _ refl refl refl refl
-agrees-advanced false m a = itself m
-
 cycle-bits : (number : ℕ) (seen : Seen) (m : Machine1) → word_replaces_osr (word_tried seen m) (advanced m) ≡ false
     → given_in_cycle seen m ++ bits_waiting (after_cycle number seen m) ≡ bits_waiting m
 unfolding after_cycle
 cycle-bits number seen m h =
-    word-bits (word_tried seen m) (ticks m) number seen (advanced m) h ∙ same_bits m _ (agrees-advanced m.enabled m (divided m))
+    word-bits (word_tried seen m) (ticks m) number seen (advanced m) h ∙ advanced-keeps bits_waiting (λ x a. refl) m
 
 -- ---- a run
 
@@ -339,7 +248,8 @@ same_shiftctrl : (number : ℕ) (seen : Seen) (m : Machine1) → (after_cycle nu
 same_shiftctrl number seen m = (goes-cycle number seen m).shiftctrl ∙ advanced-keeps (λ x. x.shiftctrl) (λ x a. refl) m
 
 -- in five pieces: what is given now and later, what waits at the end, what was sent now and later
-in_turn : (given later end next before now after : List ℕ) → later ++ end ≡ next ++ after → given ++ next ≡ before ++ now
+pub in_turn : {A : Type 0} (given later end next before now after : List A)
+    → later ++ end ≡ next ++ after → given ++ next ≡ before ++ now
     → (given ++ later) ++ end ≡ before ++ (now ++ after)
 in_turn given later end next before now after h k =
     append_assoc given later end ∙ ap (λ bs. given ++ bs) h ∙ sym (append_assoc given next after)

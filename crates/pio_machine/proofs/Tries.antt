@@ -28,7 +28,8 @@ use Rattle.pio_machine.specs.Move.{mov_value, ending_of_mov}
 use Rattle.pio_machine.specs.Operation.{tried, loads_osr, delay_of, stepped_past, ended}
 use Rattle.pio_machine.specs.Cycle.{worked, word_tried}
 use Rattle.pio_machine.specs.WordLaws.{IsUntried, AWordBeginsUntried, AWrittenWordComesNext, TheBitsInStandAtTheirEnd, IsKept, AStallKeepsTheRest}
-use Rattle.pio_machine.proofs.Refills.{refilled-keeps, ended-stalled}
+use Rattle.pio_machine.proofs.Changes.{refill}
+use Rattle.pio_machine.proofs.Refills.{ended-stalled}
 
 -- ---- a word begins untried
 
@@ -71,11 +72,6 @@ then_kept h k = record { pc = k.pc ∙ h.pc; delay = k.delay ∙ h.delay; x = k.
 
 kept : (m t : Machine1) → t.pc ≡ m.pc → t.delay ≡ m.delay → t.x ≡ m.x → t.y ≡ m.y → t.rx ≡ m.rx → IsKept m t
 kept m t a b c d e = record { pc = a; delay = b; x = c; y = d; rx = e }
-
-kept-refill : (m : Machine1) → IsKept m (refilled m)
-kept-refill m =
-    kept m (refilled m) (refilled-keeps (λ x. x.pc) (λ x w r. refl) m) (refilled-keeps (λ x. x.delay) (λ x w r. refl) m)
-    (refilled-keeps (λ x. x.x) (λ x w r. refl) m) (refilled-keeps (λ x. x.y) (λ x w r. refl) m) (refilled-keeps (λ x. x.rx) (λ x w r. refl) m)
 
 kept-load : (ws : List ℕ) (m : Machine1) → IsKept m (loaded_from ws m)
 kept-load [] m = stays m
@@ -165,7 +161,9 @@ stall_keeps word op number seen m h =
     let t = (tried op number seen m).machine in
     subst (IsKept m)
     (sym (ended-stalled (delay_of word (worked op number seen m)) (tried op number seen m).ending (worked op number seen m) h))
-    (then_kept (kept-op op number seen m h) (cond_both (loads_osr op) t (refilled t) (IsKept t) (λ e. stays t) (λ e. kept-refill t)))
+    (then_kept (kept-op op number seen m h)
+    (cond_both (loads_osr op) t (refilled t) (IsKept t) (λ e. stays t)
+    (λ e. refill IsKept stays (λ x w rest i. kept x _ refl refl refl refl refl) t)))
 
 -- ---- the bits of an IN
 
