@@ -2,73 +2,32 @@
 use Rattle.std.proofs.Common.{◌≡◌, ◌∙◌, ap, ap₂, sym, subst, ℕ, zero, suc, ◌+◌, ◌-◌, ◌*◌, ◌/◌, ◌%◌, ◌^◌, ◌<◌, ◌≤◌, min, Bool, true, false, not, ◌&&◌, nat_le, nat_lt, cond, map, List, [], ◌∷◌, ◌++◌, Option, Some, None, refl, arith, ltb-false, true≢false}
 use Rattle.std.specs.Int.{bit_at}
 use Rattle.std.specs.List.{flat_map}
+use Rattle.std.proofs.lemmas.Bool.{cond_both}
 use Rattle.std.proofs.lemmas.List.{append_assoc, append-nil, map-append}
-use Rattle.std.proofs.lemmas.Nat.{pow-add, pow_pos, mod-pow-add, div-mul-add}
-use Rattle.std.proofs.Math.Nat.{div-div-eq-div-mul, mod-lt, zero-add}
-use Rattle.std.proofs.Math.Pow.{mod-mod-pow}
+use Rattle.std.proofs.lemmas.Nat.{pow_pos}
+use Rattle.std.proofs.Math.Nat.{mod-lt}
 use Rattle.pio_words.specs.declared.op.PioOp.{PioOp}
 use Rattle.pio_words.specs.declared.op.PioOp.TheVariants.{Jmp, Wait, In, Out, Push, Pull, Mov, Irq, Set, Reserved}
-use Rattle.pio_words.specs.declared.op.JmpCondition.{JmpCondition}
-use Rattle.pio_words.specs.declared.op.JmpCondition.TheVariants as jump
 use Rattle.pio_words.specs.declared.op.InSource.{InSource}
-use Rattle.pio_words.specs.declared.op.OutDestination.{OutDestination}
-use Rattle.pio_words.specs.declared.op.OutDestination.TheVariants as out
-use Rattle.pio_words.specs.declared.op.SetDestination.{SetDestination}
-use Rattle.pio_words.specs.declared.op.SetDestination.TheVariants as set
-use Rattle.pio_words.specs.declared.op.MovDestination.{MovDestination}
-use Rattle.pio_words.specs.declared.op.MovDestination.TheVariants as moved
 use Rattle.pio_words.specs.Operation.{operation_of}
 use Rattle.pio_machine.specs.declared.machine.Machine1.{Machine1}
 use Rattle.pio_machine.specs.declared.machine.Seen.{Seen}
-use Rattle.pio_machine.specs.declared.machine.Waiting.{Waiting}
-use Rattle.pio_machine.specs.declared.machine.Progress.{Progress}
 use Rattle.pio_machine.specs.Bits.{entered}
-use Rattle.pio_machine.specs.Ending.{Ending}
-use Rattle.pio_machine.specs.Ending.Ending.{Stalled, Completed, Jumped, Executes}
-use Rattle.pio_machine.specs.Fields.{in_right, autopush, push_threshold, is_rx_full, autopull}
-use Rattle.pio_machine.specs.Flags.{flag_of, waits_for_clear}
-use Rattle.pio_machine.specs.Progress.{kept_in, with_shifted, progress_of}
-use Rattle.pio_machine.specs.Jump.{after_jmp}
+use Rattle.pio_machine.specs.Fields.{in_right, autopush, push_threshold, is_rx_full}
+use Rattle.pio_machine.specs.Flags.{flag_of}
+use Rattle.pio_machine.specs.Progress.{with_shifted, progress_of}
 use Rattle.pio_machine.specs.Input.{in_value, shifted_in, shifted_once, try_in}
-use Rattle.pio_machine.specs.Queue.{completed, stalled, loaded_from, is_spent, refilled, with_rx_stall, is_pull_void, pulled_from, try_pull, pushed, with_isr_cleared, try_push}
-use Rattle.pio_machine.specs.Output.{out_value, shifted_out, with_out, out_stalls, starved, out_done, try_out, after_set}
-use Rattle.pio_machine.specs.Move.{mov_value, with_moved}
-use Rattle.pio_machine.specs.Operation.{tried, loads_osr, stepped_past, stepped, ended}
+use Rattle.pio_machine.specs.Queue.{completed, stalled, refilled, with_rx_stall, pushed, with_isr_cleared, try_push}
+use Rattle.pio_machine.specs.Move.{mov_value}
+use Rattle.pio_machine.specs.Operation.{tried, loads_osr}
 use Rattle.pio_machine.specs.Cycle.{worked, after_op, after_try, ticks, divided, advanced, word_tried, passed, after_word, after_cycle}
 use Rattle.pio_machine.specs.Stream.{listed, bit_index, leading}
 use Rattle.pio_machine.specs.WordLaws.{AreEntered}
+use Rattle.pio_machine.proofs.Changes.{Holds, OfOsr, OfLoad, refill}
+use Rattle.pio_machine.proofs.Changes as change
+use Rattle.pio_machine.proofs.Stream.{listed-same, listed-append, bit-mod, bit-div, in_turn}
 use Rattle.pio_machine.proofs.Tries.{bits_in}
 use Rattle.pio_laws.specs.Pushes.{collected, Pushed, bits_pushed, bits_held, taken_by, pushed_by, goes_to_isr, moves_to_isr, loses, taken_by_word, pushed_by_word, word_loses, end_of, read_over, taken_over, pushed_over, TheBitsInAreThosePushed}
-
--- ---- lists of bits
-
-listed-same : (n : ℕ) (f g : ℕ → ℕ) → ((i : ℕ) → i < n → f i ≡ g i) → listed n f ≡ listed n g
-listed-same zero f g h = refl
-listed-same (suc n) f g h =
-    ap (λ b. b ∷ listed n (λ i. f (suc i))) (h 0 (omega arith))
-    ∙ ap (λ bs. g 0 ∷ bs) (listed-same n (λ i. f (suc i)) (λ i. g (suc i)) (λ i low. h (suc i) (omega (arith, low))))
-
-listed-append : (a b : ℕ) (f : ℕ → ℕ) → listed (a + b) f ≡ listed a f ++ listed b (λ i. f (a + i))
-listed-append zero b f = ap (λ n. listed n f) (zero-add b) ∙ listed-same b f (λ i. f (0 + i)) (λ i low. ap f (sym (zero-add i)))
-listed-append (suc a) b f =
-    let longer : suc a + b ≡ suc (a + b) = omega arith in
-    ap (λ n. listed n f) longer
-    ∙ ap (λ bs. f 0 ∷ bs) (listed-append a b (λ i. f (suc i)) ∙ ap (λ cs. listed a (λ i. f (suc i)) ++ cs)
-    (listed-same b (λ i. f (suc (a + i))) (λ i. f (suc a + i)) (λ i low. ap f (omega arith))))
-
-low_bits : (w j i : ℕ) → bit_at (w % 2 ^ ((j + 1) + i)) i ≡ bit_at w i
-low_bits w j i =
-    ap (λ n. n / 2 ^ i % 2) (mod-pow-add w (j + 1) i)
-    ∙ ap (λ n. n % 2) (div-mul-add (w / 2 ^ i % 2 ^ (j + 1)) (2 ^ i) (w % 2 ^ i) (mod-lt w (pow_pos i)))
-    ∙ mod-mod-pow (w / 2 ^ i) j 1
-
-bit-mod : (w c i : ℕ) → i < c → bit_at (w % 2 ^ c) i ≡ bit_at w i
-bit-mod w c i h =
-    let split : c ≡ ((c - suc i) + 1) + i = omega (arith, h) in
-    ap (λ n. bit_at (w % 2 ^ n) i) split ∙ low_bits w (c - suc i) i
-
-bit-div : (w c i : ℕ) → bit_at (w / 2 ^ c) i ≡ bit_at w (c + i)
-bit-div w c i = ap (λ n. n % 2) (div-div-eq-div-mul w (2 ^ c) (2 ^ i) ∙ ap (λ n. w / n) (sym (pow-add 2 c i)))
 
 -- ---- bits enter
 
@@ -139,9 +98,14 @@ itself m = agrees m m refl refl refl refl
 and_then : {a b c : Machine1} → Agrees a b → Agrees b c → Agrees a c
 and_then g h = record { isr = h.isr ∙ g.isr; isr_count = h.isr_count ∙ g.isr_count; rx = h.rx ∙ g.rx; shiftctrl = h.shiftctrl ∙ g.shiftctrl }
 
-either : (b : Bool) (m x y : Machine1) → Agrees m x → Agrees m y → Agrees m (cond b x y)
-either true m x y h k = h
-either false m x y h k = k
+holds : Holds Agrees
+holds = record { none = itself; beside = λ m x y pc delay w p t r. agrees m _ refl refl refl refl; both = and_then }
+
+osr : OfOsr Agrees
+osr m v c = agrees m _ refl refl refl refl
+
+load : OfLoad Agrees
+load m word rest e = agrees m _ refl refl refl refl
 
 same_held : (m next : Machine1) → next.isr ≡ m.isr → next.isr_count ≡ m.isr_count → next.shiftctrl ≡ m.shiftctrl → bits_held next ≡ bits_held m
 same_held m next i c s = rw (i, c, s) refl
@@ -220,10 +184,6 @@ enters false source count seen m h =
       bits = λ w. ap (λ (k : ℕ). collected (in_right m) k (entered (in_right m) n v m.isr)) exact ∙ collects (in_right m) m.isr_count n v m.isr w fits;
     }
 
-keeps : (w : Option Waiting) (p : Progress) (m : Machine1) → Agrees m (kept_in w p m)
-keeps None p m = agrees m _ refl refl refl refl
-keeps (Some w) p m = agrees m _ refl refl refl refl
-
 leaves : (m : Machine1) → Moves m (pushed m) [] (record { count = m.isr_count; word = m.isr } ∷ [])
 leaves m = record {
   shiftctrl = refl;
@@ -238,7 +198,7 @@ leaves m = record {
 
 autopushes : (asked full : Bool) (m : Machine1)
     → Moves m (cond asked (cond full (stalled (with_rx_stall (with_shifted m))) (completed (pushed m))) (completed m)).machine [] (cond asked (cond full [] (record { count = m.isr_count; word = m.isr } ∷ [])) [])
-autopushes true true m = rests m _ (and_then (keeps m.waiting _ m) (agrees (with_shifted m) _ refl refl refl refl))
+autopushes true true m = rests m _ (and_then (change.keep holds m.waiting _ m) (agrees (with_shifted m) _ refl refl refl refl))
 autopushes true false m = leaves m
 autopushes false full m = rests m m (itself m)
 
@@ -264,109 +224,30 @@ moves-push if_full block seen m h = pushes (if_full && nat_lt m.isr_count (push_
 
 -- ---- the other operations
 
-agrees-jmp : (condition : JmpCondition) (m : Machine1) → Agrees m (after_jmp condition m)
-agrees-jmp jump.Always m = itself m
-agrees-jmp jump.XZero m = itself m
-agrees-jmp jump.XDecrement m = agrees m _ refl refl refl refl
-agrees-jmp jump.YZero m = itself m
-agrees-jmp jump.YDecrement m = agrees m _ refl refl refl refl
-agrees-jmp jump.XNotY m = itself m
-agrees-jmp jump.Pin m = itself m
-agrees-jmp jump.OsrNotEmpty m = itself m
-
-agrees-loaded : (words : List ℕ) (m : Machine1) → Agrees m (loaded_from words m)
-agrees-loaded [] m = itself m
-agrees-loaded (word ∷ rest) m = agrees m _ refl refl refl refl
-
-agrees-refilled : (m : Machine1) → Agrees m (refilled m)
-unfolding refilled
-agrees-refilled m = either (autopull m) m _ _ (either (is_spent m) m _ _ (agrees-loaded m.tx m) (itself m)) (itself m)
-
-agrees-starved : (words : List ℕ) (m : Machine1) → Agrees m (starved words m)
-agrees-starved [] m = agrees m _ refl refl refl refl
-agrees-starved (word ∷ rest) m = agrees-loaded m.tx m
-
-agrees-put : (destination : OutDestination) (value count : ℕ) (m : Machine1) → goes_to_isr destination ≡ false → Agrees m (with_out destination value count m)
-agrees-put out.Pins v c m h = itself m
-agrees-put out.X v c m h = agrees m _ refl refl refl refl
-agrees-put out.Y v c m h = agrees m _ refl refl refl refl
-agrees-put out.Null v c m h = itself m
-agrees-put out.Pindirs v c m h = itself m
-agrees-put out.Pc v c m h = itself m
-agrees-put out.Isr v c m h = absurd (true≢false h)
-agrees-put out.Exec v c m h = itself m
-
-agrees-out : (destination : OutDestination) (count : ℕ) (m : Machine1) → goes_to_isr destination ≡ false → Agrees m (try_out destination count m).machine
-unfolding try_out
-agrees-out destination count m h = go (out_stalls m)
-  where
-    n : ℕ
-    n = min count 32
-
-    go : (b : Bool) → Agrees m (cond b (stalled (starved m.tx m)) (out_done destination n m)).machine
-    go true = agrees-starved m.tx m
-    go false = and_then (agrees m (shifted_out n m) refl refl refl refl) (and_then (agrees-put destination (out_value n m) n (shifted_out n m) h) (agrees-refilled (with_out destination (out_value n m) n (shifted_out n m))))
-
-agrees-pulled : (words : List ℕ) (block : Bool) (m : Machine1) → Agrees m (pulled_from words block m).machine
-agrees-pulled [] true m = agrees m _ refl refl refl refl
-agrees-pulled [] false m = agrees m _ refl refl refl refl
-agrees-pulled (word ∷ rest) block m = agrees-loaded m.tx m
-
-agrees-pull : (if_empty block : Bool) (m : Machine1) → Agrees m (try_pull if_empty block m).machine
-unfolding try_pull
-agrees-pull if_empty block m = go (is_pull_void if_empty m)
-  where
-    go : (b : Bool) → Agrees m (cond b (completed m) (pulled_from m.tx block m)).machine
-    go true = itself m
-    go false = agrees-pulled m.tx block m
-
-agrees-mov : (destination : MovDestination) (value : ℕ) (m : Machine1) → moves_to_isr destination ≡ false → Agrees m (with_moved destination value m)
-agrees-mov moved.Pins v m h = itself m
-agrees-mov moved.X v m h = agrees m _ refl refl refl refl
-agrees-mov moved.Y v m h = agrees m _ refl refl refl refl
-agrees-mov moved.Exec v m h = itself m
-agrees-mov moved.Pc v m h = itself m
-agrees-mov moved.Isr v m h = absurd (true≢false h)
-agrees-mov moved.Osr v m h = agrees m _ refl refl refl refl
-
-agrees-set : (destination : SetDestination) (value : ℕ) (m : Machine1) → Agrees m (after_set destination value m)
-agrees-set set.Pins v m = itself m
-agrees-set set.X v m = agrees m _ refl refl refl refl
-agrees-set set.Y v m = agrees m _ refl refl refl refl
-agrees-set set.Pindirs v m = itself m
-
 moves-op : (op : PioOp) (number : ℕ) (seen : Seen) (m : Machine1) → loses op m ≡ false → Moves m (tried op number seen m).machine (taken_by op seen m) (pushed_by op seen m)
-moves-op (Jmp condition address) number seen m h = rests m _ (agrees-jmp condition m)
+moves-op (Jmp condition address) number seen m h = rests m _ (change.jmp holds condition m)
 moves-op (Wait polarity source) number seen m h = rests m m (itself m)
 moves-op (In source count) number seen m h = moves-in source count seen m h
-moves-op (Out destination count) number seen m h = rests m _ (agrees-out destination count m h)
+moves-op (Out destination count) number seen m h = rests m _
+    (change.out_ holds osr load destination (λ e. absurd (true≢false (sym (ap goes_to_isr e) ∙ h))) count m)
 moves-op (Push if_full block) number seen m h = moves-push if_full block seen m h
-moves-op (Pull if_empty block) number seen m h = rests m _ (agrees-pull if_empty block m)
-moves-op (Mov destination operation source) number seen m h = rests m _ (agrees-mov destination (mov_value operation source seen m) m h)
-moves-op (Irq clear wait index) number seen m h =
-    rests m _ (either (waits_for_clear clear wait (flag_of index number) seen m) m _ _ (keeps m.waiting _ m) (itself m))
-moves-op (Set destination value) number seen m h = rests m _ (agrees-set destination value m)
+moves-op (Pull if_empty block) number seen m h = rests m _ (change.pull holds osr load if_empty block m)
+moves-op (Mov destination operation source) number seen m h = rests m _
+    (change.mov holds destination (λ e. absurd (true≢false (sym (ap moves_to_isr e) ∙ h))) (λ e. osr)
+    (mov_value operation source seen m) m)
+moves-op (Irq clear wait index) number seen m h = rests m _ (change.irq holds clear wait (flag_of index number) seen m)
+moves-op (Set destination value) number seen m h = rests m _ (change.set_ holds destination value m)
 moves-op Reserved number seen m h = rests m m (itself m)
 
 -- ---- a cycle
-
-agrees-past : (w : Option Waiting) (m : Machine1) → Agrees m (stepped_past w m)
-agrees-past None m = agrees m _ refl refl refl refl
-agrees-past (Some w) m = agrees m _ refl refl refl refl
-
-agrees-end : (delay : ℕ) (e : Ending) (m : Machine1) → Agrees m (ended delay e m)
-unfolding ended
-agrees-end delay Stalled m = itself m
-agrees-end delay Completed m = and_then (agrees-past m.waiting m) (agrees (stepped m) _ refl refl refl refl)
-agrees-end delay (Jumped address) m = agrees m _ refl refl refl refl
-agrees-end delay (Executes word) m = and_then (agrees-past m.waiting m) (agrees (stepped m) _ refl refl refl refl)
 
 moves-try-of : (word : ℕ) (op : PioOp) (number : ℕ) (seen : Seen) (m : Machine1) → loses op m ≡ false
     → Moves m (after_op word op number seen m) (taken_by op seen m) (pushed_by op seen m)
 moves-try-of word op number seen m h =
     let t = (tried op number seen m).machine in
     then_rest m t _ (taken_by op seen m) (pushed_by op seen m) (moves-op op number seen m h)
-    (and_then (either (loads_osr op) t _ _ (itself t) (agrees-refilled t)) (agrees-end _ (tried op number seen m).ending (worked op number seen m)))
+    (and_then (cond_both (loads_osr op) t (refilled t) (Agrees t) (λ e. itself t) (λ e. refill Agrees itself load t))
+    (change.end holds _ (tried op number seen m).ending (worked op number seen m)))
 
 moves-try : (word number : ℕ) (seen : Seen) (m : Machine1) → loses (operation_of word) m ≡ false
     → Moves m (after_try word number seen m) (taken_by (operation_of word) seen m) (pushed_by (operation_of word) seen m)
@@ -374,7 +255,9 @@ unfolding after_try
 moves-try word number seen m h = moves-try-of word (operation_of word) number seen m h
 
 agrees-passed : (ticked : Bool) (m : Machine1) → Agrees m (passed ticked m)
-agrees-passed true m = and_then (agrees m (record m { delay = m.delay - 1 }) refl refl refl refl) (agrees-refilled (record m { delay = m.delay - 1 }))
+agrees-passed true m =
+    and_then (agrees m (record m { delay = m.delay - 1 }) refl refl refl refl)
+    (refill Agrees itself load (record m { delay = m.delay - 1 }))
 agrees-passed false m = itself m
 
 moves-word : (word : Option ℕ) (ticked : Bool) (number : ℕ) (seen : Seen) (m : Machine1) → word_loses word m ≡ false
@@ -398,12 +281,6 @@ flat_pushed : (m : Machine1) (ps qs : List Pushed) → flat_map (bits_pushed m) 
 flat_pushed m [] qs = refl
 flat_pushed m (p ∷ ps) qs =
     ap (λ bs. bits_pushed m p ++ bs) (flat_pushed m ps qs) ∙ sym (append_assoc (bits_pushed m p) (flat_map (bits_pushed m) ps) (flat_map (bits_pushed m) qs))
-
--- in pieces: what comes out now and later, what is left at the end, what goes in now and later
-in_turn : {A : Type 0} (now later end mid before ins more : List A) → later ++ end ≡ mid ++ more → now ++ mid ≡ before ++ ins
-    → (now ++ later) ++ end ≡ before ++ (ins ++ more)
-in_turn now later end mid before ins more h k =
-    append_assoc now later end ∙ ap (λ bs. now ++ bs) h ∙ sym (append_assoc now mid more) ∙ ap (λ bs. bs ++ more) k ∙ append_assoc before ins more
 
 pub the_bits_in_are_those_pushed : TheBitsInAreThosePushed
 the_bits_in_are_those_pushed number m [] word drained = record {
