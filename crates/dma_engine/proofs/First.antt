@@ -1,5 +1,5 @@
 -- What is found first in turn has its turn before all others that pass.
-use Rattle.std.proofs.Common.{◌≡◌, ℕ, zero, suc, ◌+◌, ◌-◌, ◌%◌, ◌<◌, ◌≤◌, ◌⊎◌, inl, inr, Bool, true, false, cond, refl, ap, sym, subst, ◌∙◌, arith, Option, Some, None}
+use Rattle.std.proofs.Common.{◌≡◌, ℕ, zero, suc, ◌+◌, ◌-◌, ◌%◌, ◌<◌, ◌≤◌, ◌⊎◌, inl, inr, Bool, true, false, cond, refl, ap, sym, subst, ◌∙◌, arith, true≢false, Option, Some, None}
 use Rattle.dma_engine.specs.State.{State}
 use Rattle.dma_engine.specs.Choice.{is_candidate, first_in_turn, next_candidate, or_else, choice_of}
 use Rattle.dma_engine.specs.Laws.{turns_before, IsFirst, IsChoice, TheChoiceComesFirst}
@@ -81,11 +81,7 @@ none_at_all : (test : ℕ → Bool) (last : ℕ) → ((j : ℕ) → j < 12 → t
 none_at_all test last h m low =
     subst (λ k. test k ≡ false) (turn_of last m low) (h (turns_before last m) (turns_below last m))
 
-pub contrary : {A : Type 0} (b : Bool) → b ≡ true → b ≡ false → A
-contrary true h i = absurd (cc)
-contrary false h i = absurd (cc)
-
-pub below_or_not : (a b : ℕ) → (a ≤ b) ⊎ (b < a)
+below_or_not : (a b : ℕ) → (a ≤ b) ⊎ (b < a)
 below_or_not a b = grind arith
 
 none_before : (test : ℕ → Bool) (last n m : ℕ) → PassesAt test (last + 1) 12 n → m < 12 → test m ≡ true →
@@ -95,8 +91,8 @@ none_before test last n m h low e =
     elim (below_or_not (turns_before last n) (turns_before last m)) [
       | inl fine ↦ fine
       | inr below ↦
-          contrary (test m) e
-          (subst (λ k. test k ≡ false) (turn_of last m low) (h.before (turns_before last m) (omega arith)))
+          absurd (true≢false (sym e
+          ∙ subst (λ k. test k ≡ false) (turn_of last m low) (h.before (turns_before last m) (omega arith))))
     ]
 
 first_is : (high : Bool) (counts : ℕ) (s : State) (n : ℕ) → PassesAt (is_candidate high counts s) (s.last_chosen + 1) 12 n →
