@@ -158,9 +158,7 @@ record LastsAs (s : State) : Type 0 where
 
 lasts_by : (w : Option Work) (s : State) → s.asleep ≡ false → s.work ≡ w → is_lasting w s ≡ true → LastsAs s
 lasts_by (Some (works.Instruction o)) s awake at h = record { o = o; lasts = record { awake = awake; waits = at; paused = h } }
-lasts_by (Some (works.Entry n)) s awake at h = absurd (true≢false (sym h))
-lasts_by (Some (works.Return value)) s awake at h = absurd (true≢false (sym h))
-lasts_by None s awake at h = absurd (true≢false (sym h))
+lasts_by _ s awake at h = absurd (true≢false (sym h))
 
 pub quiet_while : (s : State) (lines first n : ℕ) → lines < 2 ^ 32 → s.asleep ≡ false → is_lasting s.work s ≡ true → nvic.IsQuiet lines s.nvic first n → IsQuiet lines s first n
 quiet_while s lines first n fits awake h q =
