@@ -29,6 +29,7 @@ impl PacingTimer {
     }
 
     /// The timer after so many cycles, in which it gives no credit.
+    #[tactic(auto, using(crate::proofs::Lasting::reckons))]
     fn passed_by(&self, n: u64) -> PacingTimer
         requires { (k : ℕ) → k < n → gives (timer_after k self.now) ≡ false }
         ensures { result ≡ timer_after n self.now }
