@@ -5,7 +5,8 @@ use Rattle.std.proofs.lemmas.List.{get_or-map, map-set}
 use Rattle.pio_words.specs.declared.op.PioOp.{PioOp}
 use Rattle.pio_words.specs.Operation.{operation_of}
 
-pub operation_at : (operations : List PioOp) (words : List ℕ) (i : ℕ) (d : PioOp) → operations ≡ map operation_of words → i < length words
+pub operation_at : (operations : List PioOp) (words : List ℕ) (i : ℕ) (d : PioOp) → operations ≡ map operation_of words
+    → i < length words
     → slice_index_or operations i d ≡ operation_of (slice_index words i)
 operation_at operations words i d beside low = rw beside (get_or-map operation_of words i 0 d low)
 

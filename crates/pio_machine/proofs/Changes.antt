@@ -26,7 +26,8 @@ use Rattle.pio_machine.specs.Output.{shifted_out, with_out, out_stalls, starved,
 use Rattle.pio_machine.specs.Move.{with_moved}
 use Rattle.pio_machine.specs.Operation.{stepped_past, stepped, ended}
 
--- it holds where neither the registers, the divider, the shift registers nor the FIFOs change, and of two changes where it holds of each
+-- it holds where neither the registers, the divider, the shift registers nor the FIFOs change,
+-- and of two changes where it holds of each
 pub record Holds (R : Machine1 → Machine1 → Type 0) : Type 0 where
   pub none : (m : Machine1) → R m m
   pub beside : (m : Machine1) (x y pc delay : ℕ) (w : Option Waiting) (p : Progress) (t r : Bool)
@@ -41,7 +42,8 @@ abbrev pub OfOsr : (Machine1 → Machine1 → Type 0) → Type 0
 OfOsr R = (m : Machine1) (osr count : ℕ) → R m (record m { osr = osr; osr_count = count })
 
 abbrev pub OfLoad : (Machine1 → Machine1 → Type 0) → Type 0
-OfLoad R = (m : Machine1) (word : ℕ) (rest : List ℕ) → m.tx ≡ word ∷ rest → R m (record m { osr = word; osr_count = 0; tx = rest })
+OfLoad R =
+    (m : Machine1) (word : ℕ) (rest : List ℕ) → m.tx ≡ word ∷ rest → R m (record m { osr = word; osr_count = 0; tx = rest })
 
 abbrev pub OfPush : (Machine1 → Machine1 → Type 0) → Type 0
 OfPush R = (m : Machine1) → is_rx_full m ≡ false → R m (pushed m)
@@ -81,19 +83,23 @@ shift h isr true v c m = h.none m
 shift h isr false v c m = isr m _ _
 
 autopush : {R : Machine1 → Machine1 → Type 0} → Holds R → OfPush R → (pushes full : Bool) (m : Machine1) → is_rx_full m ≡ full
-    → R m (if pushes then (if full then stalled (with_rx_stall (with_shifted m)) else completed (pushed m)) else completed m).machine
+    → R m (if pushes then (if full then stalled (with_rx_stall (with_shifted m)) else completed (pushed m))
+    else completed m).machine
 autopush h push true true m e = h.both (keep h m.waiting _ m) (h.beside _ _ _ _ _ _ _ _ _)
 autopush h push true false m e = push m e
 autopush h push false full m e = h.none m
 
-pub in_ : {R : Machine1 → Machine1 → Type 0} → Holds R → OfIsr R → OfPush R → (source : InSource) (count : ℕ) (seen : Seen) (m : Machine1)
+pub in_ : {R : Machine1 → Machine1 → Type 0} → Holds R → OfIsr R → OfPush R
+    → (source : InSource) (count : ℕ) (seen : Seen) (m : Machine1)
     → R m (try_in source count seen m).machine
 unfolding try_in
 in_ h isr push source count seen m =
     h.both (shift h isr (progress_of m).shifted _ _ m) (autopush h push _ _ (shifted_once source count seen m) refl)
 
-push_now : {R : Machine1 → Machine1 → Type 0} → Holds R → OfIsr R → OfPush R → (full block : Bool) (m : Machine1) → is_rx_full m ≡ full
-    → R m (if full then (if block then stalled (with_rx_stall m) else completed (with_isr_cleared (with_rx_stall m))) else completed (pushed m)).machine
+push_now : {R : Machine1 → Machine1 → Type 0} → Holds R → OfIsr R → OfPush R
+    → (full block : Bool) (m : Machine1) → is_rx_full m ≡ full
+    → R m (if full then (if block then stalled (with_rx_stall m) else completed (with_isr_cleared (with_rx_stall m)))
+    else completed (pushed m)).machine
 push_now h isr push true true m e = h.beside m _ _ _ _ _ _ _ _
 push_now h isr push true false m e = h.both (h.beside m _ _ _ _ _ _ _ _) (isr (with_rx_stall m) _ _)
 push_now h isr push false block m e = push m e
@@ -116,11 +122,13 @@ put h out.Y isr v c m = h.beside m _ _ _ _ _ _ _ _
 put h out.Isr isr v c m = isr refl m _ _
 put h _ isr v c m = h.none m
 
-pub out_ : {R : Machine1 → Machine1 → Type 0} → Holds R → OfOsr R → OfLoad R → (destination : OutDestination) → (destination ≡ out.Isr → OfIsr R)
+pub out_ : {R : Machine1 → Machine1 → Type 0} → Holds R → OfOsr R → OfLoad R
+    → (destination : OutDestination) → (destination ≡ out.Isr → OfIsr R)
     → (count : ℕ) (m : Machine1) → R m (try_out destination count m).machine
 unfolding try_out
 out_ {R} h osr loads destination isr count m =
-    cond_both (out_stalls m) (stalled (starved m.tx m)) (out_done destination _ m) (λ t. R m t.machine) (λ e. starve h loads m.tx m)
+    cond_both (out_stalls m) (stalled (starved m.tx m)) (out_done destination _ m) (λ t. R m t.machine)
+    (λ e. starve h loads m.tx m)
     (λ e. h.both (osr m _ _) (h.both (put h destination isr _ _ (shifted_out _ m)) (refill R h.none loads _)))
 
 pull_from : {R : Machine1 → Machine1 → Type 0} → Holds R → OfOsr R → OfLoad R → (words : List ℕ) (block : Bool) (m : Machine1)
@@ -144,7 +152,8 @@ mov h moved.Isr isr osr v m = isr refl m _ _
 mov h moved.Osr isr osr v m = osr refl m _ _
 mov h _ isr osr v m = h.none m
 
-pub set_ : {R : Machine1 → Machine1 → Type 0} → Holds R → (destination : SetDestination) (value : ℕ) (m : Machine1) → R m (after_set destination value m)
+pub set_ : {R : Machine1 → Machine1 → Type 0} → Holds R
+    → (destination : SetDestination) (value : ℕ) (m : Machine1) → R m (after_set destination value m)
 set_ h set.X v m = h.beside m _ _ _ _ _ _ _ _
 set_ h set.Y v m = h.beside m _ _ _ _ _ _ _ _
 set_ h _ v m = h.none m
