@@ -87,10 +87,10 @@ uart_later line u first n k m q le = record {
   words = λ j lj offset. later (uart_cycle line) (uart_word offset) first n u (λ i li. q.words i li offset) k j (omega arith);
 }
 
-pub quiet_later : (line0 line1 : Bool) (b : Blocks) (first n k m : ℕ) → AreBlocksQuiet line0 line1 b first n → k + m ≤ n →
-    AreBlocksQuiet line0 line1 (blocks_after line0 line1 first k b) (first + k) m
-quiet_later line0 line1 b first n k m q le = record {
+pub quiet_later : (line0 line1 : Bool) (b : Blocks) (first n k m cycle : ℕ) → AreBlocksQuiet line0 line1 b first n → k + m ≤ n →
+    cycle ≡ first + k → AreBlocksQuiet line0 line1 (blocks_after line0 line1 first k b) cycle m
+quiet_later line0 line1 b first n k m cycle q le at = rw at (record {
   timer = timer_later b.timer first n k m q.timer le;
   uart0 = uart_later line0 b.uart0 first n k m q.uart0 le;
   uart1 = uart_later line1 b.uart1 first n k m q.uart1 le;
-}
+})

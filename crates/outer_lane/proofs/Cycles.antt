@@ -1,9 +1,10 @@
 -- The peripherals over many cycles: each part goes its own way as long as the pads stay.
 use Rattle.std.proofs.Common.{◌≡◌, ℕ, zero, suc, ◌+◌, ◌-◌, ◌^◌, ◌<◌, ◌≤◌, ◌==◌, Bool, true, false, List, [], ◌∷◌, ◌++◌, length, Option, None, refl, sym, ap, subst, ◌∙◌, arith}
+use Rattle.std.specs.Prelude.{◌≢◌}
 use Rattle.std.proofs.lemmas.Bool.Decides.{nat_tests}
 use Rattle.std.specs.List.{filter}
 use Rattle.rp_base.specs.declared.resettable.Resettable.{Resettable}
-use Rattle.rp_base.specs.Held.{unless_held}
+use Rattle.rp_base.specs.Held.{unless_held, stays_if}
 use Rattle.rp_base.specs.Resettable.{unless_held_becomes}
 use Rattle.io_bank.specs.declared.outputs.Outs.{Outs}
 use Rattle.io_bank.specs.State.{State as Bank}
@@ -14,13 +15,13 @@ use Rattle.lane_look.specs.declared.device.Wires.{Wires}
 use Rattle.lane_look.specs.Device.{DeviceMeaning, no_wires}
 use Rattle.lane_look.specs.Quiet.{IsDeviceQuiet, device_after}
 use Rattle.lane_look.specs.Times.{times}
-use Rattle.lane_look.proofs.Times.{times_rest, times_none}
+use Rattle.lane_look.proofs.Times.{times_rest, times_none, times_closed}
 use Rattle.pin_script.specs.declared.entry.Entry.{Entry}
 use Rattle.pin_script.specs.declared.script.Drives.{Drives}
 use Rattle.pin_script.specs.Levels.{is_due, level_after, drive_of, drive_at}
 use Rattle.pin_script.specs.Reading.{cycle_at, IsDueBefore}
 use Rattle.pin_script.specs.Script.{IsScript}
-use Rattle.pin_script.proofs.Due.{due_are_first}
+use Rattle.pin_script.proofs.Due.{due_are_first, cycle_at-get_or}
 use Rattle.rp_timer.specs.State.{State as TimerState, lines_of}
 use Rattle.rp_timer.specs.Step as timer
 use Rattle.rp_timer.specs.Quiet as timer_quiet
@@ -29,11 +30,12 @@ use Rattle.rp_uart.specs.Step.{output_of, pacing_of}
 use Rattle.rp_uart.specs.Step as uart
 use Rattle.rp_uart.specs.Quiet as uart_quiet
 use Rattle.rp_uart.specs.Interrupts.{is_line_high}
+use Rattle.rp_uart.specs.Words.{word_of}
 use Rattle.outer_lane.specs.declared.world.SeenOutputs.{SeenOutputs}
 use Rattle.outer_lane.specs.Lines.{outer_lines, outer_pacing}
 use Rattle.outer_lane.specs.Setting.{Setting}
 use Rattle.outer_lane.specs.State.{State}
-use Rattle.outer_lane.specs.Step.{either, outs_of, outside_of, levels_by, pads_by, next_by, next, marked_by, marked, timer_after, uart_after, byte_of, wires_by, words_by, wires_of}
+use Rattle.outer_lane.specs.Step.{either, outs_of, outside_of, levels_by, pads_by, next_by, next, marked_by, marked, timer_after, byte_of, wires_by, words_by, wires_of}
 use Rattle.outer_lane.specs.BroughtUp.{blocks_of, blocks_passed, AreBlocksQuiet}
 use Rattle.outer_lane.specs.Rest.{pads_driven}
 use Rattle.outer_lane.specs.Quiet.{seen_in, outer_step, outer_after, held_blocks, quiet_mark, IsQuiet, uart_cycle, uart_word, words_cycle, words_after, IsSettled, IsTimerQuiet, IsUartQuiet, AreWordsQuiet, IsScriptQuiet}
@@ -49,83 +51,61 @@ none_go : {T : Type 0} (held : Bool) (block : T) → record { block = block; hel
 none_go true block = refl
 none_go false block = refl
 
+-- what stays of a block that is held, and as it goes of any other one
+kept_by : {T A : Type 0} (f : T → A) (held : Bool) (x y : T) → (held ≡ false → f y ≡ f x) → f (stays_if held x y) ≡ f x
+kept_by f true x y q = refl
+kept_by f false x y q = q refl
+
 -- ---- the timer
 
-pub timer_cycles : (t : Resettable TimerState) (cycle k : ℕ) → times timer_after cycle k t ≡ unless_held_becomes t (timer.after_cycles cycle k t.block)
-unfolding times
-timer_cycles t cycle zero = none_go t.held t.block
-timer_cycles t cycle (suc k) =
-    ap (timer_after (cycle + k)) (timer_cycles t cycle k)
-    ∙ go t.held t.block (timer.after_cycles cycle k t.block) (timer.after_step (cycle + k))
+pub timer_cycles : (t : Resettable TimerState) (cycle k : ℕ) →
+    times timer_after cycle k t ≡ unless_held_becomes t (timer.after_cycles cycle k t.block)
+timer_cycles t cycle k =
+    times_closed timer_after cycle t k (λ n. unless_held_becomes t (timer.after_cycles cycle n t.block))
+    (sym (none_go t.held t.block))
+    (λ n lt. go t.held t.block (timer.after_cycles cycle n t.block) (timer.after_step (cycle + n))) k (omega arith)
 
-pub held_timer : (t : Resettable TimerState) (cycle k : ℕ) → t.held ≡ true → times timer_after cycle k t ≡ t
-held_timer t cycle k e = timer_cycles t cycle k ∙ rw e refl
-
-pub let_go_timer : (t : Resettable TimerState) (cycle k : ℕ) → t.held ≡ false → times timer_after cycle k t ≡ record t { block = timer.after_cycles cycle k t.block }
-let_go_timer t cycle k e = timer_cycles t cycle k ∙ rw e refl
-
-pub runs_timer : (t : Resettable TimerState) (cycle k : ℕ) (block : TimerState) → t.held ≡ false → block ≡ timer.after_cycles cycle k t.block → record { block = block; held = t.held } ≡ times timer_after cycle k t
-runs_timer t cycle k block e f = rw f (sym (let_go_timer t cycle k e))
-
-pub timer_held : (t : Resettable TimerState) (cycle n : ℕ) → t.held ≡ true → IsTimerQuiet t cycle n
-timer_held t cycle n e = record {
-  lines = λ k le. ap (λ (x : Resettable TimerState). lines_of x.block) (held_timer t cycle k e);
-  held = λ k le. ap (λ (x : Resettable TimerState). x.held) (held_timer t cycle k e);
-}
-
-pub timer_runs : (t : Resettable TimerState) (cycle n : ℕ) → t.held ≡ false → timer_quiet.IsQuiet t.block cycle n → IsTimerQuiet t cycle n
-timer_runs t cycle n e q = record {
-  lines = λ k le. ap (λ (x : Resettable TimerState). lines_of x.block) (let_go_timer t cycle k e) ∙ q.lines k le;
-  held = λ k le. ap (λ (x : Resettable TimerState). x.held) (let_go_timer t cycle k e);
+pub timer_stays : (t : Resettable TimerState) (cycle n : ℕ) → (t.held ≡ false → timer_quiet.IsQuiet t.block cycle n) →
+    IsTimerQuiet t cycle n
+timer_stays t cycle n q = record {
+  lines = λ k le.
+      ap (λ (x : Resettable TimerState). lines_of x.block) (timer_cycles t cycle k)
+      ∙ kept_by lines_of t.held t.block _ (λ e. (q e).lines k le);
+  held = λ k le. ap (λ (x : Resettable TimerState). x.held) (timer_cycles t cycle k);
 }
 
 -- ---- a UART
 
-uart_cycles : (line : Bool) (u : Resettable SerialPort) (cycle k : ℕ) → times (uart_cycle line) cycle k u ≡ unless_held_becomes u (uart_quiet.after_cycles line k u.block)
-unfolding times
-uart_cycles line u cycle zero = none_go u.held u.block
-uart_cycles line u cycle (suc k) =
-    ap (uart_after line) (uart_cycles line u cycle k)
-    ∙ go u.held u.block (uart_quiet.after_cycles line k u.block) (uart.after_step line)
+pub uart_cycles : (line : Bool) (u : Resettable SerialPort) (cycle k : ℕ) →
+    times (uart_cycle line) cycle k u ≡ unless_held_becomes u (uart_quiet.after_cycles line k u.block)
+uart_cycles line u cycle k =
+    times_closed (uart_cycle line) cycle u k (λ n. unless_held_becomes u (uart_quiet.after_cycles line n u.block))
+    (sym (none_go u.held u.block))
+    (λ n lt. go u.held u.block (uart_quiet.after_cycles line n u.block) (uart.after_step line)) k (omega arith)
 
-pub held_uart : (line : Bool) (u : Resettable SerialPort) (cycle k : ℕ) → u.held ≡ true → times (uart_cycle line) cycle k u ≡ u
-held_uart line u cycle k e = uart_cycles line u cycle k ∙ rw e refl
+uart_keeps : {A : Type 0} (f : SerialPort → A) (line : Bool) (u : Resettable SerialPort) (cycle k : ℕ) →
+    (u.held ≡ false → f (uart_quiet.after_cycles line k u.block) ≡ f u.block) →
+    f (times (uart_cycle line) cycle k u).block ≡ f u.block
+uart_keeps f line u cycle k q =
+    ap (λ (x : Resettable SerialPort). f x.block) (uart_cycles line u cycle k) ∙ kept_by f u.held u.block _ q
 
-let_go_uart : (line : Bool) (u : Resettable SerialPort) (cycle k : ℕ) → u.held ≡ false → times (uart_cycle line) cycle k u ≡ record u { block = uart_quiet.after_cycles line k u.block }
-let_go_uart line u cycle k e = uart_cycles line u cycle k ∙ rw e refl
+no_byte : (held : Bool) (x y : SerialPort) → (held ≡ false → uart.sent_byte y ≡ None) →
+    byte_of (record { block = stays_if held x y; held = held }) ≡ None
+no_byte true x y q = refl
+no_byte false x y q = q refl
 
-pub runs_uart : (line : Bool) (u : Resettable SerialPort) (cycle k : ℕ) (block : SerialPort) → u.held ≡ false → block ≡ uart_quiet.after_cycles line k u.block → record { block = block; held = u.held } ≡ times (uart_cycle line) cycle k u
-runs_uart line u cycle k block e f = rw f (sym (let_go_uart line u cycle k e))
-
-byte_held : (u : Resettable SerialPort) → u.held ≡ true → byte_of u ≡ None
-byte_held u e = rw e refl
-
-byte_let_go : (u : Resettable SerialPort) → u.held ≡ false → byte_of u ≡ uart.sent_byte u.block
-byte_let_go u e = rw e refl
-
-pub uart_held : (line : Bool) (u : Resettable SerialPort) (cycle n : ℕ) → u.held ≡ true → IsUartQuiet line u cycle n
-uart_held line u cycle n e =
-    let at : (k : ℕ) → times (uart_cycle line) cycle k u ≡ u = λ k. held_uart line u cycle k e in
-    record {
-      silent = λ k lt. ap byte_of (at k) ∙ byte_held u e;
-      output = λ k le. ap (λ (x : Resettable SerialPort). output_of x.block) (at k);
-      interrupt = λ k le. ap (λ (x : Resettable SerialPort). is_line_high x.block) (at k);
-      pacing = λ k le. ap (λ (x : Resettable SerialPort). pacing_of x.block) (at k);
-      held = λ k le. ap (λ (x : Resettable SerialPort). x.held) (at k);
-      words = λ k le offset. ap (uart_word offset) (at k);
-    }
-
-pub uart_runs : (line : Bool) (u : Resettable SerialPort) (cycle n : ℕ) → u.held ≡ false → uart_quiet.IsQuiet line u.block n → IsUartQuiet line u cycle n
-uart_runs line u cycle n e q =
-    let at : (k : ℕ) → times (uart_cycle line) cycle k u ≡ record u { block = uart_quiet.after_cycles line k u.block } = λ k. let_go_uart line u cycle k e in
-    record {
-      silent = λ k lt. ap byte_of (at k) ∙ byte_let_go (record u { block = uart_quiet.after_cycles line k u.block }) e ∙ q.silent k lt;
-      output = λ k le. ap (λ (x : Resettable SerialPort). output_of x.block) (at k) ∙ q.output k le;
-      interrupt = λ k le. ap (λ (x : Resettable SerialPort). is_line_high x.block) (at k) ∙ q.lines k le;
-      pacing = λ k le. ap (λ (x : Resettable SerialPort). pacing_of x.block) (at k) ∙ q.pacing k le;
-      held = λ k le. ap (λ (x : Resettable SerialPort). x.held) (at k);
-      words = λ k le offset. ap (uart_word offset) (at k) ∙ ap (unless_held u.held) (q.words k le offset);
-    }
+pub uart_stays : (line : Bool) (u : Resettable SerialPort) (cycle n : ℕ) → (u.held ≡ false → uart_quiet.IsQuiet line u.block n) →
+    IsUartQuiet line u cycle n
+uart_stays line u cycle n q = record {
+  silent = λ k lt. ap byte_of (uart_cycles line u cycle k) ∙ no_byte u.held u.block _ (λ e. (q e).silent k lt);
+  output = λ k le. uart_keeps output_of line u cycle k (λ e. (q e).output k le);
+  interrupt = λ k le. uart_keeps is_line_high line u cycle k (λ e. (q e).lines k le);
+  pacing = λ k le. uart_keeps pacing_of line u cycle k (λ e. (q e).pacing k le);
+  held = λ k le. ap (λ (x : Resettable SerialPort). x.held) (uart_cycles line u cycle k);
+  words = λ k le offset.
+      ap (uart_word offset) (uart_cycles line u cycle k)
+      ∙ ap (unless_held u.held) (kept_by (word_of offset) u.held u.block _ (λ e. (q e).words k le offset));
+}
 
 -- ---- the device
 
@@ -138,26 +118,24 @@ unfolding wires_by
 wires_go d words c levels e = let t : (length words == d.count) ≡ true = grind (arith, nat_tests) in rw t refl
 
 -- as long as the number of words stays, the words are the device's own
-pub words_fit : (d : DeviceMeaning) (words : List ℕ) (cycle levels n : ℕ) → ((k : ℕ) → k ≤ n → length (device_after d levels cycle k words) ≡ d.count) → (k : ℕ) → k ≤ n → times (words_cycle d levels) cycle k words ≡ device_after d levels cycle k words
+abbrev IsOwn : DeviceMeaning → List ℕ → ℕ → ℕ → ℕ → Type 0
+IsOwn d words cycle levels k = times (words_cycle d levels) cycle k words ≡ device_after d levels cycle k words
+
+words_fit : (d : DeviceMeaning) (words : List ℕ) (cycle levels n : ℕ) →
+    ((k : ℕ) → k ≤ n → IsOwn d words cycle levels k → length (device_after d levels cycle k words) ≡ d.count) →
+    (k : ℕ) → k ≤ n → IsOwn d words cycle levels k
 unfolding times
 words_fit d words cycle levels n fits zero le = refl
 words_fit d words cycle levels n fits (suc k) le =
-    ap (words_cycle d levels (cycle + k)) (words_fit d words cycle levels n fits k (omega arith))
-    ∙ fits_go d (device_after d levels cycle k words) (cycle + k) levels (fits k (omega arith))
-
--- the same by the number of words after each cycle of the whole
-pub words_kept : (d : DeviceMeaning) (words : List ℕ) (cycle levels n : ℕ) → length words ≡ d.count → ((k : ℕ) → k ≤ n → length (times (words_cycle d levels) cycle k words) ≡ length words) → (k : ℕ) → k ≤ n → times (words_cycle d levels) cycle k words ≡ device_after d levels cycle k words
-unfolding times
-words_kept d words cycle levels n fits kept zero le = refl
-words_kept d words cycle levels n fits kept (suc k) le =
-    let here = words_kept d words cycle levels n fits kept k (omega arith) in
-    let count : length (device_after d levels cycle k words) ≡ d.count = sym (ap length here) ∙ kept k (omega arith) ∙ fits in
+    let here = words_fit d words cycle levels n fits k (omega arith) in
     ap (words_cycle d levels (cycle + k)) here
-    ∙ fits_go d (device_after d levels cycle k words) (cycle + k) levels count
+    ∙ fits_go d (device_after d levels cycle k words) (cycle + k) levels (fits k (omega arith) here)
 
-words_quiet : (d : DeviceMeaning) (words : List ℕ) (cycle levels n : ℕ) → length words ≡ d.count → IsDeviceQuiet d words cycle levels n → AreWordsQuiet d words cycle levels n
-words_quiet d words cycle levels n fits q =
-    let at : (k : ℕ) → k ≤ n → times (words_cycle d levels) cycle k words ≡ device_after d levels cycle k words = words_fit d words cycle levels n q.words in
+pub words_fitting : (d : DeviceMeaning) (words slice : List ℕ) (cycle levels n : ℕ) → length words ≡ d.count → slice ≡ words →
+    IsDeviceQuiet d slice cycle levels n → AreWordsQuiet d words cycle levels n
+words_fitting d words slice cycle levels n fits e of_slice =
+    let q : IsDeviceQuiet d words cycle levels n = rw e at of_slice in
+    let at = words_fit d words cycle levels n (λ k le here. q.words k le) in
     record {
       drives = λ k lt.
           ap (λ (x : List ℕ). wires_by d x (cycle + k) levels) (at k (omega arith))
@@ -165,10 +143,6 @@ words_quiet d words cycle levels n fits q =
           ∙ q.drives k lt ∙ sym (wires_go d words cycle levels fits);
       count = λ k le. ap length (at k le) ∙ q.words k le ∙ sym fits;
     }
-
-pub words_fitting : (d : DeviceMeaning) (words slice : List ℕ) (cycle levels n : ℕ) → (length words == d.count) ≡ true → slice ≡ words → IsDeviceQuiet d slice cycle levels n → AreWordsQuiet d words cycle levels n
-words_fitting d words slice cycle levels n fitting e q =
-    words_quiet d words cycle levels n (grind (arith, nat_tests)) (rw e at q)
 
 unfit_go : (d : DeviceMeaning) (words : List ℕ) (c levels : ℕ) → (length words == d.count) ≡ false → words_by d words c levels ≡ words
 unfolding words_by
@@ -178,9 +152,15 @@ unfit_wires : (d : DeviceMeaning) (words : List ℕ) (c levels : ℕ) → (lengt
 unfolding wires_by
 unfit_wires d words c levels e = rw e refl
 
-pub words_unfit : (d : DeviceMeaning) (words : List ℕ) (cycle levels n : ℕ) → (length words == d.count) ≡ false → AreWordsQuiet d words cycle levels n
-words_unfit d words cycle levels n unfit =
-    let at : (k : ℕ) → times (words_cycle d levels) cycle k words ≡ words = λ k. times_rest (words_cycle d levels) cycle k words (λ c. unfit_go d words c levels unfit) in
+words_stay : (d : DeviceMeaning) (words : List ℕ) (cycle levels n : ℕ) → (length words == d.count) ≡ false →
+    times (words_cycle d levels) cycle n words ≡ words
+words_stay d words cycle levels n unfit = times_rest (words_cycle d levels) cycle n words (λ c. unfit_go d words c levels unfit)
+
+pub words_unfit : (d : DeviceMeaning) (words : List ℕ) (cycle levels n : ℕ) → length words ≢ d.count →
+    AreWordsQuiet d words cycle levels n
+words_unfit d words cycle levels n other =
+    let unfit : (length words == d.count) ≡ false = grind (arith, nat_tests) in
+    let at : (k : ℕ) → times (words_cycle d levels) cycle k words ≡ words = λ k. words_stay d words cycle levels k unfit in
     record {
       drives = λ k lt.
           ap (λ (x : List ℕ). wires_by d x (cycle + k) levels) (at k)
@@ -188,20 +168,19 @@ words_unfit d words cycle levels n unfit =
       count = λ k le. ap length (at k);
     }
 
-pub words_stay : (d : DeviceMeaning) (words : List ℕ) (cycle levels n : ℕ) → (length words == d.count) ≡ false → times (words_cycle d levels) cycle n words ≡ words
-words_stay d words cycle levels n unfit = times_rest (words_cycle d levels) cycle n words (λ c. unfit_go d words c levels unfit)
-
 after_go : (b : Bool) (d : DeviceMeaning) (words : List ℕ) (cycle levels n : ℕ) → (length words == d.count) ≡ b → ((k : ℕ) → k ≤ n → length (times (words_cycle d levels) cycle k words) ≡ length words) → words_after d levels cycle n words ≡ times (words_cycle d levels) cycle n words
 unfolding words_after
 after_go true d words cycle levels n e kept =
     let fits : length words ≡ d.count = grind (arith, nat_tests) in
-    rw e (sym (words_kept d words cycle levels n fits kept n (omega arith)))
+    rw e (sym (words_fit d words cycle levels n (λ k le here. sym (ap length here) ∙ kept k le ∙ fits) n (omega arith)))
 after_go false d words cycle levels n e kept = rw e (sym (words_stay d words cycle levels n e))
 
 pub words_after_is : (d : DeviceMeaning) (words : List ℕ) (cycle levels n : ℕ) → ((k : ℕ) → k ≤ n → length (times (words_cycle d levels) cycle k words) ≡ length words) → words_after d levels cycle n words ≡ times (words_cycle d levels) cycle n words
 words_after_is d words cycle levels n kept = after_go (length words == d.count) d words cycle levels n refl kept
 
 -- ---- the script
+
+pub ruleset entry_cycle = (cycle_at-get_or)
 
 pub script_waits : (script : List Entry) (cycle due n : ℕ) → IsScript script → due ≤ length script → IsDueBefore script cycle due → (due < length script → cycle < cycle_at script due) → (due < length script → cycle + n ≤ cycle_at script due) → IsScriptQuiet script cycle n
 script_waits script cycle due n s within before after late k lt =

@@ -1,5 +1,6 @@
 -- A cycle in which the pads stay, and any other one, by what drives the pads from outside.
-use Rattle.std.proofs.Common.{◌≡◌, ◌<◌, ℕ, ◌-◌, ◌^◌, List, [], ◌∷◌, length, Option, refl, sym, ap, ◌∙◌, arith}
+use Rattle.std.proofs.Common.{◌≡◌, ◌<◌, ℕ, ◌-◌, ◌^◌, List, [], ◌∷◌, length, Option, refl, sym, ap, ◌∙◌}
+use Rattle.std.proofs.lemmas.List.{nil_from_length}
 use Rattle.io_bank.specs.declared.outputs.Outs.{Outs}
 use Rattle.io_bank.specs.State.{State as Bank}
 use Rattle.io_bank.specs.Edges.{edges_of}
@@ -20,10 +21,6 @@ use Rattle.outer_lane.proofs.Sets.{levels_same}
 
 -- ---- an empty script
 
-none_in : (script : List Entry) → length script ≡ 0 → script ≡ []
-none_in [] e = refl
-none_in (x ∷ xs) e = absurd (omega arith)
-
 free : (wires : Wires) (cycle pin : ℕ) → by_sets wires.mask wires.level pin ≡ outside_of [] wires cycle pin
 unfolding outside_of drive_at
 free wires cycle pin = refl
@@ -31,7 +28,7 @@ free wires cycle pin = refl
 pub empty_outside : (script : List Entry) (wires : Wires) (cycle : ℕ) → length script ≡ 0 → (pin : ℕ) → pin < 30 →
     by_sets wires.mask wires.level pin ≡ outside_of script wires cycle pin
 empty_outside script wires cycle e pin lt =
-    free wires cycle pin ∙ ap (λ (xs : List Entry). outside_of xs wires cycle pin) (sym (none_in script e))
+    free wires cycle pin ∙ ap (λ (xs : List Entry). outside_of xs wires cycle pin) (sym (nil_from_length script e))
 
 -- ---- the pads stay
 

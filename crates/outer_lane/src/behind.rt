@@ -66,6 +66,7 @@ impl Behind {
 
     /// One cycle, where they are known to be quiet in it; whether they are.
     #[inline(always)]
+    #[tactic(auto, using(crate::proofs::BroughtUp::next_one))]
     pub(crate) fn go_on(&mut self, cycle: u64) -> bool
         ensures after { result ≡ true → self.new ≡ told_step cycle self.old }
         ensures byte0 { result ≡ true → byte_of self.old.blocks.uart0 ≡ None }
@@ -97,7 +98,7 @@ impl Behind {
     }
 
     /// So many cycles from one on. Whether they were known to be quiet in these.
-    #[tactic(auto, unfolding(lane_look::specs::Times::times))]
+    #[tactic(auto, unfolding(lane_look::specs::Times::times), using(crate::proofs::BroughtUp::from_next))]
     pub(crate) fn pass(&mut self, cycle: u64, n: u64) -> bool
         requires { cycle + n < 2 ^ 64 }
         ensures after { self.new ≡ told_after cycle n self.old }

@@ -1,6 +1,6 @@
 //! The timer and both UARTs, which have nothing to do with each other.
 
-ghost use Rattle.std.specs.Prelude.{◌≡◌, ◌+◌, ◌<◌, ◌^◌};
+ghost use Rattle.std.specs.Prelude.{◌≡◌, ◌+◌, ◌<◌, ◌^◌, false};
 ghost use Rattle.rp_base.specs.Held.{unless_held};
 ghost use Rattle.rp_base.specs.Resettable.{unless_held_becomes};
 ghost use Rattle.lane_look.specs.Times.{times};
@@ -79,7 +79,7 @@ impl Blocks {
         ensures { result ≡ blocks_lines self.now }
     {
         let [uart0, uart1] = [self.uart0.block.line(), self.uart1.block.line()];
-        self.timer.block.lines() | block_lines(false, uart0, uart1)
+        self.timer.block.lines() | uart_lines(uart0, uart1)
     }
 
     /// Does what a read, or a write of this word, does to one of them.
@@ -132,13 +132,13 @@ impl Blocks {
     }
 }
 
-/// The line of IO_BANK0 and those of the UARTs.
+/// The lines of the UARTs.
 #[inline(always)]
 #[tactic(auto, unfolding(crate::specs::Lines::block_lines))]
-fn block_lines(bank: bool, first: bool, second: bool) -> u32
-    ensures { result ≡ block_lines bank first second }
+fn uart_lines(first: bool, second: bool) -> u32
+    ensures { result ≡ block_lines false first second }
 {
-    u32::from(bank) * 0x2000 + u32::from(first) * 0x10_0000 + u32::from(second) * 0x20_0000
+    u32::from(first) * 0x10_0000 + u32::from(second) * 0x20_0000
 }
 
 /// A UART that hears this level steps unless it is held; the byte whose frame ended.
@@ -165,6 +165,7 @@ fn step_timer(timer: &mut Resettable<Timer>, cycle: u64)
 }
 
 /// For so many cycles from this one on the lines of the timer stay.
+#[tactic(auto, using(crate::proofs::Cycles::timer_stays))]
 fn timer_quiet(timer: &Resettable<Timer>, cycle: u64) -> u64
     ensures { IsTimerQuiet timer.now cycle result }
 {
@@ -176,17 +177,18 @@ fn timer_quiet(timer: &Resettable<Timer>, cycle: u64) -> u64
 }
 
 /// So many cycles of the timer from this one on.
+#[tactic(auto, using(crate::proofs::Cycles::timer_cycles))]
 pub(crate) fn pass_timer(timer: &mut Resettable<Timer>, cycle: u64, n: u64)
     requires { cycle + n < 2 ^ 64 }
     ensures { timer.new ≡ times timer_after cycle n timer.old }
 {
-    if timer.held {
-        return;
+    if !timer.held {
+        timer.block.pass(cycle, n);
     }
-    timer.block.pass(cycle, n);
 }
 
 /// For so many cycles with this line a UART ends no frame, and shows the same.
+#[tactic(auto, using(crate::proofs::Cycles::uart_stays))]
 fn uart_quiet(uart: &Resettable<Uart>, line: bool, cycle: u64) -> u64
     ensures { IsUartQuiet line uart.now cycle result }
 {
@@ -199,14 +201,14 @@ fn uart_quiet(uart: &Resettable<Uart>, line: bool, cycle: u64) -> u64
 }
 
 /// So many cycles of a UART with this line.
+#[tactic(auto, using(crate::proofs::Cycles::uart_cycles))]
 fn pass_uart(uart: &mut Resettable<Uart>, line: bool, cycle: u64, n: u64)
     ensures { uart.new ≡ times (uart_cycle line) cycle n uart.old }
 {
     let _first = cycle;
-    if uart.held {
-        return;
+    if !uart.held {
+        uart.block.pass(line, n);
     }
-    uart.block.pass(line, n);
 }
 
 /// An access to a block that has its bit of RESETS beside it.

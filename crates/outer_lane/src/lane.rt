@@ -77,6 +77,7 @@ impl<X: Device> Lane<World<'_, X>> for Outer {
     }
 
     #[inline(always)]
+    #[tactic(auto, using(crate::proofs::Stepped::stepped), unfolding(crate::specs::Step::wires_by, crate::specs::Step::words_by))]
     fn finish(
         &mut self,
         env: &World<'_, X>,
@@ -85,14 +86,13 @@ impl<X: Device> Lane<World<'_, X>> for Outer {
         marks: &mut Marks,
     ) {
         let levels = self.pads.pads();
-        if self.device.len() == env.device.words() {
-            let wires = env
-                .device
-                .step(self.device.as_mut_slice(), begun.cycle, levels);
-            self.step_by(env.script, &wires, begun, marks);
+        let wires = if self.device.len() == env.device.words() {
+            env.device
+                .step(self.device.as_mut_slice(), begun.cycle, levels)
         } else {
-            self.step_by(env.script, &Wires::default(), begun, marks);
-        }
+            Wires::default()
+        };
+        self.step_by(env.script, &wires, begun, marks);
     }
 
     fn copy_from(&mut self, other: &Outer) {

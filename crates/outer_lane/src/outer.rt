@@ -105,6 +105,7 @@ impl Outer {
 
     /// The interrupt lines of core 0 or 1 that come from here, line 0 in bit 0.
     #[inline(always)]
+    #[tactic(auto, using(crate::proofs::WithBank::with_bank), unfolding(crate::specs::Lines::outer_lines))]
     pub fn lines(&self, core: u8) -> u32
         ensures { result ≡ outer_lines core self.now }
     {

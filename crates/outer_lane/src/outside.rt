@@ -9,6 +9,7 @@ use pin_script::{Cursor, Drives, Script};
 
 /// What the script and the device drive in a cycle.
 #[inline(always)]
+#[tactic(auto, using(crate::proofs::Staying::empty_outside))]
 pub(crate) fn drives(script: &Script, cursor: &mut Cursor, wires: &Wires, cycle: u64) -> Drives
     ensures { (pin : ℕ) → pin < 30 → by_sets result.driven result.high pin
         ≡ outside_of script.now wires.now cycle pin }
@@ -24,6 +25,7 @@ pub(crate) fn drives(script: &Script, cursor: &mut Cursor, wires: &Wires, cycle:
 
 /// The same, by the entries of the script.
 #[inline(never)]
+#[tactic(auto, unfolding(crate::specs::Step::outside_of))]
 fn outside(script: &Script, cursor: &mut Cursor, wires: &Wires, cycle: u64) -> Drives
     ensures { (pin : ℕ) → pin < 30 → by_sets result.driven result.high pin
         ≡ outside_of script.now wires.now cycle pin }
@@ -33,6 +35,7 @@ fn outside(script: &Script, cursor: &mut Cursor, wires: &Wires, cycle: u64) -> D
 }
 
 /// The device drives the pins that the script leaves free.
+#[tactic(auto, using(crate::proofs::Sets::joined_sets))]
 fn joined(driven: u32, high: u32, wires: &Wires) -> Drives
     ensures { (pin : ℕ) → pin < 30 → by_sets result.driven result.high pin
         ≡ either (by_sets driven high pin) (by_sets wires.now.mask wires.now.level pin) }

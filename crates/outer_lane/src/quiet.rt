@@ -14,6 +14,7 @@ use pin_script::{Entry, Script};
 
 /// For so many cycles from this one on the device drives the same, where the pads have these levels. One that has another number of
 /// words does nothing.
+#[tactic(auto, using(crate::proofs::Cycles::words_fitting, crate::proofs::Cycles::words_unfit))]
 fn words_quiet<X: Device>(device: &X, words: &ArrayVec<u32, 128>, cycle: u64, levels: u32) -> u64
     ensures { AreWordsQuiet (X.meaning device.now) words.now.items cycle levels result }
 {
@@ -61,6 +62,7 @@ fn next_entry(entries: &[Entry], cycle: u64) -> usize
 }
 
 /// The cycle of an entry.
+#[tactic(auto, using(crate::proofs::Cycles::entry_cycle))]
 fn cycle_of(entries: &[Entry], index: usize) -> u64
     requires { index < length entries.now }
     ensures { result ≡ cycle_at entries.now index }
@@ -103,6 +105,7 @@ impl Outer {
 
     /// For so many cycles from the one on in which this is seen the peripherals are quiet, as long as the outputs of PIO stay: no
     /// frame ends, no level changes, and all that others are told stays. Any smaller number is right too.
+    #[tactic(auto, using(crate::proofs::Cycles::quiet_zero))]
     pub fn quiet<X: Device>(&self, world: &World<'_, X>, seen: &SeenOutputs) -> u64
         ensures { IsQuiet (setting X.meaning world.now) seen.now self.now result }
     {
@@ -142,6 +145,7 @@ impl Outer {
     }
 
     /// So many cycles at once, from the one on in which this is seen, in which the peripherals are quiet.
+    #[tactic(auto, using(crate::proofs::Cycles::passed_all, lane_look::proofs::Times::times_none))]
     pub fn pass<X: Device>(&mut self, world: &World<'_, X>, seen: &SeenOutputs, n: u64)
         requires number { seen.now.cycle + n < 2 ^ 64 }
         requires quiet { IsQuiet (setting X.meaning world.now) seen.now self.old n }

@@ -86,6 +86,7 @@ impl Outer {
 
     /// The pads step to these levels, which these drivers give.
     #[inline(always)]
+    #[tactic(auto, using(crate::proofs::Rest::stays_again), unfolding(crate::specs::Rest::pads_after))]
     fn step_changed(&mut self, drivers: Drivers, levels: u32)
         requires { levels ≡ levels_of (outs_by self.old.sio drivers)
             (by_sets drivers.driven drivers.high) self.old.pads }
@@ -107,6 +108,7 @@ impl Outer {
 
     /// The pads step by these, unless they stay and get the same levels again.
     #[inline(always)]
+    #[tactic(auto, using(crate::proofs::Rest::same_levels, crate::proofs::Rest::levels_left))]
     fn step_driven(&mut self, drivers: Drivers) -> u32
         ensures levels { result ≡ (pads_after self.old.sio drivers self.old.pads).current }
         ensures after { self.new ≡ record self.old {

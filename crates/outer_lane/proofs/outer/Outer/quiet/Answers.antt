@@ -3,14 +3,8 @@ use Rattle.outer_lane.specs.Setting.{setting}
 use Rattle.outer_lane.specs.State.{State}
 use Rattle.outer_lane.specs.Quiet.{IsQuiet, IsSettled, AreWordsQuiet}
 use Rattle.outer_lane.specs.contracts.outer.Outer.{the_view}
-use Rattle.outer_lane.proofs.Cycles.{quiet_zero, least_quiet}
+use Rattle.outer_lane.proofs.Cycles.{least_quiet}
 use Rattle.outer_lane.proofs.outer.Outer.quiet.Goals as goal
-
-pub returns-then-not-self : goal.returns-then-not-self
-returns-then-not-self g c = quiet_zero (setting g.X.Device.meaning c.args.world.now) c.args.seen.now c.args.self.now
-
-pub returns-then-within-eq0 : goal.returns-then-within-eq0
-returns-then-within-eq0 g c = quiet_zero (setting g.X.Device.meaning c.args.world.now) c.args.seen.now c.args.self.now
 
 pub returns : goal.returns
 returns g c =
