@@ -20,12 +20,6 @@ same_levels sio kept now b levels stays is current =
     let before : levels_of (outs_by sio kept) (by_sets kept.driven kept.high) b ≡ b.current = ap (λ (x : Bank). x.current) stays in
     ap (λ n. with_levels n (with_edges (edges_of b) b)) (sym is ∙ current ∙ sym before) ∙ stays
 
--- ---- done
-
-pub done_pads : (sio : List ℕ) (d : Drivers) (b after : Bank) → after ≡ after_step (outs_by sio d) (by_sets d.driven d.high) b → after ≡ pads_after sio d b
-unfolding pads_after
-done_pads sio d b after e = e
-
 -- the levels are those that the step leaves
 pub levels_left : (sio : List ℕ) (d : Drivers) (b : Bank) → (pads_after sio d b).current ≡ levels_of (outs_by sio d) (by_sets d.driven d.high) b
 unfolding pads_after

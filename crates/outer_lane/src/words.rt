@@ -1,16 +1,11 @@
 //! The words of the register blocks.
 
-ghost use Rattle.std.specs.Prelude.{◌≡◌, ◌+◌};
-ghost use Rattle.io_bank.specs.Offsets.{PADS_BANK0};
-ghost use Rattle.io_bank.specs.Words.{effect_of};
-ghost use Rattle.outer_lane.specs.Words.{bank_accessed};
-
 use crate::outer::Outer;
 use crate::step::driven_by;
 use crate::world::{SeenOutputs, World};
 use arrayvec::ArrayVec;
+use io_bank::Outs;
 use io_bank::registers::{PAD_GPIO29, PADS_BANK0};
-use io_bank::{IoBank, Outs};
 use lane_look::Device;
 use rp_base::map::Block;
 
@@ -18,16 +13,16 @@ use rp_base::map::Block;
 const LAST_PAD: u16 = PAD_GPIO29 - PADS_BANK0;
 
 impl Outer {
-    ghost use Rattle.std.specs.Prelude.{◌≡◌, ◌+◌};
-    ghost use Rattle.io_bank.specs.Offsets.{PADS_BANK0};
+    ghost use Rattle.std.specs.Prelude.{◌≡◌};
+    ghost use Rattle.io_bank.specs.Words.{effect_of};
     ghost use Rattle.outer_lane.specs.BroughtUp.{blocks_of, with_blocks, blocks_accessed};
     ghost use Rattle.outer_lane.specs.Setting.{setting};
     ghost use Rattle.outer_lane.specs.Step.{wires_of};
-    ghost use Rattle.outer_lane.specs.Words.{outs_now, pads_word, bank_word, outer_word, outer_allowed, outer_accessed};
+    ghost use Rattle.outer_lane.specs.Words.{outs_now, pads_word, outer_word, outer_allowed, outer_accessed};
 
     /// The word at an offset in a register block as it reads in this cycle. None where the block has no such word, or is
     /// none of the peripherals.
-    #[tactic(auto, unfolding(crate::specs::Words::outer_word, crate::specs::Words::own_word))]
+    #[tactic(auto, unfolding(crate::specs::Words::outer_word, crate::specs::Words::own_word), using(crate::proofs::PadWords::none_there))]
     pub fn read<X: Device>(
         &self,
         world: &World<'_, X>,
@@ -38,30 +33,17 @@ impl Outer {
         ensures { result ≡ outer_word block offset (setting X.meaning world.now) seen.now self.now }
     {
         match block {
-            Block::IoBank0 => self.read_bank(world, seen, offset),
-            Block::PadsBank0 => self.read_pads(world, seen, offset),
+            Block::IoBank0 if offset < PADS_BANK0 => self.read_pads(world, seen, offset),
+            Block::PadsBank0 if offset <= LAST_PAD => {
+                self.read_pads(world, seen, PADS_BANK0 + offset)
+            }
             _ => self.blocks.read(block, offset),
         }
     }
 
-    /// A word of IO_BANK0, whose offsets end below those of PADS_BANK0.
-    fn read_bank<X: Device>(
-        &self,
-        world: &World<'_, X>,
-        seen: &SeenOutputs,
-        offset: u16,
-    ) -> Option<u32>
-        ensures { result ≡ bank_word offset (setting X.meaning world.now) seen.now self.now }
-    {
-        if offset >= PADS_BANK0 {
-            return None;
-        }
-        self.read_pin_word(world, seen, offset)
-    }
-
     /// A word of IO_BANK0, or from there on of PADS_BANK0.
     #[tactic(auto, unfolding(crate::specs::Words::pads_word))]
-    fn read_pin_word<X: Device>(
+    fn read_pads<X: Device>(
         &self,
         world: &World<'_, X>,
         seen: &SeenOutputs,
@@ -71,22 +53,6 @@ impl Outer {
     {
         let outs = self.outs_now(world, seen);
         self.pads.read(offset, &outs)
-    }
-
-    /// A word of PADS_BANK0, of which there are 31.
-    #[tactic(auto, unfolding(crate::specs::Words::pads_word), using(crate::proofs::PadWords::no_pad_word))]
-    fn read_pads<X: Device>(
-        &self,
-        world: &World<'_, X>,
-        seen: &SeenOutputs,
-        offset: u16,
-    ) -> Option<u32>
-        ensures { result ≡ pads_word (PADS_BANK0 + offset) (setting X.meaning world.now) seen.now self.now }
-    {
-        if offset > LAST_PAD {
-            return None;
-        }
-        self.read_pin_word(world, seen, PADS_BANK0 + offset)
     }
 
     /// The outputs of all parts in this cycle.
@@ -124,25 +90,25 @@ impl Outer {
 
     /// Does what a read, or a write of this word, does to a register block. Nothing is changed where the block has no such
     /// word, or is none of the peripherals.
-    #[tactic(auto, unfolding(crate::specs::Words::outer_accessed))]
+    #[tactic(auto, unfolding(crate::specs::Words::outer_accessed), using(crate::proofs::PadWords::no_pad_word))]
     pub fn effect(&mut self, block: Block, offset: u16, write: Option<u32>)
         ensures { self.new ≡ outer_accessed block offset write self.old }
     {
         match block {
-            Block::IoBank0 => {
-                self.stays = false;
-                access_bank(&mut self.pads, offset, write);
-                self.blocks
-                    .tell(self.pads.receive_level(0), self.pads.receive_level(1));
-            }
-            Block::PadsBank0 => {
-                self.stays = false;
-                access_pads(&mut self.pads, offset, write);
-                self.blocks
-                    .tell(self.pads.receive_level(0), self.pads.receive_level(1));
-            }
+            Block::IoBank0 if offset < PADS_BANK0 => self.access_pads(offset, write),
+            Block::PadsBank0 if offset <= LAST_PAD => self.access_pads(PADS_BANK0 + offset, write),
             _ => self.access_blocks(block, offset, write),
         }
+    }
+
+    /// Does what a read, or a write of this word, does to the pads.
+    fn access_pads(&mut self, offset: u16, write: Option<u32>)
+        ensures { self.new ≡ record self.old { pads = effect_of offset write self.old.pads } }
+    {
+        self.stays = false;
+        let _ = self.pads.effect(offset, write);
+        self.blocks
+            .tell(self.pads.receive_level(0), self.pads.receive_level(1));
     }
 
     /// Does what a read, or a write of this word, does to the timer or a UART.
@@ -153,24 +119,5 @@ impl Outer {
         let uarts = self.blocks.outs();
         let same = self.drivers.has_uarts(uarts);
         self.stays &= same;
-    }
-}
-
-/// An access to IO_BANK0.
-fn access_bank(pads: &mut IoBank, offset: u16, write: Option<u32>)
-    ensures { pads.new ≡ bank_accessed offset write pads.old }
-{
-    if offset < PADS_BANK0 {
-        let _ = pads.effect(offset, write);
-    }
-}
-
-/// An access to PADS_BANK0.
-#[tactic(auto, using(crate::proofs::PadWords::no_pad_word))]
-fn access_pads(pads: &mut IoBank, offset: u16, write: Option<u32>)
-    ensures { pads.new ≡ effect_of (PADS_BANK0 + offset) write pads.old }
-{
-    if offset <= LAST_PAD {
-        let _ = pads.effect(PADS_BANK0 + offset, write);
     }
 }
