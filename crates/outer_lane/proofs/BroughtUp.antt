@@ -8,7 +8,7 @@ use Rattle.rp_uart.specs.State.{State as SerialPort}
 use Rattle.rp_uart.specs.Step.{output_of, pacing_of}
 use Rattle.rp_uart.specs.Interrupts.{is_line_high}
 use Rattle.outer_lane.specs.declared.blocks.Blocks.{Blocks}
-use Rattle.outer_lane.specs.BroughtUp.{Told, blocks_step, blocks_after, AreBlocksQuiet}
+use Rattle.outer_lane.specs.BroughtUp.{blocks_step, blocks_after, AreBlocksQuiet}
 use Rattle.outer_lane.specs.Quiet.{uart_cycle, uart_word, IsTimerQuiet, IsUartQuiet}
 use Rattle.outer_lane.specs.Step.{timer_after, byte_of}
 
@@ -39,9 +39,6 @@ pub next_one : (line0 line1 : Bool) (first n cycle : ℕ) (b : Blocks) → cycle
     blocks_after line0 line1 first (n + 1) b ≡ blocks_step line0 line1 cycle (blocks_after line0 line1 first n b)
 next_one line0 line1 first n cycle b at =
     after_more line0 line1 first n b ∙ ap (λ (c : ℕ). blocks_step line0 line1 c (blocks_after line0 line1 first n b)) (sym at)
-
-abbrev pub told_by : Bool → Bool → Blocks → Told
-told_by line0 line1 b = record { blocks = b; line0 = line0; line1 = line1 }
 
 -- for no cycle
 timer_none : (t : Resettable TimerState) (first : ℕ) → IsTimerQuiet t first 0

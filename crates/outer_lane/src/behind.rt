@@ -13,12 +13,17 @@ pub struct Behind {
     // the levels that the UARTs hear
     line0: bool,
     line1: bool,
-    // their interrupt lines
-    lines: u32,
-    // the number of the first cycle that they lie behind, how many cycles these are, and for how many from the first one on they are quiet
-    first: u64,
-    count: u64,
-    quiet: u64,
+    span: Span,
+}
+
+/// The number of the first cycle that they lie behind, how many cycles these are, for how many from the first one on they are quiet,
+/// and their interrupt lines.
+#[derive(Clone, Copy)]
+pub struct Span {
+    pub(crate) first: u64,
+    pub(crate) count: u64,
+    pub(crate) quiet: u64,
+    pub(crate) lines: u32,
 }
 
 impl Model for Behind {
@@ -28,13 +33,13 @@ impl Model for Behind {
     ghost Value = { Told };
 
     ghost view = { λ b. record {
-      blocks = blocks_after b.line0 b.line1 b.first b.count b.blocks;
+      blocks = blocks_after b.line0 b.line1 b.span.first b.span.count b.blocks;
       line0 = b.line0;
       line1 = b.line1;
     } };
 
-    ghost invariant = { λ b. (b.count ≤ b.quiet) × ((b.first + b.quiet < 2 ^ 64)
-        × (AreBlocksQuiet b.line0 b.line1 b.blocks b.first b.quiet × (b.lines ≡ blocks_lines b.blocks))) };
+    ghost invariant = { λ b. (b.span.count ≤ b.span.quiet) × ((b.span.first + b.span.quiet < 2 ^ 64)
+        × (AreBlocksQuiet b.line0 b.line1 b.blocks b.span.first b.span.quiet × (b.span.lines ≡ blocks_lines b.blocks))) };
 }
 
 impl Behind {
@@ -51,16 +56,12 @@ impl Behind {
         ensures { result ≡ told_at_start }
     {
         let blocks = Blocks::new();
-        let quiet = blocks.quiet(true, true, 0);
-        let lines = blocks.lines();
+        let span = blocks.span(true, true, 0);
         Behind {
             blocks,
             line0: true,
             line1: true,
-            lines,
-            first: 0,
-            count: 0,
-            quiet,
+            span,
         }
     }
 
@@ -74,8 +75,8 @@ impl Behind {
         ensures outs { result ≡ true → blocks_outs self.new.blocks ≡ blocks_outs self.old.blocks }
         ensures same { result ≡ false → self.new ≡ self.old }
     {
-        if self.count < self.quiet && cycle == self.first + self.count {
-            self.count += 1;
+        if self.span.count < self.span.quiet && cycle == self.span.first + self.span.count {
+            self.span.count += 1;
             return true;
         }
         false
@@ -88,12 +89,10 @@ impl Behind {
         ensures bytes { result ≡ byte_of self.old.blocks.uart0 ∷ byte_of self.old.blocks.uart1 ∷ [] }
     {
         self.blocks
-            .pass(self.line0, self.line1, self.first, self.count);
+            .pass(self.line0, self.line1, self.span.first, self.span.count);
         let bytes = self.blocks.step(self.line0, self.line1, cycle);
-        self.first = cycle.saturating_add(1);
-        self.count = 0;
-        self.quiet = self.blocks.quiet(self.line0, self.line1, self.first);
-        self.lines = self.blocks.lines();
+        let next = cycle.saturating_add(1);
+        self.span = self.blocks.span(self.line0, self.line1, next);
         bytes
     }
 
@@ -104,17 +103,14 @@ impl Behind {
         ensures after { self.new ≡ told_after cycle n self.old }
         ensures outs { result ≡ true → blocks_outs self.new.blocks ≡ blocks_outs self.old.blocks }
     {
-        if cycle == self.first + self.count && n <= self.quiet - self.count {
-            self.count += n;
+        if cycle == self.span.first + self.span.count && n <= self.span.quiet - self.span.count {
+            self.span.count += n;
             return true;
         }
         self.blocks
-            .pass(self.line0, self.line1, self.first, self.count);
+            .pass(self.line0, self.line1, self.span.first, self.span.count);
         self.blocks.pass(self.line0, self.line1, cycle, n);
-        self.first = cycle + n;
-        self.count = 0;
-        self.quiet = self.blocks.quiet(self.line0, self.line1, self.first);
-        self.lines = self.blocks.lines();
+        self.span = self.blocks.span(self.line0, self.line1, cycle + n);
         false
     }
 
@@ -123,8 +119,8 @@ impl Behind {
     pub(crate) fn quiet(&self, cycle: u64) -> u64
         ensures { AreBlocksQuiet self.now.line0 self.now.line1 self.now.blocks cycle result }
     {
-        if cycle == self.first + self.count {
-            self.quiet - self.count
+        if cycle == self.span.first + self.span.count {
+            self.span.quiet - self.span.count
         } else {
             0
         }
@@ -147,13 +143,11 @@ impl Behind {
         ensures { self.new ≡ record self.old { line0 = line0; line1 = line1 } }
     {
         self.blocks
-            .pass(self.line0, self.line1, self.first, self.count);
+            .pass(self.line0, self.line1, self.span.first, self.span.count);
         self.line0 = line0;
         self.line1 = line1;
-        self.first += self.count;
-        self.count = 0;
-        self.quiet = self.blocks.quiet(line0, line1, self.first);
-        self.lines = self.blocks.lines();
+        let next = self.span.first + self.span.count;
+        self.span = self.blocks.span(line0, line1, next);
     }
 
     /// Does what a read, or a write of this word, does to one of them.
@@ -164,12 +158,10 @@ impl Behind {
         } }
     {
         self.blocks
-            .pass(self.line0, self.line1, self.first, self.count);
+            .pass(self.line0, self.line1, self.span.first, self.span.count);
         self.blocks.access(block, offset, write);
-        self.first += self.count;
-        self.count = 0;
-        self.quiet = self.blocks.quiet(self.line0, self.line1, self.first);
-        self.lines = self.blocks.lines();
+        let next = self.span.first + self.span.count;
+        self.span = self.blocks.span(self.line0, self.line1, next);
     }
 
     /// Takes the bits of RESETS.
@@ -178,12 +170,10 @@ impl Behind {
         ensures { self.new ≡ record self.old { blocks = blocks_reset bits self.old.blocks } }
     {
         self.blocks
-            .pass(self.line0, self.line1, self.first, self.count);
+            .pass(self.line0, self.line1, self.span.first, self.span.count);
         self.blocks.reset(bits);
-        self.first += self.count;
-        self.count = 0;
-        self.quiet = self.blocks.quiet(self.line0, self.line1, self.first);
-        self.lines = self.blocks.lines();
+        let next = self.span.first + self.span.count;
+        self.span = self.blocks.span(self.line0, self.line1, next);
     }
 
     /// What a word of one of them reads as. None where there is no such word, or the block is none of them.
@@ -207,7 +197,7 @@ impl Behind {
             block: self.blocks.timer.block,
             held: self.blocks.timer.held,
         };
-        pass_timer(&mut timer, self.first, self.count);
+        pass_timer(&mut timer, self.span.first, self.span.count);
         word(&timer, offset)
     }
 
@@ -216,7 +206,7 @@ impl Behind {
     pub(crate) fn lines(&self) -> u32
         ensures { result ≡ blocks_lines self.now.blocks }
     {
-        self.lines
+        self.span.lines
     }
 
     /// The counts that pace DMA channels, those of UART0 first.
@@ -244,7 +234,7 @@ impl Behind {
     {
         let mut blocks = Blocks::new();
         blocks.copy_from(&self.blocks);
-        blocks.pass(self.line0, self.line1, self.first, self.count);
+        blocks.pass(self.line0, self.line1, self.span.first, self.span.count);
         blocks
     }
 
@@ -263,9 +253,6 @@ impl Behind {
         self.blocks.copy_from(&other.blocks);
         self.line0 = other.line0;
         self.line1 = other.line1;
-        self.lines = other.lines;
-        self.first = other.first;
-        self.count = other.count;
-        self.quiet = other.quiet;
+        self.span = other.span;
     }
 }

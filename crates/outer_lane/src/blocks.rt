@@ -8,6 +8,7 @@ ghost use Rattle.outer_lane.specs.Quiet.{IsTimerQuiet, IsUartQuiet, uart_cycle};
 ghost use Rattle.outer_lane.specs.Lines.{block_lines};
 ghost use Rattle.outer_lane.specs.Step.{byte_of, timer_after, uart_after};
 
+use crate::behind::Span;
 use rp_base::bits::has_bit;
 use rp_base::map::Block;
 use rp_base::resets::{TIMER, UART0, UART1};
@@ -61,25 +62,27 @@ impl Blocks {
         pass_uart(&mut self.uart1, line1, first, n);
     }
 
-    /// For so many cycles from one on each of them is quiet, where the UARTs hear these levels. They end before the last number of a cycle.
-    pub(crate) fn quiet(&self, line0: bool, line1: bool, first: u64) -> u64
-        ensures quiet { AreBlocksQuiet line0 line1 self.now first result }
-        ensures within { first + result < 2 ^ 64 }
+    /// As they are before this cycle: they lie none behind; for so many cycles from it on, which end before the last number of a cycle,
+    /// each of them is quiet, where the UARTs hear these levels; and their interrupt lines.
+    pub(crate) fn span(&self, line0: bool, line1: bool, first: u64) -> Span
+        ensures first { result.first ≡ first }
+        ensures count { result.count ≡ 0 }
+        ensures quiet { AreBlocksQuiet line0 line1 self.now first result.quiet }
+        ensures within { first + result.quiet < 2 ^ 64 }
+        ensures lines { result.lines ≡ blocks_lines self.now }
     {
         let timer = timer_quiet(&self.timer, first);
         let uart0 = uart_quiet(&self.uart0, line0, first);
         let uart1 = uart_quiet(&self.uart1, line1, first);
         let uarts = uart0.min(uart1);
         let all = timer.min(uarts);
-        all.min(u64::MAX - first)
-    }
-
-    /// Their interrupt lines.
-    pub(crate) fn lines(&self) -> u32
-        ensures { result ≡ blocks_lines self.now }
-    {
-        let [uart0, uart1] = [self.uart0.block.line(), self.uart1.block.line()];
-        self.timer.block.lines() | uart_lines(uart0, uart1)
+        let lines = uart_lines(self.uart0.block.line(), self.uart1.block.line());
+        Span {
+            first,
+            count: 0,
+            quiet: all.min(u64::MAX - first),
+            lines: self.timer.block.lines() | lines,
+        }
     }
 
     /// Does what a read, or a write of this word, does to one of them.
