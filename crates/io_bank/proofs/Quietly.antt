@@ -1,8 +1,7 @@
 -- A step of quiet pads changes nothing.
 use Rattle.std.proofs.Common.{◌≡◌, ℕ, Bool, true, Option, refl, sym, ap, ◌∙◌, arith}
-use Rattle.std.specs.Prelude.{bit_or}
 use Rattle.std.proofs.lemmas.Bool.Decides.{nat_tests}
-use Rattle.std.proofs.lemmas.Nat.Bits.{bit_at-zero, bit_at_or, same_from_bits}
+use lib.Bits.{or_zero_r}
 use Rattle.io_bank.specs.declared.events.Edges.{Edges}
 use Rattle.io_bank.specs.declared.outputs.Outs.{Outs}
 use Rattle.io_bank.specs.State.{State, no_edges}
@@ -11,17 +10,11 @@ use Rattle.io_bank.specs.Levels.{levels_of}
 use Rattle.io_bank.specs.Step.{after_step, is_quiet}
 use Rattle.io_bank.proofs.Routed.{edges_of-at_rest}
 
-or_none : (n : ℕ) → bit_or n 0 ≡ n
-or_none n = same_from_bits (bit_or n 0) n (λ i. rw (bit_at_or n 0 i, bit_at-zero i) (omega arith))
-
 no_more : (e : Edges) → joined e no_edges ≡ e
-no_more e = rw (or_none e.low, or_none e.high) refl
+no_more e = rw (or_zero_r e.low, or_zero_r e.high) refl
 
-none_by : (low high : ℕ) (e : Edges) → e.low ≡ 0 → e.high ≡ 0 → no_edges ≡ e
-none_by low high e l h = edges_go e.low e.high l h
-  where
-    edges_go : (a b : ℕ) → a ≡ 0 → b ≡ 0 → no_edges ≡ record { low = a; high = b }
-    edges_go a b l h = rw (l, h) refl
+none_by : (e : Edges) → e.low ≡ 0 → e.high ≡ 0 → no_edges ≡ e
+none_by e l h = sym (ap (λ (n : ℕ). record e { low = n }) l ∙ ap (λ (n : ℕ). record no_edges { high = n }) h)
 
 same : (s : State) (edges : Edges) (levels : ℕ) → edges ≡ no_edges → no_edges ≡ s.fresh → levels ≡ s.current → s.first ≡ s.current → s.second ≡ s.first →
     record s { latched = joined s.latched edges; fresh = edges; current = levels; first = s.current; second = s.first } ≡ s
@@ -34,4 +27,4 @@ rest_step outs f s at_rest levels =
     let second : s.second ≡ s.first = grind (arith, nat_tests) in
     let low : s.fresh.low ≡ 0 = grind (arith, nat_tests) in
     let high : s.fresh.high ≡ 0 = grind (arith, nat_tests) in
-    same s (edges_of s) (levels_of outs f s) (edges_of-at_rest s (sym second)) (none_by 0 0 s.fresh low high) levels first second
+    same s (edges_of s) (levels_of outs f s) (edges_of-at_rest s (sym second)) (none_by s.fresh low high) levels first second

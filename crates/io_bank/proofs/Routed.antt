@@ -271,6 +271,8 @@ edges_of-held s h = ap (λ b. cond b no_edges (record { low = falling s; high = 
 
 pub ruleset others = (others-is)
 
+pub ruleset edges_laws = (edges_of-changed, edges_of-at_rest, edges_of-held)
+
 -- ---- the level from outside, by a list and by sets
 
 by-is : (o : Option Bool) → cond (is_some o) (Some (unwrap_or o false)) None ≡ o
@@ -287,9 +289,9 @@ by_sets-list levels i h =
     (bits_below-at (λ pin. unwrap_or (by_list levels pin) false) 30 i h)
     ∙ by-is (by_list levels i)
 
-levels_of-same : (outs : Outs) (f g : ℕ → Option Bool) (s : State) → ((i : ℕ) → i < 30 → f i ≡ g i) →
+pub levels_same : (outs : Outs) (f g : ℕ → Option Bool) (s : State) → ((i : ℕ) → i < 30 → f i ≡ g i) →
     levels_of outs f s ≡ levels_of outs g s
-levels_of-same outs f g s h =
+levels_same outs f g s h =
     bits_below-same (λ pin. pad_level outs (f pin) (slice_index s.controls pin) (slice_index s.pads pin) pin)
     (λ pin. pad_level outs (g pin) (slice_index s.controls pin) (slice_index s.pads pin) pin) 30
     (λ i lt. ap (λ o. pad_level outs o (slice_index s.controls i) (slice_index s.pads i) i) (h i lt))
@@ -298,4 +300,6 @@ pub levels_of-list : (outs : Outs) (levels : List (Option Bool)) (driven high : 
     driven ≡ pins_where (λ pin. is_some (by_list levels pin)) → high ≡ pins_where (λ pin. unwrap_or (by_list levels pin) false) →
     levels_of outs (by_sets driven high) s ≡ levels_of outs (by_list levels) s
 levels_of-list outs levels driven high s d e =
-    rw (d, e) (levels_of-same outs _ (by_list levels) s (λ i h. by_sets-list levels i h))
+    rw (d, e) (levels_same outs _ (by_list levels) s (λ i h. by_sets-list levels i h))
+
+pub ruleset listed = (levels_of-list)

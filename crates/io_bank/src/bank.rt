@@ -137,6 +137,7 @@ impl IoBank {
     /// One cycle, by the outputs at its start and the level that drives each pin from outside (that of the script, or else
     /// of the device); `None` leaves a pin to its pull-up. Gives the new levels of the pads, and latches the edges that
     /// the second level makes as it moves on.
+    #[tactic(auto, using(crate::proofs::Routed::listed))]
     pub fn step(&mut self, outs: &Outs, script: &[Option<bool>; 30]) -> u32
         ensures levels { result ≡ levels_of outs.now (by_list script.now) self.old }
         ensures after { self.new ≡ after_step outs.now (by_list script.now) self.old }
@@ -197,6 +198,7 @@ impl IoBank {
     }
 
     /// The edges that the next second level makes.
+    #[tactic(auto, using(crate::proofs::Routed::edges_laws))]
     fn edges(&self) -> Edges
         ensures { result ≡ edges_of self.now }
     {
@@ -275,6 +277,7 @@ impl IoBank {
     }
 
     /// The pins that have a function.
+    #[tactic(auto, unfolding(crate::specs::Routes::routes_of))]
     fn pins_of(&self, function: u8) -> u32
         ensures { result ≡ pins_of function self.now }
     {

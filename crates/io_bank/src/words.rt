@@ -88,6 +88,7 @@ impl IoBank {
     }
 
     /// STATUS or CTRL of a pin.
+    #[tactic(auto, using(crate::proofs::Rows::is_status, crate::proofs::Rows::pin_of))]
     fn pin_word(&self, offset: u16, outs: &Outs) -> Option<u32>
         requires { offset < 0x0f0 }
         ensures { result ≡ word_at pin_rows outs.now offset self.now }
