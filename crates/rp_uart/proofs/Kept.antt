@@ -1,5 +1,5 @@
 -- What sending leaves as it is, and what receiving leaves as it is.
-use Rattle.std.proofs.Common.{◌≡◌, ◌∙◌, ℕ, ◌+◌, ◌*◌, Bool, true, false, cond, List, [], ◌∷◌, length, Option, Some, None, refl, sym, ap, subst, arith}
+use Rattle.std.proofs.Common.{◌≡◌, ◌∙◌, ℕ, ◌+◌, ◌*◌, Bool, true, false, cond, List, [], ◌∷◌, length, Option, Some, None, refl, sym, ap, subst}
 use Rattle.std.specs.Prelude.{◌==◌, ◌&&◌, not, nat_lt, ◌++◌, drop, slice_get}
 use Rattle.rp_base.proofs.Rows.{either-way}
 use Rattle.rp_uart.specs.declared.receiver.Errors.{Errors}
@@ -17,10 +17,6 @@ use Rattle.rp_uart.specs.State.{State}
 pub cond-same : {A : Type 0} (c : Bool) (x : A) → cond c x x ≡ x
 cond-same true x = refl
 cond-same false x = refl
-
-pub none-in : (xs : List ℕ) → length xs ≡ 0 → xs ≡ []
-none-in [] e = refl
-none-in (x ∷ xs) e = absurd (omega arith)
 
 pub next-none : (elapsed : ℕ) (s : State) → s.to_send ≡ [] → next_frame elapsed s ≡ s
 unfolding next_frame

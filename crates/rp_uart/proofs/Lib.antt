@@ -4,4 +4,4 @@ pub mod Heard
 pub mod Kept
 pub mod Loopback
 pub mod Timing
-mod Passing
+pub mod Passing

@@ -1,11 +1,14 @@
 -- Cycles within bits.
-use Rattle.std.proofs.Common.{◌≡◌, ◌∙◌, ℕ, zero, suc, ◌+◌, ◌-◌, ◌*◌, ◌<◌, ◌≤◌, Bool, true, false, not, ◌&&◌, nat_lt, cond, Option, Some, None, refl, sym, ap, subst, arith}
+use Rattle.std.proofs.Common.{◌≡◌, ◌∙◌, ℕ, zero, suc, ◌+◌, ◌-◌, ◌*◌, ◌<◌, ◌≤◌, Bool, true, false, not, ◌&&◌, nat_lt, cond, Option, Some, None, refl, ap, arith}
 use Rattle.std.specs.Prelude.{◌==◌, length, slice_get}
 use Rattle.std.proofs.lemmas.Bool.Decides.{nat_tests}
+use Rattle.std.proofs.lemmas.List.{nil_from_length}
 use Rattle.rp_uart.specs.declared.control.Divisor.{Divisor}
 use Rattle.rp_uart.specs.declared.frame.LineControl.{LineControl}
+use Rattle.rp_uart.specs.declared.receiver.Hearing.{Hearing}
 use Rattle.rp_uart.specs.declared.receiver.Receiver.{Receiver}
 use Rattle.rp_uart.specs.declared.receiver.Receiver.TheVariants as receivers
+use Rattle.rp_uart.specs.declared.sender.Sending.{Sending}
 use Rattle.rp_uart.specs.declared.sender.Sender.{Sender}
 use Rattle.rp_uart.specs.declared.sender.Sender.TheVariants as senders
 use Rattle.rp_uart.specs.Interrupts.{is_line_high}
@@ -16,7 +19,7 @@ use Rattle.rp_uart.specs.Sender.{bit_time, is_over, level_of, can_send, is_last_
 use Rattle.rp_uart.specs.State.{State}
 use Rattle.rp_uart.specs.Step.{is_running, output_of, heard_of, after_step, sent_byte, pacing_of}
 use Rattle.rp_uart.specs.Words.{word_of}
-use Rattle.rp_uart.proofs.Kept.{cond-same, none-in, next-none}
+use Rattle.rp_uart.proofs.Kept.{cond-same, next-none}
 
 not-over : (elapsed : ℕ) (d : Divisor) → elapsed + 4 < bit_time d → is_over elapsed d ≡ false
 not-over elapsed d lt = grind (arith, nat_tests)
@@ -31,107 +34,78 @@ is-none n h = grind (arith, nat_tests)
 
 no-frame : (can : Bool) (s : State) → can_send s ≡ can → (can && not (length s.to_send == 0)) ≡ false → next_frame 0 s ≡ s
 unfolding next_frame
-no-frame true s e h = next-none 0 s (none-in s.to_send (is-none (length s.to_send) h))
+no-frame true s e h = next-none 0 s (nil_from_length s.to_send (is-none (length s.to_send) h))
 no-frame false s e h = ap (λ (b : Bool). cond b (with_first (slice_get s.to_send 0) 0 s) s) e
 
-sends : (sender : Sender) (s : State) → s.sender ≡ sender → SendsOn 1 sender (has_frame s) s.divisor → after_sender sender s ≡ record s { sender = sent_longer 4 sender }
-sends senders.Idle s e h = no-frame (can_send s) s refl h ∙ ap (λ (x : Sender). record s { sender = x }) e
-sends (senders.Frame f) s e h =
-    let next = λ (b : Bool). cond b (f.elapsed + 4 - bit_time s.divisor) (f.elapsed + 4) in
-    ap (λ (b : Bool). cond b (after_bit f (next b) s) (with_sender (senders.Frame (record f { elapsed = next b })) s))
-    (not-over f.elapsed s.divisor h)
-
-hears : (receiver : Receiver) (level : Bool) (s : State) → s.receiver ≡ receiver → HearsOn 1 receiver level (can_receive s) s.divisor →
-    cond (is_byte_due receiver s) (after_line receiver level s) (after_waiting (after_line receiver level s))
-    ≡ after_waiting (record s { receiver = heard_longer 4 receiver })
-unfolding after_line is_byte_due
-hears receivers.Idle level s e h =
-    ap (λ (b : Bool). after_waiting (cond b (with_receiver (first_heard s) s) s)) h
-    ∙ ap (λ (x : Receiver). after_waiting (record s { receiver = x })) e
-hears receivers.Waiting level s e h =
-    ap (λ (b : Bool). after_waiting (cond b (with_receiver receivers.Idle s) s)) h
-    ∙ ap (λ (x : Receiver). after_waiting (record s { receiver = x })) e
-hears (receivers.Frame g) level s e h =
-    let next = λ (b : Bool). cond b (g.elapsed + 4 - bit_time s.divisor) (g.elapsed + 4) in
-    let after = λ (b : Bool). cond b (after_sample level g (next b) s) (with_receiver (receivers.Frame (record g { elapsed = next b })) s) in
-    ap (λ (b : Bool). cond (b && is_stop g s) (after b) (after_waiting (after b))) (not-over g.elapsed s.divisor h)
-
-waits : (waited : Option ℕ) (s : State) → s.waited ≡ waited → WaitsOn 1 waited s.divisor → after_more_waiting waited s ≡ record s { waited = waited_longer 4 waited }
-waits None s e h = ap (λ (x : Option ℕ). record s { waited = x }) e
-waits (Some elapsed) s e h =
-    ap (λ (b : Bool). cond b (with_waited (Some (elapsed + 4)) s) (raised timeout_interrupt (with_waited None s)))
-    (is-below (elapsed + 4) (32 * bit_time s.divisor) h)
-
-one : (line : Bool) (s : State) → GoesOn line s 1 → after_step line s ≡ passed 1 s
-unfolding after_sending after_receiving after_waiting
-one line s g =
-    let level = heard_of line s in
-    let sent : State = record s { sender = sent_longer 4 s.sender } in
-    let heard : State = record sent { receiver = heard_longer 4 s.receiver } in
-    ap (λ (b : Bool). cond b (after_receiving level (after_sending s)) s) g.running
-    ∙ (ap (after_receiving level) (sends s.sender s refl g.sends)
-    ∙ (hears s.receiver level sent refl g.hears ∙ waits s.waited heard refl g.waits))
-
--- ---- many cycles
-
-sends-on : (n k : ℕ) (x : Sender) (b : Bool) (d : Divisor) → k < n → SendsOn n x b d → SendsOn 1 (sent_longer (4 * k) x) b d
-sends-on n k senders.Idle b d lt h = h
-sends-on n k (senders.Frame f) b d lt h = omega (arith, h)
-
-hears-on : (n k : ℕ) (x : Receiver) (level can : Bool) (d : Divisor) → k < n → HearsOn n x level can d → HearsOn 1 (heard_longer (4 * k) x) level can d
-hears-on n k receivers.Idle level can d lt h = h
-hears-on n k (receivers.Frame f) level can d lt h = omega (arith, h)
-hears-on n k receivers.Waiting level can d lt h = h
-
-waits-on : (n k : ℕ) (x : Option ℕ) (d : Divisor) → k < n → WaitsOn n x d → WaitsOn 1 (waited_longer (4 * k) x) d
-waits-on n k None d lt h = h
-waits-on n k (Some elapsed) d lt h = omega (arith, h)
+-- what goes on for n cycles has gone on for k of them, and goes on in the next one
 
 level-stays : (time : ℕ) (x : Sender) (line : LineControl) → level_of (sent_longer time x) line ≡ level_of x line
 level-stays time senders.Idle line = refl
 level-stays time (senders.Frame f) line = refl
 
-goes-on : (line : Bool) (s : State) (n k : ℕ) → GoesOn line s n → k < n → GoesOn line (passed k s) 1
-goes-on line s n k g lt =
-    let same : heard_of line s ≡ heard_of line (passed k s) =
-    ap (λ (b : Bool). cond s.control.loopback b line) (sym (level-stays (4 * k) s.sender s.line)) in
-    record {
-      running = g.running;
-      sends = sends-on n k s.sender (has_frame s) s.divisor lt g.sends;
-      hears = subst (λ (b : Bool). HearsOn 1 (heard_longer (4 * k) s.receiver) b (can_receive s) s.divisor) same
-          (hears-on n k s.receiver (heard_of line s) (can_receive s) s.divisor lt g.hears);
-      waits = waits-on n k s.waited s.divisor lt g.waits;
-    }
+sends : (n k : ℕ) (x : Sender) (s : State) → k < n → SendsOn n x (has_frame s) s.divisor →
+    after_sender (sent_longer (4 * k) x) (record s { sender = sent_longer (4 * k) x })
+    ≡ record s { sender = sent_longer (4 * suc k) x }
+sends n k senders.Idle s lt h = no-frame (can_send s) (record s { sender = senders.Idle }) refl h
+sends n k (senders.Frame f) s lt h =
+    let time = f.elapsed + 4 * k in
+    let now : Sending = record f { elapsed = time } in
+    let t : State = record s { sender = senders.Frame now } in
+    let next = λ (b : Bool). cond b (time + 4 - bit_time s.divisor) (time + 4) in
+    let more : time + 4 ≡ f.elapsed + 4 * suc k = omega arith in
+    ap (λ (b : Bool). cond b (after_bit now (next b) t) (with_sender (senders.Frame (record f { elapsed = next b })) s))
+    (not-over time s.divisor (omega (arith, h)))
+    ∙ ap (λ (u : ℕ). with_sender (senders.Frame (record f { elapsed = u })) s) more
 
--- so long, and then so much longer
-sent-more : (a b c : ℕ) (x : Sender) → a + b ≡ c → sent_longer b (sent_longer a x) ≡ sent_longer c x
-sent-more a b c senders.Idle e = refl
-sent-more a b c (senders.Frame f) e =
-    let same : f.elapsed + a + b ≡ f.elapsed + c = omega (arith, e) in
-    ap (λ (t : ℕ). senders.Frame (record f { elapsed = t })) same
+hears : (n k : ℕ) (x : Receiver) (level : Bool) (s t : State) → k < n → HearsOn n x level (can_receive s) s.divisor →
+    t ≡ record s { receiver = heard_longer (4 * k) x } →
+    cond (is_byte_due t.receiver t) (after_line t.receiver level t) (after_waiting (after_line t.receiver level t))
+    ≡ after_waiting (record s { receiver = heard_longer (4 * suc k) x })
+unfolding after_line is_byte_due
+hears n k receivers.Idle level s t lt h e =
+    rw e (ap (λ (b : Bool). after_waiting (cond b (with_receiver (first_heard s) s) (with_receiver receivers.Idle s))) h)
+hears n k receivers.Waiting level s t lt h e =
+    rw e (ap (λ (b : Bool). after_waiting (cond b (with_receiver receivers.Idle s) (with_receiver receivers.Waiting s))) h)
+hears n k (receivers.Frame g) level s t lt h e =
+    let time = g.elapsed + 4 * k in
+    let now : Hearing = record g { elapsed = time } in
+    let u : State = record s { receiver = receivers.Frame now } in
+    let next = λ (b : Bool). cond b (time + 4 - bit_time s.divisor) (time + 4) in
+    let on = λ (v : ℕ). with_receiver (receivers.Frame (record g { elapsed = v })) s in
+    let after = λ (b : Bool). cond b (after_sample level now (next b) u) (on (next b)) in
+    let more : time + 4 ≡ g.elapsed + 4 * suc k = omega arith in
+    rw e
+    (ap (λ (b : Bool). cond (b && is_stop now u) (after b) (after_waiting (after b))) (not-over time s.divisor (omega (arith, h)))
+    ∙ ap (λ (v : ℕ). after_waiting (on v)) more)
 
-heard-more : (a b c : ℕ) (x : Receiver) → a + b ≡ c → heard_longer b (heard_longer a x) ≡ heard_longer c x
-heard-more a b c receivers.Idle e = refl
-heard-more a b c (receivers.Frame f) e =
-    let same : f.elapsed + a + b ≡ f.elapsed + c = omega (arith, e) in
-    ap (λ (t : ℕ). receivers.Frame (record f { elapsed = t })) same
-heard-more a b c receivers.Waiting e = refl
+waits : (n k : ℕ) (x : Option ℕ) (s : State) → k < n → WaitsOn n x s.divisor →
+    after_more_waiting (waited_longer (4 * k) x) (with_waited (waited_longer (4 * k) x) s)
+    ≡ with_waited (waited_longer (4 * suc k) x) s
+waits n k None s lt h = refl
+waits n k (Some elapsed) s lt h =
+    let time = elapsed + 4 * k in
+    let more : time + 4 ≡ elapsed + 4 * suc k = omega arith in
+    ap (λ (b : Bool). cond b (with_waited (Some (time + 4)) s) (raised timeout_interrupt (with_waited None s)))
+    (is-below (time + 4) (32 * bit_time s.divisor) (omega (arith, h)))
+    ∙ ap (λ (v : ℕ). with_waited (Some v) s) more
 
-waited-more : (a b c : ℕ) (x : Option ℕ) → a + b ≡ c → waited_longer b (waited_longer a x) ≡ waited_longer c x
-waited-more a b c None e = refl
-waited-more a b c (Some elapsed) e =
-    let same : elapsed + a + b ≡ elapsed + c = omega (arith, e) in
-    ap (λ (t : ℕ). Some t) same
+one : (line : Bool) (s : State) (n k : ℕ) → GoesOn line s n → k < n → after_step line (passed k s) ≡ passed (suc k) s
+unfolding after_sending after_receiving after_waiting
+one line s n k g lt =
+    let t = passed k s in
+    let sent : State = record t { sender = sent_longer (4 * suc k) s.sender } in
+    let heard : State = record sent { receiver = heard_longer (4 * suc k) s.receiver } in
+    ap (λ (b : Bool). cond b (after_receiving (heard_of line t) (after_sending t)) t) g.running
+    ∙ ap (λ (b : Bool). after_receiving (cond s.control.loopback b line) (after_sending t)) (level-stays (4 * k) s.sender s.line)
+    ∙ ap (after_receiving (heard_of line s)) (sends n k s.sender t lt g.sends)
+    ∙ hears n k s.receiver (heard_of line s) sent sent lt g.hears refl
+    ∙ waits n k s.waited heard lt g.waits
+
+-- ---- many cycles
 
 parts : (s : State) (a b : Sender) (c d : Receiver) (e f : Option ℕ) → a ≡ b → c ≡ d → e ≡ f →
     ◌≡◌ {A = State} (record s { sender = a; receiver = c; waited = e }) (record s { sender = b; receiver = d; waited = f })
 parts s a b c d e f x y z = rw (x, y, z) refl
-
-passed-more : (k : ℕ) (s : State) → passed 1 (passed k s) ≡ passed (suc k) s
-passed-more k s =
-    let e : 4 * k + 4 ≡ 4 * suc k = omega arith in
-    parts s _ _ _ _ _ _ (sent-more (4 * k) 4 (4 * suc k) s.sender e) (heard-more (4 * k) 4 (4 * suc k) s.receiver e)
-    (waited-more (4 * k) 4 (4 * suc k) s.waited e)
 
 sent-none : (x : Sender) → x ≡ sent_longer 0 x
 sent-none senders.Idle = refl
@@ -149,14 +123,16 @@ waited-none (Some elapsed) = let same : elapsed ≡ elapsed + 0 = omega arith in
 pub passes : (line : Bool) (s : State) (n : ℕ) → GoesOn line s n → (k : ℕ) → k ≤ n → after_cycles line k s ≡ passed k s
 passes line s n g zero le = parts s _ _ _ _ _ _ (sent-none s.sender) (heard-none s.receiver) (waited-none s.waited)
 passes line s n g (suc k) le =
-    ap (after_step line) (passes line s n g k (omega arith))
-    ∙ (one line (passed k s) (goes-on line s n k g (omega arith)) ∙ passed-more k s)
+    ap (after_step line) (passes line s n g k (omega arith)) ∙ one line s n k g (omega arith)
 
 -- ---- what is shown
 
-no-end : (x : Sender) (b : Bool) (s : State) → SendsOn 1 x b s.divisor → ended_byte x s ≡ None
-no-end senders.Idle b s h = refl
-no-end (senders.Frame f) b s h = ap (λ (o : Bool). cond (o && is_last_bit f s) (Some f.byte) None) (not-over f.elapsed s.divisor h)
+no-end : (n k : ℕ) (x : Sender) (b : Bool) (s : State) → k < n → SendsOn n x b s.divisor →
+    ended_byte (sent_longer (4 * k) x) s ≡ None
+no-end n k senders.Idle b s lt h = refl
+no-end n k (senders.Frame f) b s lt h =
+    let now : Sending = record f { elapsed = f.elapsed + 4 * k } in
+    ap (λ (o : Bool). cond (o && is_last_bit now s) (Some f.byte) None) (not-over now.elapsed s.divisor (omega (arith, h)))
 
 word-stays : (time offset : ℕ) (x : Sender) (receiver : Receiver) (waited : Option ℕ) (s : State) →
     word_of offset (record s { sender = sent_longer time x; receiver = receiver; waited = waited }) ≡ word_of offset (record s { sender = x })
@@ -168,7 +144,7 @@ goes-quiet line s n g = record {
   silent = λ k lt.
       ap sent_byte (passes line s n g k (omega arith))
       ∙ (ap (λ (x : Option ℕ). cond (is_running s) x None)
-      (no-end (sent_longer (4 * k) s.sender) (has_frame s) (passed k s) (sends-on n k s.sender (has_frame s) s.divisor lt g.sends))
+      (no-end n k s.sender (has_frame s) (passed k s) lt g.sends)
       ∙ cond-same (is_running s) None);
   output = λ k le. ap output_of (passes line s n g k le) ∙ level-stays (4 * k) s.sender s.line;
   lines = λ k le. ap is_line_high (passes line s n g k le);
@@ -176,14 +152,18 @@ goes-quiet line s n g = record {
   words = λ k le offset. ap (word_of offset) (passes line s n g k le) ∙ word-stays (4 * k) offset s.sender (heard_longer (4 * k) s.receiver) (waited_longer (4 * k) s.waited) s;
 }
 
-quiet-none : (line : Bool) (s : State) → IsQuiet line s 0
-quiet-none line s = record {
-  silent = λ k lt. absurd (omega arith);
-  output = λ k le. let e : k ≡ 0 = omega arith in rw e refl;
-  lines = λ k le. let e : k ≡ 0 = omega arith in rw e refl;
-  pacing = λ k le. let e : k ≡ 0 = omega arith in rw e refl;
-  words = λ k le offset. let e : k ≡ 0 = omega arith in rw e refl;
+stays-quiet : (line : Bool) (s : State) (n : ℕ) → ((k : ℕ) → k ≤ n → after_cycles line k s ≡ s) → (0 < n → sent_byte s ≡ None) →
+    IsQuiet line s n
+stays-quiet line s n at none = record {
+  silent = λ k lt. ap sent_byte (at k (omega arith)) ∙ none (omega arith);
+  output = λ k le. ap output_of (at k le);
+  lines = λ k le. ap is_line_high (at k le);
+  pacing = λ k le. ap pacing_of (at k le);
+  words = λ k le offset. ap (word_of offset) (at k le);
 }
+
+pub quiet-none : (line : Bool) (s : State) → IsQuiet line s 0
+quiet-none line s = stays-quiet line s 0 (λ k le. let e : k ≡ 0 = omega arith in rw e refl) (λ lt. absurd (omega arith))
 
 pub left-quiet : (line : Bool) (s : State) (n : ℕ) → (0 < n → GoesOn line s n) → IsQuiet line s n
 left-quiet line s zero h = quiet-none line s
@@ -198,14 +178,13 @@ stands line s (suc n) e =
     ∙ ap (λ (b : Bool). cond b (after_receiving (heard_of line s) (after_sending s)) s) e
 
 pub stands-quiet : (line : Bool) (s : State) (n : ℕ) → is_running s ≡ false → IsQuiet line s n
-stands-quiet line s n e = record {
-  silent = λ k lt. ap sent_byte (stands line s k e) ∙ ap (λ (b : Bool). cond b (ended_byte s.sender s) None) e;
-  output = λ k le. ap output_of (stands line s k e);
-  lines = λ k le. ap is_line_high (stands line s k e);
-  pacing = λ k le. ap pacing_of (stands line s k e);
-  words = λ k le offset. ap (word_of offset) (stands line s k e);
-}
+stands-quiet line s n e =
+    stays-quiet line s n (λ k le. stands line s k e) (λ lt. ap (λ (b : Bool). cond b (ended_byte s.sender s) None) e)
 
-pub not-false : (b : Bool) → true ≡ not b → b ≡ false
-not-false true e = cc
-not-false false e = refl
+pub passes-left : (line : Bool) (s : State) (n left : ℕ) → n ≤ left → 0 < n → (0 < left → GoesOn line s left) →
+    after_cycles line n s ≡ passed n s
+passes-left line s n left le some g = passes line s left (g (omega arith)) n le
+
+pub ruleset stopped = (stands-quiet)
+
+pub ruleset along = (passes-left, stands)

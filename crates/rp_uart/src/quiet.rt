@@ -14,6 +14,7 @@ use crate::uart::Uart;
 impl Uart {
     /// In so many cycles, as long as RX stays at this level, no frame ends, and TX, the interrupt line, what the DMA engine is told
     /// and what each word reads as stay: up to the next end of a bit or the timeout, and `u64::MAX` where nothing is sent or received.
+    #[tactic(auto, using(crate::proofs::Passing::stopped))]
     pub fn quiet(&self, line: bool) -> u64
         ensures { IsQuiet line self.now result }
     {
@@ -24,6 +25,7 @@ impl Uart {
     }
 
     /// So many cycles at once, in which RX stays at this level.
+    #[tactic(auto, using(crate::proofs::Passing::along))]
     pub fn pass(&mut self, line: bool, n: u64)
         ensures { self.new ≡ after_cycles line n self.old }
     {
