@@ -2,7 +2,7 @@
 use Rattle.std.proofs.Common.{◌≡◌, ℕ, ◌+◌, ◌≤◌, Bool, refl, sym, ap, ◌∙◌, arith}
 use Rattle.rp_base.specs.declared.resettable.Resettable.{Resettable}
 use Rattle.lane_look.specs.Times.{times}
-use Rattle.lane_look.proofs.Times.{times_none, times_more, times_add}
+use Rattle.lane_look.proofs.Times.{times_more, times_add}
 use Rattle.rp_timer.specs.State.{State as TimerState, lines_of}
 use Rattle.rp_uart.specs.State.{State as SerialPort}
 use Rattle.rp_uart.specs.Step.{output_of, pacing_of}
@@ -40,28 +40,6 @@ pub next_one : (line0 line1 : Bool) (first n cycle : ℕ) (b : Blocks) → cycle
 next_one line0 line1 first n cycle b at =
     after_more line0 line1 first n b ∙ ap (λ (c : ℕ). blocks_step line0 line1 c (blocks_after line0 line1 first n b)) (sym at)
 
--- for no cycle
-timer_none : (t : Resettable TimerState) (first : ℕ) → IsTimerQuiet t first 0
-timer_none t first = record {
-  lines = λ k le. ap (λ (x : Resettable TimerState). lines_of x.block) (times_none timer_after first k t (omega arith));
-  held = λ k le. ap (λ (x : Resettable TimerState). x.held) (times_none timer_after first k t (omega arith));
-}
-
-uart_none : (line : Bool) (u : Resettable SerialPort) (first : ℕ) → IsUartQuiet line u first 0
-uart_none line u first =
-    let at : (k : ℕ) → k ≤ 0 → times (uart_cycle line) first k u ≡ u = λ k le. times_none (uart_cycle line) first k u (omega arith) in
-    record {
-      silent = λ k lt. absurd (omega arith);
-      output = λ k le. ap (λ (x : Resettable SerialPort). output_of x.block) (at k le);
-      interrupt = λ k le. ap (λ (x : Resettable SerialPort). is_line_high x.block) (at k le);
-      pacing = λ k le. ap (λ (x : Resettable SerialPort). pacing_of x.block) (at k le);
-      held = λ k le. ap (λ (x : Resettable SerialPort). x.held) (at k le);
-      words = λ k le offset. ap (uart_word offset) (at k le);
-    }
-
-pub quiet_none : (line0 line1 : Bool) (b : Blocks) (first : ℕ) → AreBlocksQuiet line0 line1 b first 0
-quiet_none line0 line1 b first = record { timer = timer_none b.timer first; uart0 = uart_none line0 b.uart0 first; uart1 = uart_none line1 b.uart1 first }
-
 -- what stays for so long stays from a later cycle on
 later : {S A : Type 0} (step : ℕ → S → S) (f : S → A) (first n : ℕ) (s : S) → ((k : ℕ) → k ≤ n → f (times step first k s) ≡ f s) → (k j : ℕ) → k + j ≤ n →
     f (times step (first + k) j (times step first k s)) ≡ f (times step first k s)
@@ -91,3 +69,9 @@ quiet_later line0 line1 b first n k m cycle q le at = rw at (record {
   uart0 = uart_later line0 b.uart0 first n k m q.uart0 le;
   uart1 = uart_later line1 b.uart1 first n k m q.uart1 le;
 })
+
+-- for fewer cycles
+pub quiet_less : (line0 line1 : Bool) (b : Blocks) (first n m : ℕ) → AreBlocksQuiet line0 line1 b first n → m ≤ n →
+    AreBlocksQuiet line0 line1 b first m
+unfolding times
+quiet_less line0 line1 b first n m q le = quiet_later line0 line1 b first n 0 m first q (omega (arith, le)) (omega arith)

@@ -39,7 +39,10 @@ use Rattle.outer_lane.specs.Step.{either, outs_of, outside_of, levels_by, pads_b
 use Rattle.outer_lane.specs.BroughtUp.{blocks_of, blocks_passed, AreBlocksQuiet}
 use Rattle.outer_lane.specs.Rest.{pads_driven}
 use Rattle.outer_lane.specs.Quiet.{seen_in, outer_step, outer_after, held_blocks, quiet_mark, IsQuiet, uart_cycle, uart_word, words_cycle, words_after, IsSettled, IsTimerQuiet, IsUartQuiet, AreWordsQuiet, IsScriptQuiet}
-use Rattle.outer_lane.proofs.Sets.{levels_same}
+use Rattle.outer_lane.specs.declared.blocks.Blocks.{Blocks}
+use Rattle.outer_lane.proofs.BroughtUp.{quiet_less}
+use Rattle.rp_uart.proofs.Passing.{quiet-none}
+use Rattle.io_bank.proofs.Routed.{levels_same}
 
 -- ---- a block beside its bit of RESETS
 
@@ -105,6 +108,14 @@ uart_stays line u cycle n q = record {
   words = λ k le offset.
       ap (uart_word offset) (uart_cycles line u cycle k)
       ∙ ap (unless_held u.held) (kept_by (word_of offset) u.held u.block _ (λ e. (q e).words k le offset));
+}
+
+-- each of them for no cycle
+pub quiet_none : (line0 line1 : Bool) (b : Blocks) (first : ℕ) → AreBlocksQuiet line0 line1 b first 0
+quiet_none line0 line1 b first = record {
+  timer = timer_stays b.timer first 0 (λ e. record { lines = λ k le. let z : k ≡ 0 = omega arith in rw z refl });
+  uart0 = uart_stays line0 b.uart0 first 0 (λ e. quiet-none line0 b.uart0.block);
+  uart1 = uart_stays line1 b.uart1 first 0 (λ e. quiet-none line1 b.uart1.block);
 }
 
 -- ---- the device
@@ -339,26 +350,17 @@ quiet_zero w seen s =
       words = λ k le. ap (λ (x : State). length x.device) (at k le);
     }
 
-uart_less : (line : Bool) (u : Resettable SerialPort) (cycle n m : ℕ) → IsUartQuiet line u cycle n → m ≤ n → IsUartQuiet line u cycle m
-uart_less line u cycle n m q le = record {
-  silent = λ k lt. q.silent k (omega arith);
-  output = λ k lt. q.output k (omega arith);
-  interrupt = λ k lt. q.interrupt k (omega arith);
-  pacing = λ k lt. q.pacing k (omega arith);
-  held = λ k lt. q.held k (omega arith);
-  words = λ k lt. q.words k (omega arith);
-}
-
 -- by the number of cycles that each part is quiet for
 pub least_quiet : (w : Setting) (seen : SeenOutputs) (s : State) (line0 line1 : Bool) (inside script words n : ℕ) →
     line0 ≡ receive_level 0 s.pads → line1 ≡ receive_level 1 s.pads → AreBlocksQuiet line0 line1 (blocks_of s) seen.cycle inside →
     IsScriptQuiet w.script seen.cycle script → AreWordsQuiet w.device s.device seen.cycle s.pads.current words →
     n ≤ inside → n ≤ script → n ≤ words → IsSettled w seen s → IsQuiet w seen s n
 least_quiet w seen s line0 line1 inside script words n e0 e1 q x y li ls lw settled =
+    let b = quiet_less line0 line1 (blocks_of s) seen.cycle inside n q li in
     parts_quiet w seen s n (record {
-      timer_quiet = record { lines = λ k lt. q.timer.lines k (omega arith); held = λ k lt. q.timer.held k (omega arith) };
-      uart0_quiet = subst (λ (line : Bool). IsUartQuiet line s.uart0 seen.cycle n) e0 (uart_less line0 s.uart0 seen.cycle inside n q.uart0 li);
-      uart1_quiet = subst (λ (line : Bool). IsUartQuiet line s.uart1 seen.cycle n) e1 (uart_less line1 s.uart1 seen.cycle inside n q.uart1 li);
+      timer_quiet = b.timer;
+      uart0_quiet = subst (λ (line : Bool). IsUartQuiet line s.uart0 seen.cycle n) e0 b.uart0;
+      uart1_quiet = subst (λ (line : Bool). IsUartQuiet line s.uart1 seen.cycle n) e1 b.uart1;
       words_quiet = record { drives = λ k lt. y.drives k (omega arith); count = λ k lt. y.count k (omega arith) };
       script_quiet = λ k lt. x k (omega arith);
       settled = settled.pads;

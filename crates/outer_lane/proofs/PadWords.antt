@@ -22,4 +22,5 @@ pub none_there : (offset : ℕ) (w : Setting) (seen : SeenOutputs) (o : State) �
 unfolding pads_word
 none_there offset w seen o h =
     ap (unless_held (is_held (PADS_BANK0 + offset) o.pads))
-    (none_above None (λ row n. Some (row.reads n (outs_now w seen o) o.pads)) 0x1079 bank_rows (PADS_BANK0 + offset) refl (above offset h))
+    (none_above None (λ row n. Some (row.reads n (outs_now w seen o) o.pads))
+    0x1079 bank_rows (PADS_BANK0 + offset) refl (above offset h))

@@ -1,13 +1,11 @@
 -- What drives the pads from outside, by sets of pins: that of a script and a device.
-use Rattle.std.proofs.Common.{◌≡◌, ℕ, zero, suc, ◌-◌, ◌^◌, ◌<◌, Bool, true, false, not, ◌&&◌, ◌||◌, eqb, Option, Some, None, if◌then◌else◌, refl, ap, ◌∙◌, arith}
+use Rattle.std.proofs.Common.{◌≡◌, ℕ, zero, suc, ◌-◌, ◌^◌, ◌<◌, Bool, true, false, not, ◌&&◌, ◌||◌, eqb, Some, None, if◌then◌else◌, refl, ap, ◌∙◌, arith}
 use Rattle.std.specs.Prelude.{bit_and, bit_or}
 use Rattle.std.specs.Int.{bit_at, w32}
 use Rattle.std.proofs.lemmas.Nat.Bits.{bit_at_not, bit_at-lt}
 use Rattle.rp_base.specs.Word.{has_bit}
-use Rattle.io_bank.specs.declared.outputs.Outs.{Outs}
-use Rattle.io_bank.specs.State.{State as Bank}
-use Rattle.io_bank.specs.Levels.{by_sets, levels_of, pad_level, control_of, pad_of}
-use Rattle.io_bank.proofs.Bits.{has_and, has_or, bits_below-same}
+use Rattle.io_bank.specs.Levels.{by_sets}
+use Rattle.io_bank.proofs.Bits.{has_and, has_or}
 use Rattle.outer_lane.specs.Step.{either}
 
 -- ---- a script and a device
@@ -44,13 +42,3 @@ pub joined_sets : (d h m l i : ℕ) → d < 2 ^ 32 → i < 32 →
     by_sets (bit_or d m) (bit_or (bit_and h d) (bit_and l (2 ^ 32 - 1 - d))) i ≡ either (by_sets d h i) (by_sets m l i)
 joined_sets d h m l i word lt =
     rw (has_or d m i, high_bit d h l i word lt) (chosen (has_bit d i) (has_bit h i) (has_bit m i) (has_bit l i))
-
--- ---- the levels depend on what is outside at the 30 pins alone
-
-pub levels_same : (outs : Outs) (f g : ℕ → Option Bool) (s : Bank) →
-    ((pin : ℕ) → pin < 30 → f pin ≡ g pin) → levels_of outs f s ≡ levels_of outs g s
-levels_same outs f g s h =
-    bits_below-same
-    (λ pin. pad_level outs (f pin) (control_of s pin) (pad_of s pin) pin)
-    (λ pin. pad_level outs (g pin) (control_of s pin) (pad_of s pin) pin)
-    30 (λ pin lt. ap (λ o. pad_level outs o (control_of s pin) (pad_of s pin) pin) (h pin lt))

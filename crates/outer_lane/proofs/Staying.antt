@@ -17,7 +17,7 @@ use Rattle.outer_lane.specs.BroughtUp.{blocks_of, blocks_stepped}
 use Rattle.outer_lane.specs.Rest.{Stays, outs_by, pads_after, pads_driven, next_driven, marked_driven}
 use Rattle.outer_lane.specs.State.{State}
 use Rattle.outer_lane.specs.Step.{outs_of, outside_of, levels_by, pads_by, next_by, marked_by, byte_of}
-use Rattle.outer_lane.proofs.Sets.{levels_same}
+use Rattle.io_bank.proofs.Routed.{levels_same}
 
 -- ---- an empty script
 

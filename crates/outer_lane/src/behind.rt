@@ -16,8 +16,8 @@ pub struct Behind {
     span: Span,
 }
 
-/// The number of the first cycle that they lie behind, how many cycles these are, for how many from the first one on they are quiet,
-/// and their interrupt lines.
+/// The number of the first cycle that they lie behind, how many cycles these are, for how many from the first one on they are
+/// quiet, and their interrupt lines.
 #[derive(Clone, Copy)]
 pub struct Span {
     pub(crate) first: u64,

@@ -62,8 +62,8 @@ impl Blocks {
         pass_uart(&mut self.uart1, line1, first, n);
     }
 
-    /// As they are before this cycle: they lie none behind; for so many cycles from it on, which end before the last number of a cycle,
-    /// each of them is quiet, where the UARTs hear these levels; and their interrupt lines.
+    /// As they are before this cycle: they lie none behind; for so many cycles from it on, which end before the last number of a
+    /// cycle, each of them is quiet, where the UARTs hear these levels; and their interrupt lines.
     pub(crate) fn span(&self, line0: bool, line1: bool, first: u64) -> Span
         ensures first { result.first ≡ first }
         ensures count { result.count ≡ 0 }

@@ -1,5 +1,6 @@
 use Rattle.std.proofs.Common.{arith}
-use Rattle.outer_lane.proofs.BroughtUp.{quiet_later, quiet_none}
+use Rattle.outer_lane.proofs.BroughtUp.{quiet_later}
+use Rattle.outer_lane.proofs.Cycles.{quiet_none}
 use Rattle.outer_lane.proofs.behind.Behind.quiet.Goals as goal
 
 pub returns-then-cycle-self : goal.returns-then-cycle-self
