@@ -4,7 +4,6 @@ use Rattle.std.specs.Prelude.{◌&&◌, ◌==◌, nat_lt, nat_le, length, drop, 
 use Rattle.std.proofs.Math.Nat.{mul-le-mul_right}
 use Rattle.std.proofs.lemmas.Bool.{leb-true, leb-false}
 use Rattle.rp_base.specs.Word.{bit_number}
-use Rattle.rp_uart.specs.declared.control.Control.{Control}
 use Rattle.rp_uart.specs.declared.control.Divisor.{Divisor}
 use Rattle.rp_uart.specs.declared.frame.LineControl.{LineControl}
 use Rattle.rp_uart.specs.declared.receiver.Errors.{Errors}
@@ -24,7 +23,7 @@ use Rattle.rp_uart.proofs.Frames.{frame_length-sum, level_at-start}
 use Rattle.rp_uart.proofs.Heard.{heard_law, level_at-stop}
 use Rattle.rp_base.proofs.Rows.{either-way}
 use Rattle.rp_uart.proofs.Kept.{next-none, sends-alone, waits-alone, first-by, stored-by}
-use Rattle.rp_uart.proofs.Timing.{bit_time-large, one_more, over-rest, times_of, fewer, Same, same-sending, same-step, same-both, running-as, runs, to_send-received, sender-step, On, goes-on, on-next, level_by}
+use Rattle.rp_uart.proofs.Timing.{bit_time-large, one_more, over-rest, times_of, fewer, Settings, Same, same-sending, same-step, running-as, runs, to_send-received, sender-step, On, goes-on, on-next, level_by}
 
 -- ---- what receiving comes to
 
@@ -108,7 +107,7 @@ loops : (line : Bool) (t : State) → t.control.loopback ≡ true → heard_of l
 loops line t e = rw e refl
 
 loopback-as : (s t : State) → Same s t → s.control.loopback ≡ true → t.control.loopback ≡ true
-loopback-as s t a e = ap (λ (c : Control). c.loopback) a.control ∙ e
+loopback-as s t a e = ap (λ (p : Settings). p.1.1.loopback) a ∙ e
 
 -- ---- at rest
 
@@ -137,7 +136,7 @@ high-level line senders.Idle h = refl
 high-level line (senders.Frame f) h = level_at-stop line f.byte f.bit h
 
 output-high : (s t : State) → Same s t → IsHigh s.line t.sender → output_of t ≡ true
-output-high s t a h = ap (level_of t.sender) a.line ∙ high-level s.line t.sender h
+output-high s t a h = ap (λ (p : Settings). level_of t.sender p.0) a ∙ high-level s.line t.sender h
 
 -- a cycle in which the receiver is told this level, and leaves this
 step-to : (line h : Bool) (t y : State) → is_running t ≡ true → heard_of line t ≡ h → after_receiving h (after_sending t) ≡ y →
@@ -159,7 +158,7 @@ rests-next line byte s t running loopback a =
     loops line t (loopback-as s t a.same loopback) ∙ output-high s t a.same a.high in
     let is : u ≡ after_waiting x = step-to line true t (after_waiting x) on told_high (idle-high x (ap (λ (z : State). z.receiver) (sends-alone t) ∙ a.receiver)) in
     record {
-      same = same-both s t u a.same (same-step line t on);
+      same = same-step line t on ∙ a.same;
       receiver = ap (λ (y : State). y.receiver) is ∙ (ap (λ (z : State). z.receiver) (waits-alone x) ∙ (ap (λ (z : State). z.receiver) (sends-alone t) ∙ a.receiver));
       received = ap (λ (y : State). y.received) is ∙ (ap (λ (z : State). z.received) (waits-alone x) ∙ (ap (λ (z : State). z.received) (sends-alone t) ∙ a.received));
       to_send = to_send-step line t on ∙ silent.to_send;
@@ -254,10 +253,10 @@ module _ (line : Bool) (byte time : ℕ) (s t : State) (running : is_running s �
   lost-x = ap (λ (z : State). z.lost) (sends-alone t) ∙ a.lost
 
   divisor-x : x.divisor ≡ s.divisor
-  divisor-x = (same-sending t).divisor ∙ a.on.same.divisor
+  divisor-x = ap (λ (p : Settings). p.1.0) (same-sending t ∙ a.on.same)
 
   line-x : x.line ≡ s.line
-  line-x = (same-sending t).line ∙ a.on.same.line
+  line-x = ap (λ (p : Settings). p.0) (same-sending t ∙ a.on.same)
 
   abbrev heard : Bool
   heard = heard_of line t
@@ -440,7 +439,7 @@ begins-next line byte s t a b =
     loops line t (loopback-as s t b.on.same a.loops)
     ∙ (level_by s t byte 0 b.on ∙ level_at-start s.line byte (0 / d) zero_bit) in
     let can : can_receive x ≡ true =
-    ap (λ (c : Control). c.enabled && c.receive) ((same-sending t).control ∙ b.on.same.control) ∙ a.receives in
+    ap (λ (p : Settings). p.1.1.enabled && p.1.1.receive) (same-sending t ∙ b.on.same) ∙ a.receives in
     let y = with_receiver (first_heard x) x in
     let is : after_step line t ≡ after_waiting y =
     step-to line false t (after_waiting y) on_t low (idle-low x (ap (λ (z : State). z.receiver) (sends-alone t) ∙ b.receiver) can) in
@@ -452,8 +451,8 @@ begins-next line byte s t a b =
       is =
           ap (λ (z : State). z.receiver) is
           ∙ (ap (λ (z : State). z.receiver) (waits-alone y)
-          ∙ ap (λ (v : Divisor). receivers.Frame (record { samples = 0; bit = 0; elapsed = bit_time v / 2 }))
-          ((same-sending t).divisor ∙ b.on.same.divisor));
+          ∙ ap (λ (p : Settings). receivers.Frame (record { samples = 0; bit = 0; elapsed = bit_time p.1.0 / 2 }))
+          (same-sending t ∙ b.on.same));
       passed = omega arith;
       within = omega arith;
       early = omega arith;

@@ -7,6 +7,7 @@ use Rattle.std.proofs.Math.Nat.{add-mul, mul-le-mul_right, lt_of_mul-lt-mul_righ
 use Rattle.std.proofs.lemmas.Bool.{leb-true, lt-leb, leb-false}
 use Rattle.std.proofs.lemmas.Grind.{common_steps}
 use Rattle.std.proofs.lemmas.Bool.Decides.{nat_tests}
+use Rattle.rp_uart.specs.declared.control.Control.{Control}
 use Rattle.rp_uart.specs.declared.control.Divisor.{Divisor}
 use Rattle.rp_uart.specs.declared.frame.LineControl.{LineControl}
 use Rattle.rp_uart.specs.declared.sender.Sending.{Sending}
@@ -143,40 +144,24 @@ pub runs : (line : Bool) (s : State) → is_running s ≡ true → after_step li
 runs line s e = rw e refl
 
 -- what neither sending nor receiving touches
-pub record Same (s t : State) : Type 0 where
-  pub line : t.line ≡ s.line
-  pub divisor : t.divisor ≡ s.divisor
-  pub control : t.control ≡ s.control
+abbrev pub Settings : Type 0
+Settings = LineControl × (Divisor × Control)
+
+abbrev pub settings : State → Settings
+settings s = (s.line, (s.divisor, s.control))
+
+abbrev pub Same : State → State → Type 0
+Same s t = settings t ≡ settings s
 
 pub same-sending : (s : State) → Same s (after_sending s)
-same-sending s = record {
-  line = ap (λ (t : State). t.line) (sends-alone s);
-  divisor = ap (λ (t : State). t.divisor) (sends-alone s);
-  control = ap (λ (t : State). t.control) (sends-alone s);
-}
-
-same-receiving : (line : Bool) (s : State) → Same s (after_receiving line s)
-same-receiving line s = record {
-  line = ap (λ (t : State). t.line) (hears-alone line s);
-  divisor = ap (λ (t : State). t.divisor) (hears-alone line s);
-  control = ap (λ (t : State). t.control) (hears-alone line s);
-}
-
-pub same-both : (s t u : State) → Same s t → Same t u → Same s u
-same-both s t u a b = record {
-  line = b.line ∙ a.line;
-  divisor = b.divisor ∙ a.divisor;
-  control = b.control ∙ a.control;
-}
+same-sending s = ap settings (sends-alone s)
 
 pub same-step : (line : Bool) (s : State) → is_running s ≡ true → Same s (after_step line s)
 same-step line s e =
-    rw (runs line s e)
-    (same-both s (after_sending s) (after_receiving (heard_of line s) (after_sending s)) (same-sending s)
-    (same-receiving (heard_of line s) (after_sending s)))
+    ap settings (runs line s e ∙ hears-alone (heard_of line s) (after_sending s)) ∙ same-sending s
 
 pub running-as : (s t : State) → Same s t → is_running s ≡ true → is_running t ≡ true
-running-as s t a e = ap (λ (d : Divisor). nat_lt 0 d.integer) a.divisor ∙ e
+running-as s t a e = ap (λ (p : Settings). nat_lt 0 p.1.0.integer) a ∙ e
 
 pub sender-received : (line : Bool) (s : State) → (after_receiving line s).sender ≡ s.sender
 sender-received line s = ap (λ (t : State). t.sender) (hears-alone line s)
@@ -198,15 +183,13 @@ moved : (byte time : ℕ) (d e : ℕ) (x y : Sender) → e ≡ d → y ≡ x →
 moved byte time d e x y p q a = subst (λ (v : ℕ). Sent byte time v y) p (subst (λ (z : Sender). Sent byte time e z) (sym q) a)
 
 pub frame_time-as : (byte : ℕ) (s t : State) → Same s t → frame_time byte t ≡ frame_time byte s
-frame_time-as byte s t a =
-    ap (λ (l : LineControl). frame_length l byte * bit_time t.divisor) a.line
-    ∙ ap (λ (v : Divisor). frame_length s.line byte * bit_time v) a.divisor
+frame_time-as byte s t a = ap (λ (p : Settings). frame_length p.0 byte * bit_time p.1.0) a
 
 pub goes-on : (s t : State) (byte time : ℕ) → is_running s ≡ true → On byte time s t →
     time + 4 < frame_time byte s → Goes byte (time + 4) t (after_sending t)
 goes-on s t byte time runs a early =
     let large : 64 ≤ bit_time t.divisor = bit_time-large t.divisor (running-as s t a.same runs) in
-    let d : bit_time t.divisor ≡ bit_time s.divisor = ap bit_time a.same.divisor in
+    let d : bit_time t.divisor ≡ bit_time s.divisor = ap (λ (p : Settings). bit_time p.1.0) a.same in
     let here : Sent byte time (bit_time t.divisor) t.sender = moved byte time _ _ _ _ (sym d) refl a.sent in
     goes t byte time large here (rw (frame_time-as byte s t a.same) early)
 
@@ -214,9 +197,9 @@ pub on-next : (line : Bool) (s t : State) (byte time : ℕ) → is_running s ≡
     time + 4 < frame_time byte s → On byte (time + 4) s (after_step line t)
 on-next line s t byte time runs a early =
     let running : is_running t ≡ true = running-as s t a.same runs in
-    let d : bit_time t.divisor ≡ bit_time s.divisor = ap bit_time a.same.divisor in
+    let d : bit_time t.divisor ≡ bit_time s.divisor = ap (λ (p : Settings). bit_time p.1.0) a.same in
     record {
-      same = same-both s t (after_step line t) a.same (same-step line t running);
+      same = same-step line t running ∙ a.same;
       sent = moved byte (time + 4) _ _ _ _ d (sender-step line t running) (goes-on s t byte time runs a early).sent;
     }
 
@@ -237,7 +220,7 @@ pub level_by : (s t : State) (byte time : ℕ) → On byte time s t →
     output_of t ≡ level_at s.line byte (time / bit_time s.divisor)
 level_by s t byte time a =
     ap (λ (x : Sender). level_of x t.line) a.sent.is
-    ∙ (ap (λ (l : LineControl). level_at l byte a.sent.bit) a.same.line
+    ∙ (ap (λ (p : Settings). level_at p.0 byte a.sent.bit) a.same
     ∙ ap (level_at s.line byte)
     (sym (times_of a.sent.bit (bit_time s.divisor) a.sent.elapsed time a.sent.passed a.sent.within)))
 
@@ -249,7 +232,7 @@ ends_by : (s t : State) (byte time : ℕ) → is_running s ≡ true → On byte 
 ends_by s t byte time runs a early =
     let running : is_running t ≡ true = running-as s t a.same runs in
     let large : 64 ≤ bit_time t.divisor = bit_time-large t.divisor running in
-    let d : bit_time t.divisor ≡ bit_time s.divisor = ap bit_time a.same.divisor in
+    let d : bit_time t.divisor ≡ bit_time s.divisor = ap (λ (p : Settings). bit_time p.1.0) a.same in
     let total : frame_time byte t ≡ frame_time byte s = frame_time-as byte s t a.same in
     let here : Sent byte time (bit_time t.divisor) t.sender = moved byte time _ _ _ _ (sym d) refl a.sent in
     let sooner : time < frame_time byte t = rw total early in
@@ -263,7 +246,7 @@ ends_by s t byte time runs a early =
 pub a_frame_takes_its_time : AFrameTakesItsTime
 a_frame_takes_its_time s levels byte elapsed n runs begins within early =
     let start : On byte elapsed s s = record {
-      same = record { line = refl; divisor = refl; control = refl };
+      same = refl;
       sent = record { bit = 0; elapsed = elapsed; is = begins; passed = omega arith; within = within };
     } in
     let time = elapsed + 4 * n in
