@@ -289,6 +289,20 @@ core_fewer lines c cycle n m q le = record {
   offer = λ k lt. q.offer k (omega arith);
 }
 
+pub fewer_parts : (w : Setting) (s : State) (n m : ℕ) → ArePartsQuiet w s n → m ≤ n → ArePartsQuiet w s m
+fewer_parts w s n m q le =
+    let limit = q.limit in
+    record {
+      core0 = core_fewer (lines_of 0 s) s.core0 s.cycle n m q.core0 le;
+      core1 = core_fewer (lines_of 1 s) s.core1 s.cycle n m q.core1 le;
+      peripherals = fewer w (begun s).outer s.outer n m q.peripherals le;
+      blocks = fewer_cycles s n m q.blocks le;
+      sio = q.sio;
+      launcher = q.launcher;
+      fabric = q.fabric;
+      limit = omega (arith, limit, le);
+    }
+
 -- the same where the fields are these
 pub parts_by : (w : Setting) (i s : State) (lines0 lines1 a b c d n at to : ℕ) (seen : SeenOutputs) → i ≡ s → AreOthersQuiet s → at ≡ s.cycle → lines0 ≡ lines_of 0 s → lines1 ≡ lines_of 1 s → seen ≡ (begun s).outer → core_quiet.IsQuiet lines0 i.core0 at a → core_quiet.IsQuiet lines1 i.core1 at b → outer_quiet.IsQuiet w seen i.outer c → AreBlocksQuiet s d → n ≤ a → n ≤ b → n ≤ c → n ≤ d → at + n ≤ to → to ≤ w.limit → ArePartsQuiet w s n
 parts_by w i s lines0 lines1 a b c d n at to seen same rest ea e0 e1 es q0 q1 qo blocks la lb lc ld lt ll =

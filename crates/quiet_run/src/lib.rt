@@ -7,7 +7,7 @@
 
 pub mod laws;
 mod onward;
-mod pass;
+pub mod pass;
 pub mod ways;
 
 pub use onward::{Watch, bring_up, room_alone};

@@ -22,7 +22,7 @@ fn are_others_quiet(machine: &Machine) -> bool
 
 /// For so many cycles nobody has anything to do, where there are any; at most up to a cycle.
 #[inline(never)]
-fn quiet<X: Device>(machine: &Machine, world: &World<'_, X>, to: u64) -> u64
+pub fn quiet<X: Device>(machine: &Machine, world: &World<'_, X>, to: u64) -> u64
     requires { to ≤ world.now.limit }
     ensures parts { 0 < result → ArePartsQuiet (setting X.meaning world.now) machine.now result }
     ensures within { 0 < result → machine.now.cycle + result ≤ to }
@@ -77,7 +77,7 @@ fn seen_now<X: Device>(machine: &Machine, world: &World<'_, X>) -> SeenOutputs
 
 /// So many cycles at once, in which nobody has anything to do.
 #[inline(never)]
-fn pass<X: Device>(machine: &mut Machine, world: &World<'_, X>, n: u64)
+pub fn pass<X: Device>(machine: &mut Machine, world: &World<'_, X>, n: u64)
     requires number { machine.old.cycle + n < 2 ^ 64 }
     requires quiet { ArePartsQuiet (setting X.meaning world.now) machine.old n }
     ensures { machine.new ≡ states (setting X.meaning world.now) machine.old n }

@@ -1,8 +1,11 @@
 -- Cycles of a window in which nobody has anything to do: the start answers each lane as the machine does.
-use Rattle.std.proofs.Common.{◌≡◌, ℕ, zero, suc, ◌+◌, ◌<◌, ◌≤◌, inl, inr, ◌||◌, not, Bool, true, false, List, [], ◌∷◌, ◌++◌, refl, sym, ap, subst, ◌∙◌, arith}
+use Rattle.std.proofs.Common.{◌≡◌, ℕ, zero, suc, ◌+◌, ◌-◌, ◌*◌, ◌<◌, ◌≤◌, inl, inr, ◌||◌, ◌&&◌, not, nat_le, if◌then◌else◌, Bool, true, false, List, [], ◌∷◌, ◌++◌, length, refl, sym, ap, subst, ◌∙◌, arith}
+use Rattle.std.proofs.lemmas.Bool.Decides.{leb_tells}
 use Rattle.lane_look.specs.declared.lane.Want.TheVariants as want
 use Rattle.lane_look.specs.declared.marks.Mark.{Mark}
 use Rattle.m0_core.specs.State.{State as Core}
+use Rattle.bus_fabric.specs.State.{has_hold}
+use Rattle.sio_block.specs.Launcher.{offers_of}
 use Rattle.m0_core.proofs.Lasting.{stays_asleep}
 use Rattle.io_bank.specs.State.{State as Bank}
 use Rattle.io_bank.specs.Levels.{inputs_of as inputs_of_pads}
@@ -16,20 +19,23 @@ use Rattle.rp_machine.specs.State.{State}
 use Rattle.rp_machine.specs.Answers.{lines_of, packed_pair, inputs_of}
 use Rattle.rp_machine.specs.Alone.{beside, is_first_alone}
 use Rattle.rp_machine.specs.Copies.{CopiesAgree}
-use Rattle.rp_machine.specs.Cycle.{begun, wanted, mark}
+use Rattle.rp_machine.specs.Cycle.{begun, wanted, mark, pins_of}
 use Rattle.rp_machine.specs.Run.{states}
 use Rattle.rp_machine.proofs.Inward.{outs_on}
+use Rattle.rp_machine.proofs.Joining.{runs_follow}
 use Rattle.rp_machine.proofs.Quietly.{seen_number}
 use Rattle.quiet_run.specs.Parts.{ArePartsQuiet, passed}
-use Rattle.quiet_run.proofs.Passing.{begun_outer, wants_core0, wants_core1, wants_read, wants_write, told, same_lines, same_pacing, states_passed}
+use Rattle.quiet_run.proofs.Passing.{fewer_parts, quiet_cycles, quiet_none, begun_outer, wants_core0, wants_core1, wants_read, wants_write, told, same_lines, same_pacing, states_passed}
 use Rattle.window_merge.specs.declared.notes.Notes.{Notes}
 use Rattle.window_merge.specs.declared.start.Start.{Start}
-use Rattle.window_merge.specs.Notes.{is_clean, noted_by}
+use Rattle.window_merge.specs.Lanes.{is_launching}
+use Rattle.window_merge.specs.Notes.{is_clean, no_notes, noted_by}
 use Rattle.window_merge.specs.Start.{start_of, begun_from, ends_wanted, goes_by, goes_on}
-use Rattle.window_merge.specs.Window.{clash}
+use Rattle.window_merge.specs.Quiet.{AreQuietWindows}
+use Rattle.window_merge.specs.Window.{clash, longest, window_length}
 use Rattle.window_merge.specs.Merging.{wants_of, marks_in}
 use Rattle.window_merge.specs.Inward.{noted_in, same_marks, sees_sram, GoesAsAlone}
-use Rattle.window_merge.proofs.Passing.{both_true, either_true}
+use Rattle.window_merge.proofs.Passing.{First, along_first, both_true, closed_full, either_true}
 use Rattle.window_merge.proofs.Windows.{or_true}
 use Rattle.window_merge.proofs.InwardCycles.{AreAlike, alike_by, reads_none, goes_alike, begun_alike, starts_by, apart_alone, mark_with, marked_same}
 
@@ -41,6 +47,10 @@ pub record IsWaiting (w : Setting) (m : Notes) (s : State) (n : ℕ) : Type 0 wh
 
 at_passed : (w : Setting) (m : Notes) (s : State) (n k : ℕ) → IsWaiting w m s n → k ≤ n → states w s k ≡ passed w s k
 at_passed w m s n k h le = states_passed w s n k h.agree h.parts le
+
+-- so many cycles behind the first i of them
+at_later : (w : Setting) (m : Notes) (s : State) (n i k : ℕ) → IsWaiting w m s n → i + k ≤ n → states w (states w s i) k ≡ passed w s (i + k)
+at_later w m s n i k h le = sym (runs_follow w s i k).state ∙ at_passed w m s n (i + k) h le
 
 -- ---- one of the cycles
 
@@ -88,22 +98,24 @@ mark_waiting w s n k q lt =
 
 -- ---- all of them
 
-pub notes_waiting : (w : Setting) (m : Notes) (s : State) (n k : ℕ) → IsWaiting w m s n → k ≤ n → noted_in w (start_of s) m s k ≡ m
+-- from behind the first i of them on
+notes_waiting : (w : Setting) (m : Notes) (s : State) (n i k : ℕ) → IsWaiting w m s n → i + k ≤ n → noted_in w (start_of s) m (states w s i) k ≡ m
 unfolding noted_in
-notes_waiting w m s n zero h le = refl
-notes_waiting w m s n (suc k) h le =
-    let lt : k < n = omega arith in
-    ap (λ (x : Notes). noted_by (wanted (begun_from (start_of s) x (states w s k))) (states w s k).sram x) (notes_waiting w m s n k h (omega arith))
-    ∙ ap (λ (u : State). noted_by (wanted (begun_from (start_of s) m u)) u.sram m) (at_passed w m s n k h (omega arith))
-    ∙ ap (λ (b : Begun). noted_by (wanted b) (passed w s k).sram m) (begun_alike (start_of s) m (passed w s k) (alike_waiting w m s n k h lt))
-    ∙ ap (λ (xs : List Wanted). noted_by xs (passed w s k).sram m) (wants_none w s n k h.parts lt)
+notes_waiting w m s n i zero h le = refl
+notes_waiting w m s n i (suc k) h le =
+    let lt : i + k < n = omega (arith, le) in
+    let t = states w (states w s i) k in
+    ap (λ (x : Notes). noted_by (wanted (begun_from (start_of s) x t)) t.sram x) (notes_waiting w m s n i k h (omega (arith, le)))
+    ∙ ap (λ (u : State). noted_by (wanted (begun_from (start_of s) m u)) u.sram m) (at_later w m s n i k h (omega (arith, le)))
+    ∙ ap (λ (b : Begun). noted_by (wanted b) (passed w s (i + k)).sram m) (begun_alike (start_of s) m (passed w s (i + k)) (alike_waiting w m s n (i + k) h lt))
+    ∙ ap (λ (xs : List Wanted). noted_by xs (passed w s (i + k)).sram m) (wants_none w s n (i + k) h.parts lt)
 
-waits_as_alone : (w : Setting) (m : Notes) (s : State) (n : ℕ) → IsWaiting w m s n → GoesAsAlone w (start_of s) m s n
-waits_as_alone w m s n h k lt =
-    ap (λ (x : Notes). goes_on (start_of s) x (states w s k)) (notes_waiting w m s n k h (omega arith))
-    ∙ ap (goes_on (start_of s) m) (at_passed w m s n k h (omega arith))
-    ∙ goes_alike (start_of s) m (passed w s k) (alike_waiting w m s n k h lt)
-    ∙ goes_waiting w s n k h.parts lt
+waits_as_alone : (w : Setting) (m : Notes) (s : State) (n i j : ℕ) → IsWaiting w m s n → i + j ≤ n → GoesAsAlone w (start_of s) m (states w s i) j
+waits_as_alone w m s n i j h le k lt =
+    ap (λ (x : Notes). goes_on (start_of s) x (states w (states w s i) k)) (notes_waiting w m s n i k h (omega (arith, le, lt)))
+    ∙ ap (goes_on (start_of s) m) (at_later w m s n i k h (omega (arith, le, lt)))
+    ∙ goes_alike (start_of s) m (passed w s (i + k)) (alike_waiting w m s n (i + k) h (omega (arith, le, lt)))
+    ∙ goes_waiting w s n (i + k) h.parts (omega (arith, le, lt))
 
 -- ---- what the call leaves
 
@@ -114,13 +126,67 @@ pub record HasWaited (w : Setting) (m : Notes) (s : State) (n : ℕ) (marks mark
 
 pub has_waited : (w : Setting) (m : Notes) (s t : State) (n pads : ℕ) (marks marks' : List Mark) → sees_sram m s ≡ true → CopiesAgree s → (0 < n → ArePartsQuiet w s n) → t ≡ states w s n → pads ≡ t.outer.pads.current
     → marks' ≡ marks ++ same_marks n (mark_with pads) → HasWaited w m s n marks marks'
-unfolding noted_in marks_in same_marks
+unfolding states noted_in marks_in same_marks
 has_waited w m s t zero pads marks marks' sees agree parts e_state e_pads e = record { goes = λ k lt. absurd (omega arith); notes = refl; marks_are = e }
 has_waited w m s t (suc n) pads marks marks' sees agree parts e_state e_pads e =
     let h : IsWaiting w m s (suc n) = record { sees = sees; agree = agree; parts = parts (omega arith) } in
     record {
-      goes = waits_as_alone w m s (suc n) h;
-      notes = notes_waiting w m s (suc n) (suc n) h (omega arith);
+      goes = waits_as_alone w m s (suc n) zero (suc n) h (omega arith);
+      notes = notes_waiting w m s (suc n) zero (suc n) h (omega arith);
       marks_are = marked_same w s t (suc n) pads marks marks' (λ k lt. ap (mark w) (at_passed w m s (suc n) k h (omega arith)) ∙ mark_waiting w s (suc n) k h.parts lt)
           (ap (λ (x : State). x.outer.pads.current) (e_state ∙ at_passed w m s (suc n) (suc n) h (omega arith)) ∙ ap (λ (b : Bank). b.current) (h.parts.peripherals.pads (suc n) (omega arith))) e_pads e;
+    }
+
+-- ---- windows of them
+
+-- there is room for a whole window
+whole_by : (left : ℕ) → 256 ≤ left → (if nat_le left 256 then left else 256) ≡ 256
+whole_by left le = elim (leb_tells left 256) [
+  | inl h ↦ let few = h.1 in rw h.0 (omega (arith, few, le))
+  | inr h ↦ rw h.0 refl
+]
+
+calm_by : (asleep offer : Bool) → offer ≡ false → (asleep && offer) ≡ false
+calm_by true offer e = e
+calm_by false offer e = refl
+
+quiet_window : (w : Setting) (s : State) (n i : ℕ) → IsWaiting w no_notes s n → length s.sram ≡ 67584 → i + 256 ≤ n → window_length w (states w s i) ≡ 256
+quiet_window w s n i h long le =
+    let t = states w s i in
+    let at : t ≡ passed w s i = at_passed w no_notes s n i h (omega (arith, le)) in
+    let limit = h.parts.limit in
+    let number : t.cycle ≡ s.cycle + i = ap (λ (x : State). x.cycle) at in
+    let offer : t.core1.offer ≡ s.core1.offer = ap (λ (x : State). x.core1.offer) at ∙ h.parts.core1.offer i (omega (arith, le)) in
+    let sio : t.sio ≡ s.sio = ap (λ (x : State). x.sio) at in
+    let whole : longest w t ≡ 256 = whole_by (w.limit - t.cycle) (omega (arith, limit, number, le)) in
+    let first : First t [] = record {
+      free = ap (λ (x : State). has_hold x.fabric) at ∙ h.parts.fabric;
+      knows = record {
+        pins = ap (λ (x : State). x.outer.sio) at ∙ h.parts.peripherals.sio i (omega (arith, le)) ∙ h.agree.pins ∙ ap pins_of (sym sio);
+        offer = offer ∙ h.agree.offer ∙ ap offers_of (sym sio);
+      };
+      none = refl;
+      long = ap (λ (x : State). length x.sram) at ∙ long;
+    } in
+    let calm : is_launching t.core1 ≡ false = calm_by t.core1.asleep t.core1.offer (offer ∙ h.agree.offer ∙ h.parts.launcher) in
+    let start : start_of t ≡ start_of s = ap start_of at ∙ starts w no_notes s n i h (omega (arith, le)) in
+    let goes : GoesAsAlone w (start_of t) no_notes t 256 = subst (λ (x : Start). GoesAsAlone w x no_notes t 256) (sym start) (waits_as_alone w no_notes s n i 256 h le) in
+    let fits : 256 ≤ longest w t = omega (arith, whole) in
+    sym (closed_full w t 256 _ _ _ _ (along_first w t (start_of t) no_notes 256 _ _ _ first calm fits refl refl goes refl refl refl) (sym whole))
+
+sees_none : (s : State) → sees_sram no_notes s ≡ true
+sees_none s = or_true s.core1.asleep
+
+pub no_window : (w : Setting) (s : State) → AreQuietWindows w s 0
+no_window w s = record { quiet = quiet_none w s; free = λ k lt. absurd (omega (arith, lt)); whole = λ k lt. absurd (omega (arith, lt)) }
+
+-- so many whole windows of the cycles in which nobody has anything to do
+pub quiet_windows : (w : Setting) (s : State) (n windows : ℕ) → CopiesAgree s → length s.sram ≡ 67584 → ArePartsQuiet w s n → 256 * windows ≤ n → AreQuietWindows w s windows
+quiet_windows w s n windows agree long parts le =
+    let all = fewer_parts w s n (256 * windows) parts le in
+    let h : IsWaiting w no_notes s (256 * windows) = record { sees = sees_none s; agree = agree; parts = all } in
+    record {
+      quiet = quiet_cycles w s (256 * windows) agree all;
+      free = λ k lt. ap (λ (x : State). has_hold x.fabric) (at_passed w no_notes s (256 * windows) (256 * k) h (omega (arith, lt))) ∙ parts.fabric;
+      whole = λ k lt. quiet_window w s (256 * windows) (256 * k) h long (omega (arith, lt));
     }

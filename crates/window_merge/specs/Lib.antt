@@ -11,6 +11,7 @@ pub mod Merging
 pub mod Notes
 pub mod Patch
 pub mod Questions
+pub mod Quiet
 pub mod Start
 pub mod Walks
 pub mod Window

@@ -11,6 +11,7 @@ pub mod Ordering
 pub mod Over
 pub mod Pads
 pub mod Passing
+pub mod Quietly
 pub mod Reaching
 pub mod Standing
 pub mod Stepping

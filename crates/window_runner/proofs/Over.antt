@@ -16,7 +16,7 @@ use Rattle.window_runner.proofs.Cycling.{OnItsWay}
 use Rattle.window_runner.proofs.Reaching.{then_on}
 use Rattle.window_runner.proofs.Telling.{taken_same}
 
-no_events_in : (w : Setting) (s : State) (n : ℕ) → ((k : ℕ) → k < n → stop w (states w s k) ≡ None) → ((k : ℕ) → k < n → events w (states w s k) ≡ [])
+pub no_events_in : (w : Setting) (s : State) (n : ℕ) → ((k : ℕ) → k < n → stop w (states w s k) ≡ None) → ((k : ℕ) → k < n → events w (states w s k) ≡ [])
     → events_in w s n ≡ []
 unfolding events_in
 no_events_in w s zero goes silent = refl

@@ -43,7 +43,7 @@ goes_by_cycle w s t old new tried state windows cycles after =
 
 -- ---- the events that are told of it
 
-events_of_window : (w : Setting) (p : Position) → is_tried p.after_empty p.state ≡ true → step_events w p ≡ events_in w p.state (window_length w p.state)
+pub events_of_window : (w : Setting) (p : Position) → is_tried p.after_empty p.state ≡ true → step_events w p ≡ events_in w p.state (window_length w p.state)
 events_of_window w p e = rw e refl
 
 events_of_cycle : (w : Setting) (p : Position) → is_tried p.after_empty p.state ≡ false → step_events w p ≡ events w p.state

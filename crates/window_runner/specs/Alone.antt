@@ -1,5 +1,5 @@
 -- A run that goes by windows: what it answers, and where its machine stands. The project's own.
-use Rattle.std.specs.Prelude.{◌≡◌, ℕ, ◌+◌, ◌-◌, ◌≤◌, List, [], Option, Some, None, Result, Ok, Err}
+use Rattle.std.specs.Prelude.{◌≡◌, ℕ, ◌+◌, ◌-◌, ◌*◌, ◌<◌, ◌≤◌, false, List, [], Option, Some, None, Result, Ok, Err}
 use Rattle.rp_base.specs.declared.Why.{Why}
 use Rattle.outer_lane.specs.Setting.{Setting}
 use Rattle.trace_text.specs.declared.event.Event.{Event as Shown}
@@ -8,6 +8,7 @@ use Rattle.trace_text.specs.Tape.{FailsAmong, Tells}
 use Rattle.rp_machine.specs.State.{State}
 use Rattle.rp_machine.specs.Cycle.{stop}
 use Rattle.rp_machine.specs.Run.{states, events_in, last_state, unless_stopped}
+use Rattle.window_merge.specs.Quiet.{AreQuietWindows, behind_quiet}
 use Rattle.window_merge.specs.Window.{Position, next_position, last_position}
 use Rattle.window_runner.specs.declared.alone.Ran.{Ran}
 use Rattle.window_runner.specs.declared.alone.Counts.{Counts}
@@ -59,3 +60,12 @@ pub record StepsTo {T : Type 0} (took : T → List Shown → T → Type 0) (miss
   pub told : Tells took missed old new faults faults' (all_shown (unless_stopped (stop_in result) [] (step_events w p))) result
   pub counted : q.cycles + p.state.cycle ≤ p.cycles + q.state.cycle
   pub steps : after + p.state.cycle ≡ before + q.state.cycle
+
+-- it went over windows in which nobody has anything to do, some or none
+pub record PassesTo (w : Setting) (p q : Position) (before after : ℕ) : Type 0 where
+  pub windows : ℕ
+  pub quiet : AreQuietWindows w p.state windows
+  pub tried : 0 < windows → p.after_empty ≡ false
+  pub within : p.state.cycle + 256 * windows ≤ w.limit
+  pub position : q ≡ behind_quiet w windows p
+  pub steps : after ≡ before + 256 * windows

@@ -6,17 +6,18 @@ ghost use Rattle.trace_text.specs.Tape.{Tells};
 ghost use Rattle.rp_machine.specs.Cycle.{begun};
 ghost use Rattle.rp_machine.specs.Run.{last_state};
 ghost use Rattle.window_runner.specs.Told.{all_shown, events_by, run_shown};
-ghost use Rattle.window_runner.specs.Alone.{IsRan, IsOnRun, FailsWithin, StepsTo, position_at, stop_in};
+ghost use Rattle.window_runner.specs.Alone.{IsRan, IsOnRun, FailsWithin, PassesTo, StepsTo, position_at, stop_in};
 
 use crate::events::tell_marks;
 use lane_look::{Device, Marks};
 use outer_lane::World;
 use rp_base::Why;
+use rp_machine::begun::Begun;
 use rp_machine::{Machine, Steps, fact_limit_is_bounded};
 use std::sync::ledger::Ledger;
 use trace_text::tape::Tape;
 use trace_text::writer::SinkFault;
-use window_merge::{Crew, Moved, advance};
+use window_merge::{Crew, Moved, advance, pass_windows};
 
 /// What a run came to.
 #[derive(Clone, Copy, PartialEq, Eq)]
@@ -109,6 +110,35 @@ fn step<X: Device, T: Tape, L: Ledger>(
     }
 }
 
+/// Goes over the windows in which nobody has anything to do, of which nothing is told, and counts them. They are looked for behind a window
+/// of 256 cycles.
+#[inline(always)]
+pub(crate) fn pass_quiet<X: Device, L: Ledger>(
+    machine: &mut Machine,
+    world: &World<'_, X>,
+    lanes: &mut Begun,
+    counts: &mut Counts,
+    marks: &Marks,
+    steps: &mut Steps<L>,
+)
+    requires number { machine.old.cycle ≤ world.now.limit }
+    requires begun { lanes.old ≡ begun machine.old }
+    requires windows { counts.old.windows
+        ≤ machine.old.cycle + (if counts.old.after_empty then 1 else 0) }
+    requires cycles { counts.old.cycles ≤ machine.old.cycle }
+    ensures passed { PassesTo (setting X.meaning world.now) (position_at machine.old counts.old)
+        (position_at machine.new counts.new) steps.old steps.new }
+    ensures begun { lanes.new ≡ begun machine.new }
+{
+    fact_limit_is_bounded(world);
+    if counts.after_empty || marks.count() < 256 {
+        return;
+    }
+    let windows = pass_windows(machine, world, lanes, steps);
+    counts.windows += windows;
+    counts.cycles += windows * 256;
+}
+
 /// Runs a machine by windows and single cycles up to its first stop, and tells the events of all its cycles to a tape, on one
 /// thread. Each cycle counts as a step. It uses no job of the crew, and takes no memory.
 ///
@@ -144,7 +174,7 @@ pub fn run_alone<X: Device, T: Tape, L: Ledger>(
     machine.begin_into(world, &mut crew.begun);
     'steps: loop {
         match step(machine, world, crew, &mut counts, &mut marks, tape, steps) {
-            Ok(None) => continue 'steps,
+            Ok(None) => pass_quiet(machine, world, &mut crew.begun, &mut counts, &marks, steps),
             Ok(Some(why)) => {
                 return Ok(Ran {
                     why,

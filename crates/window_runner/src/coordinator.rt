@@ -15,7 +15,7 @@ ghost use Rattle.window_runner.specs.Alone.{StepsTo, position_at};
 ghost use Rattle.window_runner.specs.Seated.{IsSeatAt, IsLed};
 ghost use Rattle.window_runner.specs.Windows.{Leaves};
 
-use crate::alone::{Counts, Ran, count_window, tell_step};
+use crate::alone::{Counts, Ran, count_window, pass_quiet, tell_step};
 use crate::piece::{Found, Piece};
 use crate::sets::{Sets, all_accepted, give_all_back, pieces_of};
 use crate::worker::pass;
@@ -39,9 +39,10 @@ const MOST: u64 = (1 << 62) - 6;
 /// A window of so many cycles is long.
 const LONG: u16 = 128;
 
-/// Behind a window that went over the board so many long ones are made by the coordinator alone. A lane runs for 256 cycles at most, some ten
-/// microseconds; the copies that its job is made of, and two threads that wait for each other, take longer than that.
-const SHARE: u8 = 255;
+/// Behind the first window that goes over the board so many long ones are made by the coordinator alone, and behind each later one twice as
+/// many as before it. A lane runs for 256 cycles at most, some ten microseconds; the copies that its job is made of, and two threads that
+/// wait for each other, take longer than that.
+pub(crate) const APART: u64 = 64;
 
 /// Draws tickets and passes those that are open, and keeps the first one that is not.
 fn help<'w, X: Device, G: Gate>(
@@ -91,7 +92,9 @@ pub(crate) struct Lead<'w, X: Device> {
     pub(crate) kept: Option<Ticket>,
     pub(crate) sets: Box<Sets>,
     /// How many long windows are made here before one goes over the board.
-    pub(crate) left: u8,
+    pub(crate) left: u64,
+    /// How many will be behind that one.
+    pub(crate) apart: u64,
 }
 
 /// Opens six numbers with these pieces, helps, and gathers what was found once all is done.
@@ -182,7 +185,8 @@ fn window_over<'w, X: Device, G: Gate, H: Wait, L: Ledger>(
     ensures ready { IsLed desk.now lead.new }
     ensures begun { lead.new.sets.value.begun ≡ begun machine.new }
 {
-    lead.left = SHARE;
+    lead.left = lead.apart;
+    lead.apart = lead.apart.saturating_mul(2);
     let pieces = pieces_of(machine, desk.world, &mut lead.sets.jobs);
     let found = gather(desk, lead, pieces);
     let Sets { jobs, notes, begun } = &mut *lead.sets;
@@ -322,7 +326,10 @@ pub(crate) fn run<'w, X: Device, G: Gate, H: Wait, T: Tape, L: Ledger>(
     machine.begin_into(desk.world, &mut lead.sets.begun);
     'steps: loop {
         match step(desk, lead, machine, &mut counts, &mut marks, tape, steps) {
-            Ok(None) => continue 'steps,
+            Ok(None) => {
+                let lanes = &mut lead.sets.begun;
+                pass_quiet(machine, desk.world, lanes, &mut counts, &marks, steps);
+            }
             Ok(Some(why)) => {
                 return Ok(Ran {
                     why,

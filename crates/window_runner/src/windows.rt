@@ -11,7 +11,7 @@ ghost use Rattle.window_runner.specs.Seated.{IsReady};
 ghost use Rattle.window_runner.specs.Windows.{answered, OnMemory, OnSink, Leaves};
 
 use crate::alone::Ran;
-use crate::coordinator::{Desk, Lead, run};
+use crate::coordinator::{APART, Desk, Lead, run};
 use crate::piece::{Found, Piece};
 use crate::sets::sets_of;
 use crate::worker::Hall;
@@ -187,6 +187,7 @@ fn run_at<'w, X: Device, G: Gate, T: Tape, L: Ledger, R: Threads + Wait + Sync>(
         kept: None,
         sets,
         left: 0,
+        apart: APART,
     };
     let bench = Bench {
         board,

@@ -1,0 +1,32 @@
+use Rattle.std.proofs.Common.{◌/◌, ◌*◌, ◌<◌, subst, arith}
+use Rattle.outer_lane.specs.Setting.{setting}
+use Rattle.rp_machine.specs.Copies.{CopiesAgree}
+use Rattle.quiet_run.proofs.Passing.{fewer_parts}
+use Rattle.window_merge.proofs.Passing.{no_states}
+use Rattle.window_merge.proofs.WaitingCycles.{no_window, quiet_windows}
+use Rattle.window_merge.proofs.quiet.pass_windows.Goals as goal
+
+pub returns-then-not-is_waiting-clause-state : goal.returns-then-not-is_waiting-clause-state
+returns-then-not-is_waiting-clause-state g c = no_states (setting g.X.Device.meaning c.args.world.now) c.args.machine.now
+
+pub returns-then-not-is_waiting-clause-quiet : goal.returns-then-not-is_waiting-clause-quiet
+returns-then-not-is_waiting-clause-quiet g c = no_window (setting g.X.Device.meaning c.args.world.now) c.args.machine.now
+
+pub returns-then-windows-eq0-clause-state : goal.returns-then-windows-eq0-clause-state
+returns-then-windows-eq0-clause-state g c = no_states (setting g.X.Device.meaning c.args.world.now) c.args.machine.now
+
+pub returns-then-windows-eq0-clause-quiet : goal.returns-then-windows-eq0-clause-quiet
+returns-then-windows-eq0-clause-quiet g c = no_window (setting g.X.Device.meaning c.args.world.now) c.args.machine.now
+
+pub pass-requires-clause-quiet : goal.pass-requires-clause-quiet
+pass-requires-clause-quiet g c κs within =
+    let n = c.quiet-windows.result in
+    let some : 0 < n = let no = c.if-windows-eq0.false in omega (arith, no) in
+    fewer_parts (setting g.X.Device.meaning c.args.world.now) c.args.machine.now n (n / 256 * 256) (c.quiet-windows.ensures.parts some) (omega arith)
+
+pub returns-clause-quiet : goal.returns-clause-quiet
+returns-clause-quiet g c =
+    let n = c.quiet-windows.result in
+    let some : 0 < n = let no = c.if-windows-eq0.false in omega (arith, no) in
+    quiet_windows (setting g.X.Device.meaning c.args.world.now) c.args.machine.now n (n / 256) (subst CopiesAgree c.machine.view_is c.machine.invariant) c.fact_copies_are_known.ensures.sram
+    (c.quiet-windows.ensures.parts some) (omega arith)
