@@ -63,7 +63,7 @@ fn a_generated_program_runs(rt: HostRuntime) -> Result<(), Fail> {
 
 /// A shorter run, of which three windows go over the board.
 const SHORTER: Case = Case {
-    words: &["gen", "1", "--cycles", "140000", "--stats"],
+    words: &["gen", "1", "--cycles", "60000", "--stats"],
     ..NOTHING
 };
 
