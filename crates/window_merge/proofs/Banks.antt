@@ -1,6 +1,6 @@
 -- A spot in SRAM has the index of a word and is in one of the six banks, and is reached through its port.
-use Rattle.std.proofs.Common.{◌≡◌, ℕ, ◌<◌, ◌≤◌, ◌-◌, ◌&&◌, Bool, true, false, nat_le, if◌then◌else◌, inl, inr, List, [], ◌∷◌, refl, arith}
-use Rattle.std.proofs.lemmas.Bool.Decides.{leb_tells}
+use Rattle.std.proofs.Common.{◌≡◌, ℕ, ◌<◌, ◌≤◌, ◌-◌, ◌&&◌, Bool, true, false, nat_le, if◌then◌else◌, List, [], ◌∷◌, refl, arith}
+use Rattle.std.proofs.lemmas.Bool.{leb-true, and_parts}
 use Rattle.rp_base.specs.Map.{Range, place_by, ranges, place_of}
 use Rattle.rp_base.specs.declared.map.Spot.{Spot}
 use Rattle.rp_base.specs.declared.map.Spot.TheVariants as spot
@@ -17,16 +17,6 @@ abbrev AreBanked : List Range → Type 0
 AreBanked [] = Unit {0}
 AreBanked (r ∷ rs) = IsBanked r × AreBanked rs
 
-both : (a b : Bool) → (a && b) ≡ true → b ≡ false → ⊥
-both true b e f = cc
-both false b e f = cc
-
-below : (first last address : ℕ) → (nat_le first address && nat_le address last) ≡ true → address ≤ last
-below first last address e = elim (leb_tells address last) [
-  | inl h ↦ h.1
-  | inr h ↦ absurd (both (nat_le first address) (nat_le address last) e h.0)
-]
-
 either : (c : Bool) (t u : Spot) → (c ≡ true → HasBank t) → HasBank u → HasBank (if c then t else u)
 either true t u p q = p refl
 either false t u p q = q
@@ -34,58 +24,24 @@ either false t u p q = q
 placed : (rs : List Range) (address : ℕ) → AreBanked rs → HasBank (place_by rs address)
 placed [] address h = tt
 placed (r ∷ rs) address h =
-    either (nat_le r.first address && nat_le address r.last) _ _ (λ e. h.0.banked address (below r.first r.last address e)) (placed rs address h.1)
+    either (nat_le r.first address && nat_le address r.last) _ _
+    (λ e. h.0.banked address (leb-true address r.last (and_parts _ _ e).1)) (placed rs address h.1)
+
+-- the ranges in pairs from the right
+infixr 5 ◌&◌
+◌&◌ : {A B : Type 0} → A → B → A × B
+x & y = (x, y)
 
 all_banked : AreBanked ranges
-all_banked = (
-  record { banked = λ a le. (omega (arith, le), omega arith) },
-  (
-    record { banked = λ a le. (omega (arith, le), omega arith) },
-    (
-      record { banked = λ a le. (omega (arith, le), omega arith) },
-      (
-        record { banked = λ a le. (omega (arith, le), omega (arith, le)) },
-        (
-          record { banked = λ a le. tt },
-          (
-            record { banked = λ a le. tt },
-            (
-              record { banked = λ a le. tt },
-              (
-                record { banked = λ a le. tt },
-                (
-                  record { banked = λ a le. tt },
-                  (
-                    record { banked = λ a le. tt },
-                    (
-                      record { banked = λ a le. tt },
-                      (
-                        record { banked = λ a le. tt },
-                        (
-                          record { banked = λ a le. tt },
-                          (
-                            record { banked = λ a le. tt },
-                            (
-                              record { banked = λ a le. tt },
-                              (
-                                record { banked = λ a le. tt },
-                                tt,
-                              ),
-                            ),
-                          ),
-                        ),
-                      ),
-                    ),
-                  ),
-                ),
-              ),
-            ),
-          ),
-        ),
-      ),
-    ),
-  ),
-)
+all_banked =
+    record { banked = λ a le. (omega (arith, le), omega arith) }
+    & record { banked = λ a le. (omega (arith, le), omega arith) }
+    & record { banked = λ a le. (omega (arith, le), omega arith) }
+    & record { banked = λ a le. (omega (arith, le), omega (arith, le)) }
+    & record { banked = λ a le. tt } & record { banked = λ a le. tt } & record { banked = λ a le. tt }
+    & record { banked = λ a le. tt } & record { banked = λ a le. tt } & record { banked = λ a le. tt }
+    & record { banked = λ a le. tt } & record { banked = λ a le. tt } & record { banked = λ a le. tt }
+    & record { banked = λ a le. tt } & record { banked = λ a le. tt } & record { banked = λ a le. tt } & tt
 
 pub has_bank : (address : ℕ) → HasBank (place_of address)
 unfolding place_of

@@ -12,6 +12,7 @@ use Rattle.lane_look.specs.Alone.{Surroundings, surroundings, Alone, all_stored,
 use Rattle.rp_machine.specs.State.{State}
 use Rattle.pio_block.specs.Words as pio
 use Rattle.rp_machine.specs.Answers.{packed_pair, block_lines, lines_of, pacing_of, inputs_of, outs_of, answer_of}
+use Rattle.rp_machine.proofs.Inward.{answered_same}
 use Rattle.window_merge.specs.Lanes.{stored_by, around}
 use Rattle.window_merge.specs.declared.copies.Copies.{Copies}
 use Rattle.window_merge.specs.Around.{copies_of, copied_answer, copied_store, copied}
@@ -20,10 +21,6 @@ use Rattle.window_merge.specs.Jobs.{RanIn}
 use Rattle.lane_look.specs.declared.replay.Report.{Report}
 
 -- ---- two functions that answer the same
-
-pub answered_same : {B : Type 0} (f g : Ask → ℕ) (tree : Asking B) → ((ask : Ask) → f ask ≡ g ask) → answered f tree ≡ answered g tree
-answered_same f g (Ready begun) h = refl
-answered_same {B} f g (Question ask next) h = ap (λ (x : ℕ). answered f (next x)) (h ask) ∙ answered_same f g (next (g ask)) h
 
 pub asked_same : {B : Type 0} (f g : Ask → ℕ) (tree : Asking B) → ((ask : Ask) → f ask ≡ g ask) → asked f tree ≡ asked g tree
 asked_same f g (Ready begun) h = refl
@@ -55,7 +52,7 @@ begun_same : {E F S B V W : Type 0} (m : Meaning E S B) (env : E) (n : Meaning F
     → SameLane m env n env' → Copied a b h → (cycle : ℕ) (s : S) (w : W) → begun_alone m a env cycle s (h w) ≡ begun_alone n b env' cycle s w
 begun_same m env n env' a b h same alike cycle s w =
     ap (answered (a.answer (h w))) (same.asks s cycle)
-    ∙ answered_same (a.answer (h w)) (b.answer w) (n.asks env' s cycle) (alike.answers w)
+    ∙ answered_same (a.answer (h w)) (b.answer w) (alike.answers w) (n.asks env' s cycle)
 
 cycle_same : {E F S B V W : Type 0} (m : Meaning E S B) (env : E) (n : Meaning F S B) (env' : F) (a : Surroundings V) (b : Surroundings W) (h : W → V)
     → SameLane m env n env' → Copied a b h → (cycle : ℕ) (r : Alone S W) → alone_cycle m a env cycle (as_copied h r) ≡ as_copied h (alone_cycle n b env' cycle r)

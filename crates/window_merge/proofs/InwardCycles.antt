@@ -1,9 +1,9 @@
 -- Cycles of a window as long as core 0 alone is at work in SRAM beside lanes that are quiet: the start answers each lane as the machine does.
-use Rattle.std.proofs.Common.{◌≡◌, ℕ, zero, suc, ◌+◌, ◌<◌, ◌≤◌, ◌==◌, ◌||◌, ◌&&◌, nat_eq, not, inl, inr, add-one, Bool, true, false, if◌then◌else◌, List, [], ◌∷◌, ◌++◌, length, length-append, Option, Some, None, refl, sym, ap, subst, ◌∙◌, arith}
+use Rattle.std.proofs.Common.{◌≡◌, ℕ, zero, suc, ◌+◌, ◌<◌, ◌≤◌, ◌==◌, ◌||◌, ◌&&◌, nat_eq, not, inl, inr, add-one, Bool, true, false, if◌then◌else◌, List, [], ◌∷◌, ◌++◌, length, length-append, Option, Some, None, refl, sym, ap, subst, ◌∙◌, below_more, arith}
 use Rattle.std.specs.Prelude.{slice_index}
 use Rattle.std.specs.List.{list_any}
-use Rattle.std.proofs.lemmas.Bool.{eqb-true}
-use Rattle.std.proofs.lemmas.Bool.Decides.{eqb_tells}
+use Rattle.std.proofs.Math.Bool.{or-true, not-not}
+use Rattle.std.proofs.lemmas.Bool.{eqb-true, and_parts, or_cases}
 use Rattle.std.proofs.lemmas.List.{append-nil, append_assoc}
 use Rattle.rp_base.specs.declared.Request.{Request}
 use Rattle.rp_base.specs.declared.Master.TheVariants.{DmaRead}
@@ -52,6 +52,7 @@ use Rattle.rp_machine.specs.Inward.{TellsSame, GoesAlone, StaysInward, core0_wan
 use Rattle.rp_machine.proofs.Going.{fewer_cycles}
 use Rattle.rp_machine.proofs.OneCore.{first_want, wanted_alone}
 use Rattle.rp_machine.proofs.Quietly.{seen_later, seen_number}
+use Rattle.rp_machine.proofs.Wantless.{nothing}
 use Rattle.rp_machine.proofs.Inward.{begun_same, stays_after, lines_on, pacing_on, outs_on, tell_on, stayed, told_both, alone_by, beside_after, core0_goes_on_alone, lines_stay}
 use Rattle.quiet_run.specs.Parts.{MayGoAlone}
 use Rattle.quiet_run.proofs.Passing.{fewer}
@@ -61,23 +62,20 @@ use Rattle.window_merge.specs.Notes.{is_clean, no_notes, noted_by, seen_of, HasR
 use Rattle.window_merge.specs.Start.{start_of, guess, begun_from, differs_from, ends_wanted, goes_by, goes_first, goes_on}
 use Rattle.window_merge.specs.Window.{is_port_of, clash, longest}
 use Rattle.window_merge.specs.Merging.{wants_of, marks_in}
-use Rattle.window_merge.specs.Inward.{noted_in, noted_core0, noted_inward, same_marks, sees_sram, GoesAsAlone, KeepsInward}
+use Rattle.window_merge.specs.Inward.{noted_in, noted_core0, noted_inward, same_marks, sees_sram, GoesAsAlone, GoneOver}
+use Rattle.window_merge.specs.Inward.{KeepsInward}
 use Rattle.window_merge.proofs.Agree.{itself}
+use Rattle.window_merge.proofs.Lanes.{tree, Each, every, on_each}
+use Rattle.window_merge.proofs.Later.{same_begun}
 use Rattle.window_merge.specs.Lanes.{is_launching}
-use Rattle.window_merge.proofs.Passing.{both_true, either_true, room_on, First, passes_first}
-use Rattle.window_merge.proofs.Windows.{or_true}
-use Rattle.window_merge.proofs.Starting.{HasLines, lines0, lines1, lines2, lines3, lines4, lines5, guess_is}
+use Rattle.window_merge.proofs.Passing.{room_on, First, passes_none, passes_later}
+use Rattle.window_merge.proofs.Starting.{guess_is}
 
 -- ---- what is asked is answered alike
 
 abbrev pub AsksAlike : {B : Type 0} → (Ask → ℕ) → (Ask → ℕ) → Asking B → Type 0
 AsksAlike f g (Ready begun) = Unit {0}
 AsksAlike f g (Question question next) = (f question ≡ g question) × ((x : ℕ) → AsksAlike f g (next x))
-
-begins_alike : {B : Type 0} (f g : Ask → ℕ) (tree : Asking B) → AsksAlike f g tree → answered f tree ≡ answered g tree
-begins_alike f g (Ready begun) h = refl
-begins_alike {B} f g (Question question next) h =
-    ap (λ (x : ℕ). answered f (next x)) h.0 ∙ begins_alike f g (next (g question)) (h.1 (g question))
 
 never_differs : {B : Type 0} (f g : Ask → ℕ) (tree : Asking B) → AsksAlike f g tree → differs g (asked f tree) ≡ false
 never_differs f g (Ready begun) h = refl
@@ -156,79 +154,60 @@ dma_asks_alike f g s none e = either_way f g (list_any waits_for_counts s.channe
 
 -- ---- six lanes
 
-pub record AreAlike (start : Start) (notes : Notes) (s : State) : Type 0 where
-  pub core0 : AsksAlike (guess 0 start (seen_of 0 notes s.sram)) (answer_of 0 s) (core_asks.asks s.core0 s.cycle)
-  pub core1 : AsksAlike (guess 1 start (seen_of 1 notes s.sram)) (answer_of 1 s) (core_asks.asks s.core1 s.cycle)
-  pub dma : AsksAlike (guess 2 start (seen_of 2 notes s.sram)) (answer_of 2 s) (dma_asks.asks s.dma.block)
-  pub pio0 : AsksAlike (guess 3 start (seen_of 3 notes s.sram)) (answer_of 3 s) (pio.asks s.pio0.block)
-  pub pio1 : AsksAlike (guess 4 start (seen_of 4 notes s.sram)) (answer_of 4 s) (pio.asks s.pio1.block)
-  pub outer : AsksAlike (guess 5 start (seen_of 5 notes s.sram)) (answer_of 5 s) (outer.asks s.outer s.cycle)
+abbrev pub AreAlike : Setting → Start → Notes → State → Type 0
+AreAlike w start notes s =
+    Each w (λ S B l. AsksAlike (guess l.number start (seen_of l.number notes s.sram)) (answer_of l.number s) (tree l s))
 
-pub begun_alike : (start : Start) (notes : Notes) (s : State) → AreAlike start notes s → begun_from start notes s ≡ begun s
-unfolding begun
-begun_alike start notes s h =
-    rw (
-      begins_alike _ _ _ h.core0,
-      begins_alike _ _ _ h.core1,
-      begins_alike _ _ _ h.dma,
-      begins_alike _ _ _ h.pio0,
-      begins_alike _ _ _ h.pio1,
-      begins_alike _ _ _ h.outer,
-    ) refl
+differs_none : (w : Setting) (start : Start) (notes : Notes) (s : State) → AreAlike w start notes s
+    → differs_from start notes s ≡ false
+differs_none w start notes s h =
+    let e : Each w (λ S B l. differs (answer_of l.number s) (asked (guess l.number start (seen_of l.number notes s.sram))
+    (tree l s)) ≡ false) =
+    on_each h (every (λ S B l h. never_differs _ _ (tree l s) h)) in
+    rw (e.core0, e.core1, e.dma, e.pio0, e.pio1, e.outer) refl
 
-differs_none : (start : Start) (notes : Notes) (s : State) → AreAlike start notes s → differs_from start notes s ≡ false
-differs_none start notes s h =
-    rw (
-      never_differs _ _ _ h.core0,
-      never_differs _ _ _ h.core1,
-      never_differs _ _ _ h.dma,
-      never_differs _ _ _ h.pio0,
-      never_differs _ _ _ h.pio1,
-      never_differs _ _ _ h.outer,
-    ) refl
+pub begun_alike : (w : Setting) (start : Start) (notes : Notes) (s : State) → AreAlike w start notes s
+    → begun_from start notes s ≡ begun s
+begun_alike w start notes s h = sym (same_begun start notes s (differs_none w start notes s h))
 
-not_not : (c : Bool) → not (false || not c) ≡ c
-not_not true = refl
-not_not false = refl
+pub goes_alike : (w : Setting) (start : Start) (notes : Notes) (s : State) → AreAlike w start notes s
+    → goes_on start notes s ≡ goes_by (begun s)
+goes_alike w start notes s h =
+    ap (λ (d : Bool). not (d || not (goes_by (begun_from start notes s)))) (differs_none w start notes s h)
+    ∙ not-not (goes_by (begun_from start notes s)) ∙ ap goes_by (begun_alike w start notes s h)
 
-pub goes_alike : (start : Start) (notes : Notes) (s : State) → AreAlike start notes s → goes_on start notes s ≡ goes_by (begun s)
-goes_alike start notes s h =
-    ap (λ (d : Bool). not (d || not (goes_by (begun_from start notes s)))) (differs_none start notes s h)
-    ∙ not_not (goes_by (begun_from start notes s)) ∙ ap goes_by (begun_alike start notes s h)
-
--- in the first cycle
-pub alike_first : (s : State) → AreAlike (start_of s) no_notes s
-alike_first s = record {
-  core0 = all_asked _ _ _ (λ q. guess_is 0 s (seen_of 0 no_notes s.sram) s.sram q (lines0 s) (λ i lt. refl));
-  core1 = all_asked _ _ _ (λ q. guess_is 1 s (seen_of 1 no_notes s.sram) s.sram q (lines1 s) (λ i lt. refl));
-  dma = all_asked _ _ _ (λ q. guess_is 2 s (seen_of 2 no_notes s.sram) s.sram q (lines2 s) (λ i lt. refl));
-  pio0 = all_asked _ _ _ (λ q. guess_is 3 s (seen_of 3 no_notes s.sram) s.sram q (lines3 s) (λ i lt. refl));
-  pio1 = all_asked _ _ _ (λ q. guess_is 4 s (seen_of 4 no_notes s.sram) s.sram q (lines4 s) (λ i lt. refl));
-  outer = all_asked _ _ _ (λ q. guess_is 5 s (seen_of 5 no_notes s.sram) s.sram q (lines5 s) (λ i lt. refl));
-}
-
-pub goes_first_on : (s : State) → goes_on (start_of s) no_notes s ≡ goes_first s
-goes_first_on s = goes_alike (start_of s) no_notes s (alike_first s)
-
--- where the cores that are awake see SRAM as it is, and the DMA engine reads nothing
 sees_clean : (lane : ℕ) (notes : Notes) (sram : List ℕ) (i : ℕ) → is_clean lane notes ≡ true → seen_of lane notes sram i ≡ slice_index sram i
 sees_clean lane notes sram i e = rw e refl
 
-pub alike_by : (notes : Notes) (s : State) → sees_sram notes s ≡ true → next_request s.dma.block ≡ None → AreAlike (start_of s) notes s
-alike_by notes s sees none =
-    let same : (lane : ℕ) (question : Ask) → HasLines lane s → guess lane (start_of s) (slice_index s.sram) question ≡ answer_of lane s question =
-    λ lane question lines. guess_is lane s (slice_index s.sram) s.sram question lines (λ i lt. refl) in
-    let both = both_true (is_clean 0 notes) (s.core1.asleep || is_clean 1 notes) sees in
+-- in the first cycle
+clean_first : (lane : ℕ) → is_clean lane no_notes ≡ true
+clean_first lane = rw (or-true (lane == 0), or-true (lane == 1), or-true (lane == 2)) refl
+
+pub alike_first : (w : Setting) (s : State) → AreAlike w (start_of s) no_notes s
+alike_first w s = every (λ S B l. all_asked _ _ _ (λ q. guess_is l.number s (seen_of l.number no_notes s.sram) s.sram q
+    (λ i lt. sees_clean l.number no_notes s.sram i (clean_first l.number))))
+
+pub goes_first_on : (w : Setting) (s : State) → goes_on (start_of s) no_notes s ≡ goes_first s
+goes_first_on w s = goes_alike w (start_of s) no_notes s (alike_first w s)
+
+-- where the cores that are awake see SRAM as it is, and the DMA engine reads nothing
+pub alike_by : (w : Setting) (notes : Notes) (s : State) → sees_sram notes s ≡ true → next_request s.dma.block ≡ None
+    → AreAlike w (start_of s) notes s
+alike_by w notes s sees none =
+    let same : (lane : ℕ) (question : Ask) → guess lane (start_of s) (slice_index s.sram) question ≡ answer_of lane s question =
+    λ lane question. guess_is lane s (slice_index s.sram) s.sram question (λ i lt. refl) in
+    let both = and_parts (is_clean 0 notes) (s.core1.asleep || is_clean 1 notes) sees in
     record {
-      core0 = all_asked _ _ _ (λ q. guess_is 0 s (seen_of 0 notes s.sram) s.sram q (lines0 s) (λ i lt. sees_clean 0 notes s.sram i both.0));
-      core1 = elim (either_true s.core1.asleep (is_clean 1 notes) both.1) [
+      core0 = all_asked _ _ _ (λ q. guess_is 0 s (seen_of 0 notes s.sram) s.sram q (λ i lt. sees_clean 0 notes s.sram i both.0));
+      core1 = elim (or_cases s.core1.asleep (is_clean 1 notes) both.1) [
         | inl asleep ↦ asleep_asks _ _ s.core1 s.cycle asleep
-        | inr clean ↦ all_asked _ _ _ (λ q. guess_is 1 s (seen_of 1 notes s.sram) s.sram q (lines1 s) (λ i lt. sees_clean 1 notes s.sram i clean))
+        | inr clean ↦ all_asked _ _ _ (λ q. guess_is 1 s (seen_of 1 notes s.sram) s.sram q
+            (λ i lt. sees_clean 1 notes s.sram i clean))
       ];
-      dma = dma_asks_alike _ _ s.dma.block none (same 2 ask.Pacing (lines2 s));
-      pio0 = pio_asks _ _ s.pio0.block (same 3 ask.Inputs (lines3 s));
-      pio1 = pio_asks _ _ s.pio1.block (same 4 ask.Inputs (lines4 s));
-      outer = outer_asks _ _ s.outer s.cycle (same 5 (ask.Outs 0) (lines5 s)) (same 5 (ask.Outs 1) (lines5 s));
+      dma = dma_asks_alike _ _ s.dma.block none (same 2 ask.Pacing);
+      pio0 = pio_asks _ _ s.pio0.block (same 3 ask.Inputs);
+      pio1 = pio_asks _ _ s.pio1.block (same 4 ask.Inputs);
+      outer = outer_asks _ _ s.outer s.cycle (same 5 (ask.Outs 0)) (same 5 (ask.Outs 1));
     }
 
 -- ---- core 0 alone wants anything
@@ -240,13 +219,6 @@ no_port (Some access) = refl
 clash_none : (v : Want) → clash (v ∷ want.Nothing ∷ want.Nothing ∷ want.Nothing ∷ want.Nothing ∷ want.Nothing ∷ want.Nothing ∷ want.Nothing ∷ want.Nothing ∷ want.Nothing ∷ want.Nothing ∷ want.Nothing ∷ []) ≡ false
 unfolding asked_of
 clash_none v = rw (no_port (asked_of v)) refl
-
-nothing_wanted : (x : Want) → is_nothing x ≡ true → x ≡ want.Nothing
-nothing_wanted want.Nothing e = refl
-nothing_wanted (want.Ram request) e = absurd (cc e)
-nothing_wanted (want.Outward request) e = absurd (cc e)
-nothing_wanted want.Signal e = absurd (cc e)
-nothing_wanted (want.Stopped cause) e = absurd (cc e)
 
 -- those of core 0, core 1 and the DMA engine
 abbrev wants_with : Want → Want → Want → Want → List Want
@@ -260,12 +232,12 @@ apart_alone b e =
     let v = core.want_of b.core0 in
     let read = dma.want_of b.dma.read in
     let write = dma.want_of b.dma.write in
-    let core1 = both_true (is_nothing (core.want_of b.core1)) _ e in
-    let reads = both_true (is_nothing read) _ core1.1 in
-    let writes = both_true (is_nothing write) true reads.1 in
-    ap (λ (x : Want). clash (wants_with v x read write)) (nothing_wanted _ core1.0)
-    ∙ ap (λ (x : Want). clash (wants_with v want.Nothing x write)) (nothing_wanted read reads.0)
-    ∙ ap (λ (x : Want). clash (wants_with v want.Nothing want.Nothing x)) (nothing_wanted write writes.0)
+    let core1 = and_parts (is_nothing (core.want_of b.core1)) _ e in
+    let reads = and_parts (is_nothing read) _ core1.1 in
+    let writes = and_parts (is_nothing write) true reads.1 in
+    ap (λ (x : Want). clash (wants_with v x read write)) (nothing _ core1.0)
+    ∙ ap (λ (x : Want). clash (wants_with v want.Nothing x write)) (nothing read reads.0)
+    ∙ ap (λ (x : Want). clash (wants_with v want.Nothing want.Nothing x)) (nothing write writes.0)
     ∙ clash_none v
 
 pub goes_first_alone : (b : Begun) (xs : List Wanted) (ends alone : Bool) → xs ≡ wanted b → ends ≡ ends_wanted xs → ends ≡ false → alone ≡ is_first_alone xs → alone ≡ true → alone ≡ goes_by b
@@ -324,11 +296,11 @@ starts_by a b e0 e1 e2 e3 e4 e5 = rw (← e0, ← e1, ← e2, ← e3, ← e4, �
 pub same_start : (a b : Start)
     → ((a.lines0 == b.lines0) && ((a.lines1 == b.lines1) && ((a.pacing == b.pacing) && ((a.inputs == b.inputs) && ((a.pio0 == b.pio0) && (a.pio1 == b.pio1)))))) ≡ true → a ≡ b
 same_start a b e =
-    let p0 = both_true (a.lines0 == b.lines0) _ e in
-    let p1 = both_true (a.lines1 == b.lines1) _ p0.1 in
-    let p2 = both_true (a.pacing == b.pacing) _ p1.1 in
-    let p3 = both_true (a.inputs == b.inputs) _ p2.1 in
-    let p4 = both_true (a.pio0 == b.pio0) (a.pio1 == b.pio1) p3.1 in
+    let p0 = and_parts (a.lines0 == b.lines0) _ e in
+    let p1 = and_parts (a.lines1 == b.lines1) _ p0.1 in
+    let p2 = and_parts (a.pacing == b.pacing) _ p1.1 in
+    let p3 = and_parts (a.inputs == b.inputs) _ p2.1 in
+    let p4 = and_parts (a.pio0 == b.pio0) (a.pio1 == b.pio1) p3.1 in
     starts_by a b (eqb-true _ _ p0.0) (eqb-true _ _ p1.0) (eqb-true _ _ p2.0) (eqb-true _ _ p3.0) (eqb-true _ _ p4.0) (eqb-true _ _ p4.1)
 
 stands_onward : (w : Setting) (m : Notes) (s : State) (n k : ℕ) → IsOnward w m s n → k < n → StandsOnward w s k
@@ -378,13 +350,15 @@ own_notes m s (suc k) = own_notes m s k
 sees_onward : (w : Setting) (m : Notes) (s : State) (n k : ℕ) → IsOnward w m s n → k < n → sees_sram (noted_inward m k s) (onward_after w s k) ≡ true
 sees_onward w m s n k h lt =
     let own = own_notes m s k in
-    let sees = both_true (is_clean 0 m) (s.core1.asleep || is_clean 1 m) h.sees in
+    let sees = and_parts (is_clean 0 m) (s.core1.asleep || is_clean 1 m) h.sees in
     rw (own.0, own.1, (stands_onward w m s n k h lt).asleep) (rw sees.0 refl)
 
-alike_onward : (w : Setting) (m : Notes) (s : State) (n k : ℕ) → IsOnward w m s n → k < n → AreAlike (start_of s) (noted_inward m k s) (onward_after w s k)
+alike_onward : (w : Setting) (m : Notes) (s : State) (n k : ℕ) → IsOnward w m s n → k < n → AreAlike w (start_of s)
+    (noted_inward m k s) (onward_after w s k)
 alike_onward w m s n k h lt =
     let x = stands_onward w m s n k h lt in
-    subst (λ (start : Start). AreAlike start (noted_inward m k s) (onward_after w s k)) x.start (alike_by (noted_inward m k s) (onward_after w s k) (sees_onward w m s n k h lt) x.reads)
+    subst (λ (start : Start). AreAlike w start (noted_inward m k s) (onward_after w s k)) x.start
+    (alike_by w (noted_inward m k s) (onward_after w s k) (sees_onward w m s n k h lt) x.reads)
 
 begun_onward : (w : Setting) (m : Notes) (s : State) (n k : ℕ) (notes : Notes) (now : State) → IsOnward w m s n → k < n → notes ≡ noted_inward m k s → now ≡ onward_after w s k
     → wanted (begun_from (start_of s) notes now) ≡ beside (core0_want (inward_after k s))
@@ -392,7 +366,7 @@ begun_onward w m s n k notes now h lt en es =
     let x = stands_onward w m s n k h lt in
     ap (λ (m : Notes). wanted (begun_from (start_of s) m now)) en
     ∙ ap (λ (u : State). wanted (begun_from (start_of s) (noted_inward m k s) u)) es
-    ∙ ap wanted (begun_alike (start_of s) (noted_inward m k s) (onward_after w s k) (alike_onward w m s n k h lt))
+    ∙ ap wanted (begun_alike w (start_of s) (noted_inward m k s) (onward_after w s k) (alike_onward w m s n k h lt))
     ∙ wanted_alone (onward_after w s k) (blocks_after (suc k) s) x.alone
     ∙ ap beside x.wants
 
@@ -414,7 +388,7 @@ goes_as_alone w m s n h k lt =
     let u = onward_after w s k in
     ap (λ (m : Notes). goes_on (start_of s) m (states w s k)) (notes_onward w m s n k h (omega arith))
     ∙ ap (goes_on (start_of s) (noted_inward m k s)) (at_onward w m s n k h (omega arith))
-    ∙ goes_alike (start_of s) (noted_inward m k s) u (alike_onward w m s n k h lt)
+    ∙ goes_alike w (start_of s) (noted_inward m k s) u (alike_onward w m s n k h lt)
     ∙ goes_by_alone u (blocks_after (suc k) s) x.alone (ap ends_want x.wants ∙ h.keeps k lt)
 
 -- cycles that leave the same mark
@@ -447,10 +421,8 @@ pub keeps_none : (s : State) → KeepsInward s 0
 keeps_none s k lt = absurd (omega arith)
 
 pub keeps_on : (s t : State) (n : ℕ) → KeepsInward s n → t ≡ inward_after n s → ends_want (core0_want t) ≡ false → KeepsInward s (n + 1)
-keeps_on s t n h e ends k lt = elim (eqb_tells k n) [
-  | inl same ↦ ap (λ (m : ℕ). ends_want (core0_want (inward_after m s))) same.1 ∙ ap (λ (x : State). ends_want (core0_want x)) (sym e) ∙ ends
-  | inr other ↦ h k (let ne = other.1 in omega (arith, ne))
-]
+keeps_on s t n h e ends = below_more (λ k. ends_want (core0_want (inward_after k s)) ≡ false) n h
+    (ap (λ (x : State). ends_want (core0_want x)) (sym e) ∙ ends)
 
 pub noted_on : (m : Notes) (s t : State) (n : ℕ) (notes notes' : Notes) → notes ≡ noted_inward m n s → t ≡ inward_after n s → notes' ≡ noted_core0 (core0_want t) t.sram notes → notes' ≡ noted_inward m (n + 1) s
 unfolding noted_inward
@@ -490,14 +462,6 @@ same_more mark k first marks marks' h e = record {
 
 -- ---- what the calls leave
 
-pub no_noted : (w : Setting) (start : Start) (m : Notes) (s : State) → m ≡ noted_in w start m s 0
-unfolding noted_in
-no_noted w start m s = refl
-
-pub none_marked : (w : Setting) (s : State) (marks : List Mark) → marks ≡ marks ++ marks_in w s 0
-unfolding marks_in
-none_marked w s marks = sym (append-nil marks)
-
 pub is_onward : (w : Setting) (m : Notes) (s : State) (seen : SeenOutputs) (most done : ℕ) → sees_sram m s ≡ true → MayGoAlone w seen s most → done ≤ most → StaysInward s done → KeepsInward s done → IsOnward w m s done
 is_onward w m s seen most done sees h le inward keeps =
     let limit = h.limit in
@@ -516,51 +480,56 @@ is_onward w m s seen most done sees h le inward keeps =
 
 -- at the start of a window each core sees SRAM as it is, and there is room
 pub sees_first : (s : State) (notes : Notes) → notes ≡ no_notes → sees_sram notes s ≡ true
-sees_first s notes e = rw e (or_true s.core1.asleep)
+sees_first s notes e = rw e (or-true s.core1.asleep)
 
--- nothing has changed
-pub record IsBack (m : Notes) (s i : State) (notes : Notes) (marks : List Mark) : Type 0 where
+-- where no cycle was gone over nothing has changed
+pub record IsBack (m : Notes) (s i : State) (marks : List Mark) (notes : Notes) (marks' : List Mark) : Type 0 where
   pub state : i ≡ s
-  pub notes_are : notes ≡ m
-  pub marks_are : marks ≡ []
+  pub noted : notes ≡ m
+  pub marked : marks' ≡ marks
 
-pub is_back : (w : Setting) (m : Notes) (s i : State) (done : ℕ) (notes : Notes) (marks marks' : List Mark) → done ≡ 0 → marks ≡ [] → i ≡ states w s done → notes ≡ noted_in w (start_of s) m s done → marks' ≡ marks ++ marks_in w s done
-    → IsBack m s i notes marks'
+pub is_back : {w : Setting} {start : Start} {m : Notes} {s i : State} {n : ℕ} {notes : Notes} {marks marks' : List Mark}
+    → GoneOver w start s m marks n i notes marks' → n ≡ 0 → IsBack m s i marks notes marks'
 unfolding states noted_in marks_in
-is_back w m s i zero notes marks marks' back none e_state e_notes e_marks = record { state = e_state; notes_are = e_notes; marks_are = e_marks ∙ append-nil marks ∙ none }
-is_back w m s i (suc done) notes marks marks' back none e_state e_notes e_marks = absurd (omega (arith, back))
+is_back {w} {start} {m} {s} {i} {n} {notes} {marks} {marks'} h none =
+    let gone : GoneOver w start s m marks 0 i notes marks' = rw none at h in
+    record { state = gone.state; noted = gone.noted; marked = gone.marked ∙ append-nil marks }
 
 pub room_none : (notes : Notes) (more : ℕ) → notes ≡ no_notes → more ≤ 1024 → HasRoom notes more
 room_none notes more e le =
     subst (λ (n : Notes). HasRoom n more) (sym e) (record { originals = omega (arith, le); core0 = omega (arith, le); core1 = omega (arith, le); dma = omega (arith, le) })
 
--- it goes
-pub record HasBegunOne (w : Setting) (m : Notes) (s now : State) (notes : Notes) (marks : List Mark) : Type 0 where
-  pub state : now ≡ states w s 1
-  pub goes : GoesAsAlone w (start_of s) m s 1
-  pub notes_are : notes ≡ noted_in w (start_of s) m s 1
-  pub marks_are : marks ≡ marks_in w s 1
-
 noted_one : (w : Setting) (s : State) → noted_by (wanted (begun s)) s.sram no_notes ≡ noted_in w (start_of s) no_notes s 1
 unfolding noted_in states
-noted_one w s = ap (λ (b : Begun). noted_by (wanted b) s.sram no_notes) (sym (begun_alike (start_of s) no_notes s (alike_first s)))
+noted_one w s = ap (λ (b : Begun). noted_by (wanted b) s.sram no_notes)
+    (sym (begun_alike w (start_of s) no_notes s (alike_first w s)))
 
 goes_one : (w : Setting) (s : State) → goes_first s ≡ true → GoesAsAlone w (start_of s) no_notes s 1
 unfolding noted_in states
-goes_one w s goes zero lt = goes_first_on s ∙ goes
+goes_one w s goes zero lt = goes_first_on w s ∙ goes
 goes_one w s goes (suc k) lt = absurd (omega arith)
 
-pub begun_one : (w : Setting) (m : Notes) (s i : State) (notes : Notes) (marks : List Mark) (b : Begun) (now' : State) (notes' : Notes) (marks' : List Mark) → m ≡ no_notes → First s [] → is_launching s.core1 ≡ false → 0 < longest w s → goes_first s ≡ true
-    → IsBack m s i notes marks → b ≡ begun s → now' ≡ next_by w b (wanted b) i → notes' ≡ noted_by (wanted b) i.sram notes → marks' ≡ marks ++ outer.marked w i.outer b.outer ∷ [] → HasBegunOne w m s now' notes' marks'
-begun_one w m s i notes marks b now' notes' marks' none first calm lt goes back e_begun e_now e_notes e_marks =
-    let noted : notes' ≡ noted_by (wanted (begun s)) s.sram no_notes = e_notes ∙ rw (back.state, back.notes_are, none, e_begun) refl in
-    let p = passes_first w s (start_of s) [] true now' notes' marks' first calm lt (sym goes) refl refl
-    (e_now ∙ rw (back.state, e_begun) refl)
-    (e_marks ∙ rw (back.marks_are, back.state, e_begun) refl)
-    noted in
-    record {
+-- and the first cycle goes
+pub begun_one : (w : Setting) (m : Notes) (s i : State) (notes : Notes) (marks before : List Mark) (b : Begun) (now' : State)
+    (notes' : Notes) (marks' : List Mark) → First s → IsBack m s i before notes marks → m ≡ no_notes → before ≡ []
+    → is_launching s.core1 ≡ false → 0 < longest w s → goes_first s ≡ true → b ≡ begun s → now' ≡ next_by w b (wanted b) i
+    → notes' ≡ noted_by (wanted b) i.sram notes → marks' ≡ marks ++ outer.marked w i.outer b.outer ∷ []
+    → GoneOver w (start_of s) s m before 1 now' notes' marks'
+begun_one w m s i notes marks before b now' notes' marks' first back none e_before calm lt goes e_begun e_now e_notes e_marks =
+    let start = start_of s in
+    let here : begun_from start no_notes s ≡ begun s = begun_alike w start no_notes s (alike_first w s) in
+    let is_now : now' ≡ next_by w (begun s) (wanted (begun s)) s = e_now ∙ rw (back.state, e_begun) refl in
+    let marked : marks' ≡ outer.marked w s.outer (begun s).outer ∷ [] =
+    e_marks ∙ rw (back.marked, back.state, e_before, e_begun) refl in
+    let noted : notes' ≡ noted_by (wanted (begun s)) s.sram no_notes =
+    e_notes ∙ rw (back.state, back.noted, none, e_begun) refl in
+    let p = passes_later w s 0 s start no_notes [] true now' notes' marks' (passes_none w s first) calm lt
+    (sym (goes_first_on w s ∙ goes)) refl (is_now ∙ ap (λ (x : Begun). next_by w x (wanted x) s) (sym here))
+    (marked ∙ ap (λ (x : Begun). outer.marked w s.outer x.outer ∷ []) (sym here))
+    (noted ∙ ap (λ (x : Begun). noted_by (wanted x) s.sram no_notes) (sym here)) in
+    rw (none, e_before) (record {
       state = p.stands.is_states;
-      goes = subst (λ (n : Notes). GoesAsAlone w (start_of s) n s 1) (sym none) (goes_one w s goes);
-      notes_are = noted ∙ noted_one w s ∙ ap (λ (n : Notes). noted_in w (start_of s) n s 1) (sym none);
-      marks_are = p.stands.is_marks;
-    }
+      goes = goes_one w s goes;
+      noted = noted ∙ noted_one w s;
+      marked = p.stands.is_marks;
+    })

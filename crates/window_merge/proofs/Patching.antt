@@ -1,10 +1,10 @@
 -- What a word of SRAM is where words were written into it.
-use Rattle.std.proofs.Common.{◌≡◌, ℕ, zero, suc, ◌-◌, ◌<◌, ◌==◌, if◌then◌else◌, inl, inr, List, [], ◌∷◌, ◌++◌, length, refl, ap, sym, ◌∙◌, subst, arith}
+use Rattle.std.proofs.Common.{◌≡◌, ℕ, suc, ◌-◌, ◌<◌, ◌==◌, if◌then◌else◌, inl, inr, List, [], ◌∷◌, ◌++◌, length, refl, ap, sym}
+use Rattle.std.proofs.Common.{◌∙◌, subst, arith}
 use Rattle.std.specs.Prelude.{◌≤◌, ◌≢◌, slice_index, slice_index_or, slice_set, take}
 use Rattle.std.proofs.Math.Seq.{take-suc}
-use Rattle.std.proofs.Math.ListN.{set}
 use Rattle.std.proofs.lemmas.Bool.Decides.{eqb_tells}
-use Rattle.std.proofs.lemmas.List.{get_or-set_same, get_or-set_other}
+use Rattle.std.proofs.lemmas.List.{length-set, get_or-set_same, get_or-set_other}
 use Rattle.ram_banks.specs.Lanes.{with_lanes}
 use Rattle.ram_banks.specs.Sram.{written}
 use Rattle.window_merge.specs.Notes.{last_of}
@@ -14,11 +14,6 @@ pub patched-append : (words : List (ℕ × ℕ)) (word : ℕ × ℕ) (sram : Lis
 unfolding patched
 patched-append [] word sram = refl
 patched-append (w ∷ words) word sram = patched-append words word (slice_set sram w.0 w.1)
-
-pub set-length : (xs : List ℕ) (i x : ℕ) → length (set xs i x) ≡ length xs
-set-length [] i x = refl
-set-length (y ∷ xs) zero x = refl
-set-length (y ∷ xs) (suc i) x = ap suc (set-length xs i x)
 
 -- what stands at an index once a word was put
 set_at : (sram : List ℕ) (at word i : ℕ) → i < length sram → slice_index (slice_set sram at word) i ≡ (if at == i then word else slice_index sram i)
@@ -63,7 +58,7 @@ pub patched_last : (own : List (ℕ × ℕ)) (sram : List ℕ) (i : ℕ) → i <
 unfolding patched
 patched_last [] sram i lt = refl
 patched_last (n ∷ ns) sram i lt =
-    patched_last ns (slice_set sram n.0 n.1) i (subst (λ l. i < l) (sym (set-length sram n.0 n.1)) lt)
+    patched_last ns (slice_set sram n.0 n.1) i (subst (λ l. i < l) (sym (length-set sram n.0 n.1)) lt)
     ∙ ap (last_of ns i) (set_at sram n.0 n.1 i lt)
 
 -- the last word of an index is the one that is read

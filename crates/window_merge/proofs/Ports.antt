@@ -1,7 +1,8 @@
 -- Where no two accesses to SRAM name one port, and no access lasts, each of them is done.
-use Rattle.std.proofs.Common.{◌≡◌, ◌≢◌, ℕ, ◌<◌, Bool, true, false, nat_eq, inl, inr, List, [], ◌∷◌, Option, Some, None, refl, ap, ◌∙◌, arith}
+use Rattle.std.proofs.Common.{◌≡◌, ◌≢◌, ℕ, ◌<◌, Bool, true, false, nat_eq, List, [], ◌∷◌, Option, Some, None, refl, ap, sym, ◌∙◌}
+use Rattle.std.proofs.Common.{arith}
 use Rattle.std.specs.Prelude.{is_some}
-use Rattle.std.proofs.lemmas.Bool.Decides.{eqb_tells}
+use Rattle.std.proofs.lemmas.Bool.{eqb-false, ne_eqb}
 use Rattle.rp_base.specs.declared.Master.{Master}
 use Rattle.rp_base.specs.declared.Master.TheVariants.{Core0, Core1, DmaRead, DmaWrite}
 use Rattle.bus_fabric.specs.declared.Hold.{Hold}
@@ -26,24 +27,15 @@ pub record Apart (a0 a1 a2 a3 : Option Access) : Type 0 where
   pub apart13 : is_port_of a1 a3 ≡ false
   pub apart23 : is_port_of a2 a3 ≡ false
 
-turned_number : (x y : ℕ) → nat_eq x y ≡ false → nat_eq y x ≡ false
-turned_number x y e = elim (eqb_tells y x) [
-  | inl h ↦ absurd (let same : y ≡ x = h.1 in let there : nat_eq x y ≡ true = rw same (itself x) in cc (e, there))
-  | inr h ↦ h.0
-]
-
 turned : (a b : Option Access) → is_port_of a b ≡ false → is_port_of b a ≡ false
 turned None None e = refl
 turned None (Some b) e = refl
 turned (Some a) None e = refl
-turned (Some a) (Some b) e = turned_number b.0 a.0 e
+turned (Some a) (Some b) e = ne_eqb a.0 b.0 (λ same. eqb-false b.0 a.0 e (sym same))
 
 -- a bank of SRAM is not APB
 not_apb : (port : ℕ) → port < 6 → nat_eq port apb ≡ false
-not_apb port lt = elim (eqb_tells port apb) [
-  | inl h ↦ absurd (let same : port ≡ 6 = h.1 in omega arith)
-  | inr h ↦ h.0
-]
+not_apb port lt = ne_eqb port apb (λ same. let six : port ≡ 6 = same in omega arith)
 
 -- ---- each access is done
 

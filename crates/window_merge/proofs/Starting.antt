@@ -3,6 +3,7 @@ use Rattle.std.proofs.Common.{◌≡◌, ℕ, zero, suc, ◌+◌, ◌<◌, ◌==
 use Rattle.std.specs.Prelude.{slice_index, unwrap_or}
 use Rattle.std.proofs.Math.Bool.{and-true}
 use Rattle.std.proofs.lemmas.Bool.Decides.{eqb_tells}
+use Rattle.std.proofs.lemmas.Bool.{ne_eqb}
 use Rattle.rp_base.specs.declared.map.Spot.{Spot}
 use Rattle.rp_base.specs.declared.map.Spot.TheVariants as spot
 use Rattle.rp_base.specs.Map.{place_of}
@@ -22,7 +23,7 @@ use Rattle.window_merge.specs.Lanes.{around, stored_by}
 use Rattle.window_merge.specs.Patch.{sram_after}
 use Rattle.window_merge.specs.declared.start.Matcher.{Matcher}
 use Rattle.window_merge.specs.Start.{start_of, word_by, guess, guessed, matched}
-use Rattle.window_merge.proofs.Agree.{all_same, itself, not_equal}
+use Rattle.window_merge.proofs.Agree.{all_same, itself}
 use Rattle.window_merge.proofs.Banks.{HasBank, has_bank}
 use Rattle.window_merge.proofs.Copying.{outs_same}
 use Rattle.window_merge.proofs.Walking.{lines_over, pacing_over, inputs_over, outs_over}
@@ -36,40 +37,24 @@ word_at seen sees (spot.Sio offset) h sight = refl
 word_at seen sees (spot.Ppb offset) h sight = refl
 word_at seen sees spot.Outside h sight = refl
 
--- the lines of a core that is not core 0
-abbrev pub HasLines : ℕ → State → Type 0
-HasLines lane s = (if lane == 0 then lines_of 0 s else lines_of 1 s) ≡ lines_of lane s
-
-pub lines0 : (s : State) → HasLines 0 s
-lines0 s = refl
-
-pub lines1 : (s : State) → HasLines 1 s
-lines1 s = refl
-
-pub lines2 : (s : State) → HasLines 2 s
+-- the lines of a lane that is not core 0 are those of core 1
+lines_are : (lane : ℕ) (s : State) → (if lane == 0 then lines_of 0 s else lines_of 1 s) ≡ lines_of lane s
 unfolding lines_of block_lines outer_lines
-lines2 s = refl
+lines_are lane s = elim (eqb_tells lane 0) [
+  | inl h ↦ rw h.0 refl
+  | inr h ↦ rw h.0 refl
+]
 
-pub lines3 : (s : State) → HasLines 3 s
-unfolding lines_of block_lines outer_lines
-lines3 s = refl
-
-pub lines4 : (s : State) → HasLines 4 s
-unfolding lines_of block_lines outer_lines
-lines4 s = refl
-
-pub lines5 : (s : State) → HasLines 5 s
-unfolding lines_of block_lines outer_lines
-lines5 s = refl
-
-pub guess_is : (lane : ℕ) (s : State) (seen : ℕ → ℕ) (sees : List ℕ) (question : Ask) → HasLines lane s → ((i : ℕ) → i < 67584 → seen i ≡ slice_index sees i)
+pub guess_is : (lane : ℕ) (s : State) (seen : ℕ → ℕ) (sees : List ℕ) (question : Ask)
+    → ((i : ℕ) → i < 67584 → seen i ≡ slice_index sees i)
     → guess lane (start_of s) seen question ≡ answer_of lane (record s { sram = sees }) question
-guess_is lane s seen sees ask.Lines lines sight = lines ∙ lines_over lane s sees
-guess_is lane s seen sees (ask.Half address) lines sight = ap (λ word. half_of word address) (word_at seen sees (place_of address) (has_bank address) sight)
-guess_is lane s seen sees (ask.Word address) lines sight = word_at seen sees (place_of address) (has_bank address) sight
-guess_is lane s seen sees ask.Pacing lines sight = pacing_over s sees
-guess_is lane s seen sees ask.Inputs lines sight = inputs_over s sees
-guess_is lane s seen sees (ask.Outs block) lines sight = outs_same block s ∙ outs_over block s sees
+guess_is lane s seen sees ask.Lines sight = lines_are lane s ∙ lines_over lane s sees
+guess_is lane s seen sees (ask.Half address) sight = ap (λ word. half_of word address)
+    (word_at seen sees (place_of address) (has_bank address) sight)
+guess_is lane s seen sees (ask.Word address) sight = word_at seen sees (place_of address) (has_bank address) sight
+guess_is lane s seen sees ask.Pacing sight = pacing_over s sees
+guess_is lane s seen sees ask.Inputs sight = inputs_over s sees
+guess_is lane s seen sees (ask.Outs block) sight = outs_same block s ∙ outs_over block s sees
 
 -- ---- what is around a lane that runs alone
 
@@ -102,12 +87,6 @@ stored_sram (want.Outward request) t = refl
 stored_sram want.Signal t = refl
 stored_sram (want.Stopped cause) t = refl
 
--- ---- a function agrees with itself
-
-pub differs_never : {B : Type 0} (f : Ask → ℕ) (tree : Asking B) → differs f (asked f tree) ≡ false
-differs_never f (Ready begun) = refl
-differs_never {B} f (Question question next) = rw (itself (f question)) (differs_never f (next (f question)))
-
 -- ---- the look
 
 abbrev with_same : Matcher → Bool → Matcher
@@ -131,7 +110,7 @@ still_same {B} same f g question next = elim (eqb_tells (g question) (f question
       let rest = differs f (asked g (next (f question))) in
       let there = differs f (asked g (next (g question))) in
       ap (λ (b : Bool). (same && b) && not rest) h.0 ∙ all_same same false rest
-      ∙ ap (λ (b : Bool). same && not (not b || there)) (sym (not_equal (f question) (g question) (λ e. h.1 (sym e))))
+      ∙ ap (λ (b : Bool). same && not (not b || there)) (sym (ne_eqb (f question) (g question) (λ e. h.1 (sym e))))
 ]
 
 by_match : {B : Type 0} (k : Matcher) (same : Bool) (tree : Asking B) (result : B) (new : Matcher) → Runs matched (with_same k same) tree result new → Matched (with_same k same) tree result new

@@ -1,8 +1,10 @@
 -- The first entry in which a true report differs from its lane's run alone has the same question, and another answer.
-use Rattle.std.proofs.Common.{◌≡◌, ◌⊎◌, ℕ, zero, suc, ◌+◌, ◌<◌, ◌≤◌, inl, inr, List, [], ◌∷◌, ◌++◌, take, Option, Some, None, refl, ap, sym, ◌∙◌, subst, arith}
+use Rattle.std.proofs.Common.{◌≡◌, ◌⊎◌, ℕ, zero, suc, ◌+◌, ◌<◌, inl, inr, List, [], ◌∷◌, ◌++◌, take, Option, Some, None, refl, ap}
+use Rattle.std.proofs.Common.{sym, ◌∙◌, subst, arith}
 use Rattle.std.specs.List.{slice_get}
 use Rattle.std.proofs.lemmas.List.{take-append-le}
 use Rattle.std.proofs.lemmas.Option.{slice_get_within}
+use Rattle.std.proofs.lemmas.Bool.{cases_lt}
 use Rattle.std.proofs.lemmas.Bool.Decides.{eqb_tells}
 use Rattle.lane_look.specs.Asking.{Asking, answered}
 use Rattle.lane_look.specs.Asking.Asking.{Ready, Question}
@@ -138,18 +140,15 @@ answer_in None = 0
 answer_in (Some entry) = entry.1
 
 same_index : (log run : List Entry) (n p : ℕ) → DifferAt log run n → OtherAnswerAt log run p → p ≡ n
-same_index log run n p d o = elim (below_or_not n p) [
+same_index log run n p d o = elim (cases_lt n p) [
   | inl lt ↦ absurd (d.other_there (below log run n p lt o.same_before))
-  | inr le ↦ elim (below_or_not p n) [
+  | inr le ↦ elim (cases_lt p n) [
     | inl lt ↦
         let e : Some (o.question, o.told) ≡ Some (o.question, o.answer) = sym o.in_log ∙ below log run p n lt d.same_before ∙ o.in_run in
         absurd (o.other (ap answer_in e))
     | inr le' ↦ omega (arith, le, le')
   ]
 ]
-  where
-    below_or_not : (a b : ℕ) → (a < b) ⊎ (b ≤ a)
-    below_or_not a b = grind arith
 
 other_at_end : {S B : Type 0} (m : Meaning (Unit {0}) S B) (lane : ℕ) (s : State) (report : Report S) (n : ℕ) → IsTrue m tt report
     → DifferAt report.log (alone m (around lane) tt report.before report.start s report.length).talk n → Stands m lane s report report.length

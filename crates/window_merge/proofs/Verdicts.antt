@@ -3,6 +3,7 @@ use Rattle.std.proofs.Common.{◌≡◌, ℕ, Bool, true, false, ◌&&◌, List,
 use Rattle.std.specs.Prelude.{Result, Ok, Err, is_ok, is_none, unwrap_or, IfErr}
 use Rattle.std.specs.Bool.{Decides}
 use Rattle.std.specs.List.{slice_get}
+use Rattle.std.proofs.lemmas.Bool.{and_from, and_parts}
 use Rattle.lane_look.specs.declared.replay.Report.{Report}
 use Rattle.lane_look.specs.Replay.{Meaning, Entry}
 use Rattle.lane_look.specs.Alone.{alone_length}
@@ -27,10 +28,6 @@ use Rattle.window_merge.proofs.Telling.{other_answer}
 
 -- ---- a report that begins where the lane stands
 
-both : (a b : Bool) → (a && b) ≡ true → (a ≡ true) × (b ≡ true)
-both true b e = (refl, e)
-both false b e = absurd (cc e)
-
 same_logs : (log talk : List Entry) (other : Option ℕ) → IsFirstOther log talk other → is_none other ≡ true → log ≡ talk
 same_logs log talk None h e = h
 same_logs log talk (Some index) h e = absurd (cc e)
@@ -38,9 +35,6 @@ same_logs log talk (Some index) h e = absurd (cc e)
 no_other : (log talk : List Entry) (other : Option ℕ) → IsFirstOther log talk other → log ≡ talk → is_none other ≡ true
 no_other log talk None h e = refl
 no_other log talk (Some index) h e = absurd (h.other_there (ap (λ (l : List Entry). slice_get l index) e))
-
-both_true : (a b : Bool) → a ≡ true → b ≡ true → (a && b) ≡ true
-both_true a b e_a e_b = rw (e_a, e_b) refl
 
 unlike : {S B : Type 0} (m : Meaning (Unit {0}) S B) (lane : ℕ) (before : S) (s : State) (report : Report S) (other : Option ℕ)
     → report.before ≡ before → IsFirstOther report.log (talk_alone m lane before s report.length) other → IsUnlike m lane before s report other
@@ -60,14 +54,15 @@ pub judged : {S B : Type 0} (m : Meaning (Unit {0}) S B) (lane : ℕ) (before : 
 judged m lane before s bound report same_length other result e_start e_before e_length h e_ok e_err = record {
   is_alone = (
     λ ok.
-        let parts = both same_length (is_none other) (sym e_ok ∙ ok) in
+        let parts = and_parts same_length (is_none other) (sym e_ok ∙ ok) in
         record {
           same_start = e_start;
           same_lane = e_before;
           same_length = e_length.0 parts.0;
           same_log = same_logs report.log (talk_alone m lane before s report.length) other h parts.1;
         },
-    λ alone. e_ok ∙ both_true same_length (is_none other) (e_length.1 alone.same_length) (no_other report.log (talk_alone m lane before s report.length) other h alone.same_log),
+    λ alone. e_ok ∙ and_from same_length (is_none other) (e_length.1 alone.same_length)
+        (no_other report.log (talk_alone m lane before s report.length) other h alone.same_log),
   );
   is_unlike = if_err (IsUnlike m lane before s report) result other e_err (unlike m lane before s report other e_before h);
 }

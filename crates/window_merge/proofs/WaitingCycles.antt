@@ -1,5 +1,7 @@
 -- Cycles of a window in which nobody has anything to do: the start answers each lane as the machine does.
 use Rattle.std.proofs.Common.{◌≡◌, ℕ, zero, suc, ◌+◌, ◌-◌, ◌*◌, ◌<◌, ◌≤◌, inl, inr, ◌||◌, ◌&&◌, not, nat_le, if◌then◌else◌, Bool, true, false, List, [], ◌∷◌, ◌++◌, length, refl, sym, ap, subst, ◌∙◌, arith}
+use Rattle.std.proofs.Math.Bool.{or-true}
+use Rattle.std.proofs.lemmas.Bool.{and_parts, or_cases}
 use Rattle.std.proofs.lemmas.Bool.Decides.{leb_tells}
 use Rattle.lane_look.specs.declared.lane.Want.TheVariants as want
 use Rattle.lane_look.specs.declared.marks.Mark.{Mark}
@@ -34,9 +36,8 @@ use Rattle.window_merge.specs.Start.{start_of, begun_from, ends_wanted, goes_by,
 use Rattle.window_merge.specs.Quiet.{AreQuietWindows}
 use Rattle.window_merge.specs.Window.{clash, longest, window_length}
 use Rattle.window_merge.specs.Merging.{wants_of, marks_in}
-use Rattle.window_merge.specs.Inward.{noted_in, same_marks, sees_sram, GoesAsAlone}
-use Rattle.window_merge.proofs.Passing.{First, along_first, both_true, closed_full, either_true}
-use Rattle.window_merge.proofs.Windows.{or_true}
+use Rattle.window_merge.specs.Inward.{noted_in, same_marks, sees_sram, GoesAsAlone, GoneOver}
+use Rattle.window_merge.proofs.Passing.{First, along_first, closed_full}
 use Rattle.window_merge.proofs.InwardCycles.{AreAlike, alike_by, reads_none, goes_alike, begun_alike, starts_by, apart_alone, mark_with, marked_same}
 
 -- for so many cycles from a state of a window on, before which this was noted, nobody has anything to do
@@ -67,16 +68,17 @@ starts w m s n k h le =
 -- a core that sleeps sleeps on
 sees_waiting : (w : Setting) (m : Notes) (s : State) (k : ℕ) → sees_sram m s ≡ true → sees_sram m (passed w s k) ≡ true
 sees_waiting w m s k sees =
-    let both = both_true (is_clean 0 m) (s.core1.asleep || is_clean 1 m) sees in
-    elim (either_true s.core1.asleep (is_clean 1 m) both.1) [
+    let both = and_parts (is_clean 0 m) (s.core1.asleep || is_clean 1 m) sees in
+    elim (or_cases s.core1.asleep (is_clean 1 m) both.1) [
       | inl asleep ↦ rw (both.0, ap (λ (c : Core). c.asleep) (stays_asleep s.core1 (lines_of 1 s) s.cycle k asleep) ∙ asleep) refl
-      | inr clean ↦ rw (both.0, clean) (or_true (passed w s k).core1.asleep)
+      | inr clean ↦ rw (both.0, clean) (or-true (passed w s k).core1.asleep)
     ]
 
-alike_waiting : (w : Setting) (m : Notes) (s : State) (n k : ℕ) → IsWaiting w m s n → k < n → AreAlike (start_of s) m (passed w s k)
+alike_waiting : (w : Setting) (m : Notes) (s : State) (n k : ℕ) → IsWaiting w m s n → k < n
+    → AreAlike w (start_of s) m (passed w s k)
 alike_waiting w m s n k h lt =
-    subst (λ (start : Start). AreAlike start m (passed w s k)) (starts w m s n k h (omega arith))
-    (alike_by m (passed w s k) (sees_waiting w m s k h.sees) (reads_none (passed w s k) (wants_read w s n k h.parts lt)))
+    subst (λ (start : Start). AreAlike w start m (passed w s k)) (starts w m s n k h (omega arith))
+    (alike_by w m (passed w s k) (sees_waiting w m s k h.sees) (reads_none (passed w s k) (wants_read w s n k h.parts lt)))
 
 wants_none : (w : Setting) (s : State) (n k : ℕ) → ArePartsQuiet w s n → k < n → wanted (begun (passed w s k)) ≡ beside want.Nothing
 unfolding wanted
@@ -107,33 +109,34 @@ notes_waiting w m s n i (suc k) h le =
     let t = states w (states w s i) k in
     ap (λ (x : Notes). noted_by (wanted (begun_from (start_of s) x t)) t.sram x) (notes_waiting w m s n i k h (omega (arith, le)))
     ∙ ap (λ (u : State). noted_by (wanted (begun_from (start_of s) m u)) u.sram m) (at_later w m s n i k h (omega (arith, le)))
-    ∙ ap (λ (b : Begun). noted_by (wanted b) (passed w s (i + k)).sram m) (begun_alike (start_of s) m (passed w s (i + k)) (alike_waiting w m s n (i + k) h lt))
+    ∙ ap (λ (b : Begun). noted_by (wanted b) (passed w s (i + k)).sram m) (begun_alike w (start_of s) m (passed w s (i + k)) (alike_waiting w m s n (i + k) h lt))
     ∙ ap (λ (xs : List Wanted). noted_by xs (passed w s (i + k)).sram m) (wants_none w s n (i + k) h.parts lt)
 
 waits_as_alone : (w : Setting) (m : Notes) (s : State) (n i j : ℕ) → IsWaiting w m s n → i + j ≤ n → GoesAsAlone w (start_of s) m (states w s i) j
 waits_as_alone w m s n i j h le k lt =
     ap (λ (x : Notes). goes_on (start_of s) x (states w (states w s i) k)) (notes_waiting w m s n i k h (omega (arith, le, lt)))
     ∙ ap (goes_on (start_of s) m) (at_later w m s n i k h (omega (arith, le, lt)))
-    ∙ goes_alike (start_of s) m (passed w s (i + k)) (alike_waiting w m s n (i + k) h (omega (arith, le, lt)))
+    ∙ goes_alike w (start_of s) m (passed w s (i + k)) (alike_waiting w m s n (i + k) h (omega (arith, le, lt)))
     ∙ goes_waiting w s n (i + k) h.parts (omega (arith, le, lt))
 
 -- ---- what the call leaves
 
-pub record HasWaited (w : Setting) (m : Notes) (s : State) (n : ℕ) (marks marks' : List Mark) : Type 0 where
-  pub goes : GoesAsAlone w (start_of s) m s n
-  pub notes : noted_in w (start_of s) m s n ≡ m
-  pub marks_are : marks' ≡ marks ++ marks_in w s n
-
-pub has_waited : (w : Setting) (m : Notes) (s t : State) (n pads : ℕ) (marks marks' : List Mark) → sees_sram m s ≡ true → CopiesAgree s → (0 < n → ArePartsQuiet w s n) → t ≡ states w s n → pads ≡ t.outer.pads.current
-    → marks' ≡ marks ++ same_marks n (mark_with pads) → HasWaited w m s n marks marks'
+pub has_waited : (w : Setting) (m : Notes) (s t : State) (n pads : ℕ) (marks marks' : List Mark) → sees_sram m s ≡ true
+    → CopiesAgree s
+    → (0 < n → ArePartsQuiet w s n) → t ≡ states w s n → pads ≡ t.outer.pads.current
+    → marks' ≡ marks ++ same_marks n (mark_with pads)
+    → GoneOver w (start_of s) s m marks n t m marks'
 unfolding states noted_in marks_in same_marks
-has_waited w m s t zero pads marks marks' sees agree parts e_state e_pads e = record { goes = λ k lt. absurd (omega arith); notes = refl; marks_are = e }
+has_waited w m s t zero pads marks marks' sees agree parts e_state e_pads e =
+    record { state = e_state; goes = λ k lt. absurd (omega arith); noted = refl; marked = e }
 has_waited w m s t (suc n) pads marks marks' sees agree parts e_state e_pads e =
     let h : IsWaiting w m s (suc n) = record { sees = sees; agree = agree; parts = parts (omega arith) } in
     record {
+      state = e_state;
       goes = waits_as_alone w m s (suc n) zero (suc n) h (omega arith);
-      notes = notes_waiting w m s (suc n) zero (suc n) h (omega arith);
-      marks_are = marked_same w s t (suc n) pads marks marks' (λ k lt. ap (mark w) (at_passed w m s (suc n) k h (omega arith)) ∙ mark_waiting w s (suc n) k h.parts lt)
+      noted = sym (notes_waiting w m s (suc n) zero (suc n) h (omega arith));
+      marked = marked_same w s t (suc n) pads marks marks' (λ k lt. ap (mark w) (at_passed w m s (suc n) k h (omega arith))
+          ∙ mark_waiting w s (suc n) k h.parts lt)
           (ap (λ (x : State). x.outer.pads.current) (e_state ∙ at_passed w m s (suc n) (suc n) h (omega arith)) ∙ ap (λ (b : Bank). b.current) (h.parts.peripherals.pads (suc n) (omega arith))) e_pads e;
     }
 
@@ -175,7 +178,7 @@ quiet_window w s n i h long le =
     sym (closed_full w t 256 _ _ _ _ (along_first w t (start_of t) no_notes 256 _ _ _ first calm fits refl refl goes refl refl refl) (sym whole))
 
 sees_none : (s : State) → sees_sram no_notes s ≡ true
-sees_none s = or_true s.core1.asleep
+sees_none s = or-true s.core1.asleep
 
 pub no_window : (w : Setting) (s : State) → AreQuietWindows w s 0
 no_window w s = record { quiet = quiet_none w s; free = λ k lt. absurd (omega (arith, lt)); whole = λ k lt. absurd (omega (arith, lt)) }

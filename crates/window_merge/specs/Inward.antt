@@ -1,5 +1,5 @@
 -- Cycles of a window in which nobody has anything to do, or core 0 alone is at work in SRAM beside lanes that are quiet. The project's own.
-use Rattle.std.specs.Prelude.{◌≡◌, ℕ, zero, suc, ◌<◌, ◌||◌, ◌&&◌, Bool, true, false, List, [], ◌∷◌, ◌++◌}
+use Rattle.std.specs.Prelude.{◌≡◌, ℕ, zero, suc, ◌+◌, ◌<◌, ◌||◌, ◌&&◌, Bool, true, false, List, [], ◌∷◌, ◌++◌}
 use Rattle.lane_look.specs.declared.lane.Want.{Want}
 use Rattle.lane_look.specs.declared.lane.Want.TheVariants as want
 use Rattle.lane_look.specs.declared.marks.Mark.{Mark}
@@ -13,6 +13,8 @@ use Rattle.window_merge.specs.declared.notes.Notes.{Notes}
 use Rattle.window_merge.specs.declared.start.Start.{Start}
 use Rattle.window_merge.specs.Notes.{is_clean, noted, noted_by}
 use Rattle.window_merge.specs.Start.{begun_from, goes_on}
+use Rattle.window_merge.specs.Window.{window_length}
+use Rattle.window_merge.specs.Merging.{marks_in}
 
 -- what is noted then in so many cycles from a state of a window on, where its start answers so and this was noted before
 unfoldable pub noted_in : Setting → Start → Notes → State → ℕ → Notes
@@ -23,6 +25,22 @@ noted_in w start n s (suc k) =
 -- each of them goes as the lanes go alone
 abbrev pub GoesAsAlone : Setting → Start → Notes → State → ℕ → Type 0
 GoesAsAlone w start n s cycles = (k : ℕ) → k < cycles → goes_on start (noted_in w start n s k) (states w s k) ≡ true
+
+-- the machine has gone over so many cycles of a window, each of which goes as the lanes go alone: what it is then, and what is
+-- noted and marked, where this was before
+pub record GoneOver (w : Setting) (start : Start) (s : State) (notes : Notes) (marks : List Mark) (cycles : ℕ) (s' : State)
+    (notes' : Notes) (marks' : List Mark) : Type 0 where
+  pub state : s' ≡ states w s cycles
+  pub goes : GoesAsAlone w start notes s cycles
+  pub noted : notes' ≡ noted_in w start notes s cycles
+  pub marked : marks' ≡ marks ++ marks_in w s cycles
+
+-- or by the window of the state
+pub record IsWindow (w : Setting) (s : State) (cycles : ℕ) (s' : State) (marks : List Mark) : Type 0 where
+  pub length : cycles ≡ window_length w s
+  pub state : s' ≡ states w s cycles
+  pub number : s'.cycle ≡ s.cycle + cycles
+  pub marked : marks ≡ marks_in w s cycles
 
 -- the cores that are awake see SRAM as it is: no other lane wrote
 abbrev pub sees_sram : Notes → State → Bool

@@ -8,7 +8,7 @@ ghost use Rattle.rp_machine.specs.Run.{states};
 ghost use Rattle.window_merge.specs.Lanes.{is_launching};
 ghost use Rattle.window_merge.specs.Notes.{no_notes};
 ghost use Rattle.window_merge.specs.Start.{start_of, goes_first};
-ghost use Rattle.window_merge.specs.Inward.{noted_in, GoesAsAlone};
+ghost use Rattle.window_merge.specs.Inward.{GoneOver, IsWindow};
 ghost use Rattle.window_merge.specs.Window.{longest, window_length};
 ghost use Rattle.window_merge.specs.Merging.{marks_in};
 
@@ -50,12 +50,8 @@ fn begin<X: Device, L: Ledger>(
     requires goes { goes_first machine.old ≡ true }
     ensures some { 0 < result }
     ensures most { result ≤ most }
-    ensures state { machine.new ≡ states (setting X.meaning world.now) machine.old result }
-    ensures goes { GoesAsAlone (setting X.meaning world.now) (start_of machine.old) notes.old
-        machine.old result }
-    ensures notes { notes.new ≡ noted_in (setting X.meaning world.now) (start_of machine.old)
-        notes.old machine.old result }
-    ensures marks { marks.new ≡ marks_in (setting X.meaning world.now) machine.old result }
+    ensures gone { GoneOver (setting X.meaning world.now) (start_of machine.old) machine.old
+        notes.old marks.old result machine.new notes.new marks.new }
     ensures steps { steps.new ≡ steps.old + result }
 {
     fact_copies_are_known(machine);
@@ -89,10 +85,8 @@ fn go<X: Device, L: Ledger>(
     requires launching { is_launching machine.old.core1 ≡ false }
     requires begun { lanes.old ≡ begun machine.old }
     requires goes { goes_first machine.old ≡ true }
-    ensures length { result ≡ window_length (setting X.meaning world.now) machine.old }
-    ensures state { machine.new ≡ states (setting X.meaning world.now) machine.old result }
-    ensures number { machine.new.cycle ≡ machine.old.cycle + result }
-    ensures marks { marks.new ≡ marks_in (setting X.meaning world.now) machine.old result }
+    ensures window { IsWindow (setting X.meaning world.now) machine.old result machine.new
+        marks.new }
     ensures steps { steps.new ≡ steps.old + result }
     ensures begun { lanes.new ≡ begun machine.new }
 {
@@ -122,6 +116,7 @@ fn go<X: Device, L: Ledger>(
 /// Moves the machine by a window: as far as its lanes, each alone from its state, would go the machine's way. Gives the
 /// window's length. The marks of its cycles are left in `marks`, each counts as one of the steps, `notes` is room for what it
 /// writes to SRAM, and `lanes` has what the lanes begin in the next cycle, before and after.
+#[tactic(auto, unfolding(rp_machine::specs::Run::states, crate::specs::Merging::marks_in))]
 pub fn window<X: Device, L: Ledger>(
     machine: &mut Machine,
     world: &World<'_, X>,

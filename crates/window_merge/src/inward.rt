@@ -6,9 +6,7 @@ ghost use Rattle.lane_look.specs.Alone.{ends_want};
 ghost use Rattle.outer_lane.specs.Setting.{setting};
 ghost use Rattle.rp_machine.specs.Answers.{lines_of};
 ghost use Rattle.rp_machine.specs.Inward.{core0_want, goes_inward, inward_cycle, inward_after, StaysInward};
-ghost use Rattle.rp_machine.specs.Run.{states};
-ghost use Rattle.window_merge.specs.Inward.{noted_in, noted_core0, noted_inward, same_marks, sees_sram, GoesAsAlone, KeepsInward};
-ghost use Rattle.window_merge.specs.Merging.{marks_in};
+ghost use Rattle.window_merge.specs.Inward.{noted_core0, noted_inward, same_marks, sees_sram, GoneOver, KeepsInward};
 ghost use Rattle.window_merge.specs.Notes.{HasRoom};
 ghost use Rattle.window_merge.specs.Start.{start_of};
 
@@ -121,13 +119,8 @@ fn go_waiting<X: Device, L: Ledger>(
     requires few { length marks.old + most ≤ 256 }
     requires sees { sees_sram notes.now machine.old ≡ true }
     ensures most { result ≤ most }
-    ensures state { machine.new ≡ states (setting X.meaning world.now) machine.old result }
-    ensures goes { GoesAsAlone (setting X.meaning world.now) (start_of machine.old) notes.now
-        machine.old result }
-    ensures notes { noted_in (setting X.meaning world.now) (start_of machine.old) notes.now
-        machine.old result ≡ notes.now }
-    ensures marks { marks.new ≡ marks.old ++ marks_in (setting X.meaning world.now) machine.old
-        result }
+    ensures gone { GoneOver (setting X.meaning world.now) (start_of machine.old) machine.old
+        notes.now marks.old result machine.new notes.now marks.new }
     ensures steps { steps.new ≡ steps.old + result }
 {
     fact_limit_is_bounded(world);
@@ -153,13 +146,8 @@ pub(crate) fn go_inward<X: Device, L: Ledger>(
     requires room { HasRoom notes.old (3 * most) }
     requires sees { sees_sram notes.old machine.old ≡ true }
     ensures most { result ≤ most }
-    ensures state { machine.new ≡ states (setting X.meaning world.now) machine.old result }
-    ensures goes { GoesAsAlone (setting X.meaning world.now) (start_of machine.old) notes.old
-        machine.old result }
-    ensures notes { notes.new ≡ noted_in (setting X.meaning world.now) (start_of machine.old)
-        notes.old machine.old result }
-    ensures marks { marks.new ≡ marks.old ++ marks_in (setting X.meaning world.now) machine.old
-        result }
+    ensures gone { GoneOver (setting X.meaning world.now) (start_of machine.old) machine.old
+        notes.old marks.old result machine.new notes.new marks.new }
     ensures steps { steps.new ≡ steps.old + result }
 {
     fact_limit_is_bounded(world);
@@ -183,36 +171,7 @@ fn sees_sram(machine: &Machine, notes: &Notes) -> bool
     notes.is_clean(0) && (machine.core1.is_asleep() || notes.is_clean(1))
 }
 
-/// The same behind some cycles of a window, where each answer is still that of the window's start.
-fn go_where_same<X: Device, L: Ledger>(
-    machine: &mut Machine,
-    world: &World<'_, X>,
-    start: &Start,
-    notes: &mut Notes,
-    most: u16,
-    marks: &mut Marks,
-    steps: &mut Steps<L>,
-) -> u16
-    requires number { machine.old.cycle + most ≤ world.now.limit }
-    requires few { length marks.old + most ≤ 256 }
-    requires room { HasRoom notes.old (3 * most) }
-    ensures most { result ≤ most }
-    ensures state { machine.new ≡ states (setting X.meaning world.now) machine.old result }
-    ensures goes { GoesAsAlone (setting X.meaning world.now) start.now notes.old machine.old
-        result }
-    ensures notes { notes.new ≡ noted_in (setting X.meaning world.now) start.now notes.old
-        machine.old result }
-    ensures marks { marks.new ≡ marks.old ++ marks_in (setting X.meaning world.now) machine.old
-        result }
-    ensures steps { steps.new ≡ steps.old + result }
-{
-    if machine.quiet_blocks() == 0 || !sees_sram(machine, notes) || !start.is_of(machine) {
-        return 0;
-    }
-    go_inward(machine, world, notes, most, marks, steps)
-}
-
-/// The same, where a try is due.
+/// The same behind some cycles of a window, where a try is due and each answer is still that of the window's start.
 #[inline(always)]
 pub(crate) fn go_inward_later<X: Device, L: Ledger>(
     machine: &mut Machine,
@@ -228,20 +187,19 @@ pub(crate) fn go_inward_later<X: Device, L: Ledger>(
     requires few { length marks.old + most ≤ 256 }
     requires room { HasRoom notes.old (3 * most) }
     ensures most { result ≤ most }
-    ensures state { machine.new ≡ states (setting X.meaning world.now) machine.old result }
-    ensures goes { GoesAsAlone (setting X.meaning world.now) start.now notes.old machine.old
-        result }
-    ensures notes { notes.new ≡ noted_in (setting X.meaning world.now) start.now notes.old
-        machine.old result }
-    ensures marks { marks.new ≡ marks.old ++ marks_in (setting X.meaning world.now) machine.old
-        result }
+    ensures gone { GoneOver (setting X.meaning world.now) start.now machine.old notes.old marks.old
+        result machine.new notes.new marks.new }
     ensures steps { steps.new ≡ steps.old + result }
 {
     if !pace.is_due(machine) {
         return 0;
     }
     let at = machine.number();
-    let done = go_where_same(machine, world, start, notes, most, marks, steps);
+    if machine.quiet_blocks() == 0 || !sees_sram(machine, notes) || !start.is_of(machine) {
+        pace.note(at, 0);
+        return 0;
+    }
+    let done = go_inward(machine, world, notes, most, marks, steps);
     pace.note(at, u64::from(done));
     done
 }

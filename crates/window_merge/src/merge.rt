@@ -4,8 +4,8 @@ ghost use Rattle.std.specs.Prelude.{◌≡◌, ◌+◌, ◌-◌, ◌^◌, ◌<�
 ghost use Rattle.outer_lane.specs.Setting.{setting};
 ghost use Rattle.outer_lane.specs.Step.{marked};
 ghost use Rattle.bus_fabric.specs.State.{has_hold};
-ghost use Rattle.sio_block.specs.Launcher.{offers_of};
-ghost use Rattle.rp_machine.specs.Cycle.{pins_of, wanted, next_by};
+ghost use Rattle.rp_machine.specs.Cycle.{wanted, next_by};
+ghost use Rattle.rp_machine.specs.Laws.{KnowsSio};
 ghost use Rattle.rp_machine.specs.Run.{states};
 ghost use Rattle.window_merge.specs.Window.{is_port_of, clash, longest, window_length};
 ghost use Rattle.window_merge.specs.Merging.{AreRunsAlone, IsWithin, rests_at, begun_by, left_by, wants_of, fits, marks_in};
@@ -111,8 +111,7 @@ pub(crate) fn longest<X: Device>(machine: &Machine, world: &World<'_, X>) -> u16
 
 /// What the lanes keep of SIO is what it holds, and SRAM has its words: the machine's type keeps it.
 pub(crate) fn fact_copies_are_known(machine: &Machine)
-    ensures pins { machine.now.outer.sio ≡ pins_of machine.now.sio }
-    ensures offer { machine.now.core1.offer ≡ offers_of machine.now.sio }
+    ensures knows { KnowsSio machine.now }
     ensures sram { length machine.now.sram ≡ 67584 }
 {
     let _word = machine.ram.read(0);

@@ -1,5 +1,6 @@
 -- A true report that is accepted is the lane's run alone.
 use Rattle.std.proofs.Common.{◌≡◌, ℕ, zero, suc, ◌+◌, ◌<◌, ◌≤◌, false, not, nat_eq, List, ◌∷◌, ◌++◌, refl, ap, sym, ◌∙◌, arith}
+use Rattle.std.proofs.lemmas.Bool.{eqb-true, not-false, or_parts}
 use Rattle.lane_look.specs.Asking.{Asking, answered}
 use Rattle.lane_look.specs.Asking.Asking.{Ready, Question}
 use Rattle.lane_look.specs.declared.lane.Ask.{Ask}
@@ -11,7 +12,6 @@ use Rattle.rp_machine.specs.State.{State}
 use Rattle.rp_machine.specs.Answers.{answer_of}
 use Rattle.window_merge.specs.Lanes.{around}
 use Rattle.window_merge.specs.Merging.{IsRunAlone}
-use Rattle.window_merge.proofs.Agree.{both_false, not_false, same_number}
 use Rattle.window_runner.specs.Reports.{talk_in, overlaid, IsAccepted}
 
 -- ---- one cycle
@@ -24,8 +24,8 @@ record TellsSame {B : Type 0} (f : Ask → ℕ) (log : List Entry) (tree : Askin
 tells_same : {B : Type 0} (f : Ask → ℕ) (log : List Entry) (tree : Asking B) → differs f (talk log tree) ≡ false → TellsSame f log tree
 tells_same f log (Ready begun) e = record { begun = refl; talked = refl }
 tells_same {B} f log (Question ask next) e =
-    let parts = both_false (not (nat_eq (f ask) (first_answer log))) (differs f (talk (others log) (next (first_answer log)))) e in
-    let same : f ask ≡ first_answer log = same_number (f ask) (first_answer log) (not_false _ parts.0) in
+    let parts = or_parts (not (nat_eq (f ask) (first_answer log))) (differs f (talk (others log) (next (first_answer log)))) e in
+    let same : f ask ≡ first_answer log = eqb-true (f ask) (first_answer log) (not-false _ parts.0) in
     let rest = tells_same f (others log) (next (first_answer log)) parts.1 in
     record {
       begun = rest.begun ∙ ap (λ (x : ℕ). answered f (next x)) (sym same);

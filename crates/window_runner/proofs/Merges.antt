@@ -1,6 +1,8 @@
 -- The merge of six runs alone is a window.
-use Rattle.std.proofs.Common.{◌≡◌, ◌≢◌, ℕ, zero, suc, ◌<◌, ◌≤◌, ◌||◌, Bool, true, false, not, nat_eq, inl, inr, List, [], ◌∷◌, ◌++◌, refl, ap, sym, ◌∙◌, add-one, arith}
+use Rattle.std.proofs.Common.{◌≡◌, ◌≢◌, ℕ, zero, suc, ◌<◌, ◌≤◌, ◌||◌, Bool, true, false, not, inl, inr, List, [], ◌∷◌, ◌++◌, refl}
+use Rattle.std.proofs.Common.{ap, sym, ◌∙◌, add-one, arith}
 use Rattle.std.proofs.lemmas.Bool.Decides.{eqb_tells}
+use Rattle.std.proofs.lemmas.Bool.{not-false, not-true, or_parts}
 use Rattle.lane_look.specs.declared.marks.Mark.{Mark}
 use Rattle.bus_fabric.specs.State.{has_hold}
 use Rattle.outer_lane.specs.Setting.{Setting}
@@ -8,57 +10,19 @@ use Rattle.outer_lane.specs.Step as outer
 use Rattle.rp_machine.specs.State.{State}
 use Rattle.rp_machine.specs.Cycle.{wanted, next_by}
 use Rattle.rp_machine.specs.Run.{states}
-use Rattle.window_merge.specs.Lanes.{core_lane, dma_lane, pio_lane, peripheral_lane, runs_of}
+use Rattle.window_merge.specs.Lanes.{runs_of}
 use Rattle.window_merge.specs.Window.{longest, ends_in, window_length}
 use Rattle.rp_machine.specs.Laws.{KnowsSio}
 use Rattle.window_merge.specs.Merging.{Rests, begun_by, left_by, fits}
-use Rattle.window_merge.proofs.Agree.{both_false, not_false, is_not, differ_of}
-use Rattle.window_merge.proofs.Lanes.{lane_first, below_least}
+use Rattle.window_merge.proofs.Lanes.{log_alone, below_least}
 use Rattle.window_merge.proofs.Meeting.{least_meets}
-use Rattle.window_merge.proofs.Windows.{Lengths, AreLengths, AreOn, Stands, Tries, stands_first, stands_next, ends_tried, ends_run, ends_full}
+use Rattle.window_merge.proofs.Windows.{Stands, Tries, on_of, stands_first, stands_next, ends_tried, ends_run, ends_full}
 use Rattle.window_runner.specs.Reports.{SixReports, AreRunsAlone}
 use Rattle.window_runner.specs.Merge.{logs_of, by_logs, any_ends, merge_ends, merged_length, merged}
-
-abbrev lengths_of : SixReports → Lengths
-lengths_of six = record {
-  core0 = six.core0.length;
-  core1 = six.core1.length;
-  dma = six.dma.length;
-  pio0 = six.pio0.length;
-  pio1 = six.pio1.length;
-  outer = six.outer.length;
-}
-
-are_lengths : (w : Setting) (s : State) (six : SixReports) → AreRunsAlone w s six → AreLengths w s (lengths_of six)
-are_lengths w s six h = record {
-  core0 = h.core0.same_length;
-  core1 = h.core1.same_length;
-  dma = h.dma.same_length;
-  pio0 = h.pio0.same_length;
-  pio1 = h.pio1.same_length;
-  outer = h.outer.same_length;
-}
 
 ends_as : (w : Setting) (s : State) (six : SixReports) (k : ℕ) → AreRunsAlone w s six → ends_in (runs_of w s (longest w s)) k ≡ any_ends six k
 ends_as w s six k h =
     rw (← h.core0.same_length, ← h.core1.same_length, ← h.dma.same_length, ← h.pio0.same_length, ← h.pio1.same_length, ← h.outer.same_length) refl
-
-on_of : (six : SixReports) (k : ℕ) → any_ends six k ≡ false → AreOn (lengths_of six) k
-on_of six k e =
-    let a = both_false (nat_eq k six.core0.length) _ e in
-    let b = both_false (nat_eq k six.core1.length) _ a.1 in
-    let c = both_false (nat_eq k six.dma.length) _ b.1 in
-    let d = both_false (nat_eq k six.pio0.length) _ c.1 in
-    let f = both_false (nat_eq k six.pio1.length) _ d.1 in
-    let g = both_false (nat_eq k six.outer.length) _ f.1 in
-    record {
-      core0 = differ_of k six.core0.length a.0;
-      core1 = differ_of k six.core1.length b.0;
-      dma = differ_of k six.dma.length c.0;
-      pio0 = differ_of k six.pio0.length d.0;
-      pio1 = differ_of k six.pio1.length f.0;
-      outer = differ_of k six.outer.length g.0;
-    }
 
 -- what the merge begins with
 pub record Starts (w : Setting) (s : State) (six : SixReports) : Type 0 where
@@ -69,32 +33,33 @@ pub record Starts (w : Setting) (s : State) (six : SixReports) : Type 0 where
 -- after k cycles none of which ends it, it stands where the window stands
 record AtCycle (w : Setting) (s : State) (six : SixReports) (k : ℕ) : Type 0 where
   marks : List Mark
-  stands : Stands w s (lengths_of six) k (by_logs w six s k).state (by_logs w six s k).rests marks
+  stands : Stands w s k (by_logs w six s k).state (by_logs w six s k).rests marks
 
 first_at : (w : Setting) (s : State) (six : SixReports) → Starts w s six → AtCycle w s six 0
 unfolding by_logs
 first_at w s six h = record {
   marks = [];
-  stands = stands_first w s (lengths_of six) (logs_of six) [] h.free h.knows
-      (lane_first core_lane 0 s.core0 s six.core0.length six.core0.log h.alone.core0.same_log)
-      (lane_first core_lane 1 s.core1 s six.core1.length six.core1.log h.alone.core1.same_log)
-      (lane_first dma_lane 2 s.dma.block s six.dma.length six.dma.log h.alone.dma.same_log)
-      (lane_first pio_lane 3 s.pio0.block s six.pio0.length six.pio0.log h.alone.pio0.same_log)
-      (lane_first pio_lane 4 s.pio1.block s six.pio1.length six.pio1.log h.alone.pio1.same_log)
-      (lane_first (peripheral_lane w) 5 s.outer s six.outer.length six.outer.log h.alone.outer.same_log) refl;
+  stands = stands_first w s (logs_of six) [] h.free h.knows (record {
+    core0 = log_alone h.alone.core0;
+    core1 = log_alone h.alone.core1;
+    dma = log_alone h.alone.dma;
+    pio0 = log_alone h.alone.pio0;
+    pio1 = log_alone h.alone.pio1;
+    outer = log_alone h.alone.outer;
+  }) refl;
 }
 
 tries_at : (w : Setting) (s : State) (six : SixReports) (k : ℕ) (now : State) (rests : Rests) (marks : List Mark) → AreRunsAlone w s six
-    → Stands w s (lengths_of six) k now rests marks → any_ends six k ≡ false → k < longest w s → Tries w s (lengths_of six) k now rests marks
+    → Stands w s k now rests marks → any_ends six k ≡ false → k < longest w s → Tries w s k now rests marks
 tries_at w s six k now rests marks h stands e lt =
-    record { stands = stands; lengths = are_lengths w s six h; on = on_of six k e; below = lt }
+    record { stands = stands; on = on_of w s k (ends_as w s six k h ∙ e); below = lt }
 
 next_stands : (w : Setting) (s : State) (six : SixReports) (k : ℕ) (now : State) (rests : Rests) (marks : List Mark)
-    → Tries w s (lengths_of six) k now rests marks → fits rests now ≡ true
-    → Stands w s (lengths_of six) (suc k) (next_by w (begun_by rests now) (wanted (begun_by rests now)) now) (left_by rests now)
+    → Tries w s k now rests marks → fits rests now ≡ true
+    → Stands w s (suc k) (next_by w (begun_by rests now) (wanted (begun_by rests now)) now) (left_by rests now)
     (marks ++ outer.marked w now.outer (begun_by rests now).outer ∷ [])
 next_stands w s six k now rests marks t e =
-    rw (← add-one) (stands_next w s (lengths_of six) k now rests marks true (next_by w (begun_by rests now) (wanted (begun_by rests now)) now)
+    rw (← add-one) (stands_next w s k now rests marks true (next_by w (begun_by rests now) (wanted (begun_by rests now)) now)
     (left_by rests now) (marks ++ outer.marked w now.outer (begun_by rests now).outer ∷ []) t (sym e) refl refl refl refl)
 
 next_at : (w : Setting) (s : State) (six : SixReports) (k : ℕ) → AreRunsAlone w s six → AtCycle w s six k → merge_ends w six s k ≡ false
@@ -102,11 +67,11 @@ next_at : (w : Setting) (s : State) (six : SixReports) (k : ℕ) → AreRunsAlon
 unfolding by_logs merge_ends
 next_at w s six k h at e lt =
     let now = by_logs w six s k in
-    let parts = both_false (any_ends six k) (not (fits now.rests now.state)) e in
+    let parts = or_parts (any_ends six k) (not (fits now.rests now.state)) e in
     let t = tries_at w s six k now.state now.rests at.marks h at.stands parts.0 lt in
     record {
       marks = at.marks ++ outer.marked w now.state.outer (begun_by now.rests now.state).outer ∷ [];
-      stands = next_stands w s six k now.state now.rests at.marks t (not_false (fits now.rests now.state) parts.1);
+      stands = next_stands w s six k now.state now.rests at.marks t (not-false (fits now.rests now.state) parts.1);
     }
 
 at_cycle : (w : Setting) (s : State) (six : SixReports) (k : ℕ) → Starts w s six → k ≤ longest w s
@@ -118,13 +83,13 @@ at_cycle w s six (suc k) h le on =
 -- ---- its end
 
 ends_by : (w : Setting) (s : State) (six : SixReports) (k : ℕ) (now : State) (rests : Rests) (marks : List Mark) (ended : Bool)
-    → AreRunsAlone w s six → Stands w s (lengths_of six) k now rests marks → k < longest w s → any_ends six k ≡ ended
+    → AreRunsAlone w s six → Stands w s k now rests marks → k < longest w s → any_ends six k ≡ ended
     → (ended || not (fits rests now)) ≡ true → k ≡ window_length w s
 ends_by w s six k now rests marks true h stands lt e either =
-    ends_run w s (lengths_of six) k now rests marks stands lt (ends_as w s six k h ∙ e)
+    ends_run w s k now rests marks stands lt (ends_as w s six k h ∙ e)
 ends_by w s six k now rests marks false h stands lt e either =
-    ends_tried w s (lengths_of six) k now rests marks (fits rests now) (tries_at w s six k now rests marks h stands e lt) refl
-    (is_not (fits rests now) either)
+    ends_tried w s k now rests marks (fits rests now) (tries_at w s six k now rests marks h stands e lt) refl
+    (not-true (fits rests now) either)
 
 ends_here : (w : Setting) (s : State) (six : SixReports) (k : ℕ) → AreRunsAlone w s six → AtCycle w s six k → k < longest w s
     → merge_ends w six s k ≡ true → k ≡ window_length w s
@@ -136,7 +101,7 @@ ends_here w s six k h at lt e =
 ends_at : (w : Setting) (s : State) (six : SixReports) (k : ℕ) → AreRunsAlone w s six → AtCycle w s six k → k ≤ longest w s
     → (k < longest w s → merge_ends w six s k ≡ true) → k ≡ window_length w s
 ends_at w s six k h at le met = elim (eqb_tells k (longest w s)) [
-  | inl e ↦ ends_full w s (lengths_of six) k (by_logs w six s k).state (by_logs w six s k).rests at.marks at.stands e.1
+  | inl e ↦ ends_full w s k (by_logs w six s k).state (by_logs w six s k).rests at.marks at.stands e.1
   | inr e ↦ let ne : k ≢ longest w s = e.1 in
       let lt : k < longest w s = omega arith in
       ends_here w s six k h at lt (met lt)

@@ -1,6 +1,6 @@
 -- The positions of a run, and the one at which a window is tried.
 use Rattle.std.proofs.Common.{◌≡◌, ◌≢◌, ℕ, zero, suc, ◌+◌, ◌-◌, ◌*◌, ◌<◌, ◌≤◌, ◌==◌, ◌&&◌, Bool, true, false, nat_le, if◌then◌else◌, inl, inr, ◌⊎◌, Option, Some, None, is_none, refl, ap, sym, ◌∙◌, subst, add-one, arith}
-use Rattle.std.proofs.lemmas.Bool.{eq-eqb, le-leb, lt-leb}
+use Rattle.std.proofs.lemmas.Bool.{eq-eqb, le-leb, lt-leb, ne_eqb}
 use Rattle.std.proofs.lemmas.Bool.Decides.{eqb_tells}
 use Rattle.lane_look.specs.Alone.{least}
 use Rattle.lane_look.proofs.Least.{is_least}
@@ -13,7 +13,6 @@ use Rattle.rp_machine.proofs.Runs.{below_limit, next_cycle}
 use Rattle.rp_machine.proofs.Copies.{sio_known}
 use Rattle.window_merge.specs.Window.{Position, first_position, is_tried, by_window, by_cycle, next_position, positions, last_position, window_length}
 use Rattle.rp_machine.specs.Laws.{KnowsSio}
-use Rattle.window_merge.proofs.Agree.{not_equal}
 use Rattle.window_merge.proofs.Positions.{left_of, nearer, run_ends}
 use Rattle.window_runner.specs.Orders.{begins_window, window_start, onward}
 
@@ -162,7 +161,8 @@ not_tried : (w : Setting) (m : ℕ) (p : Position) → is_tried p.after_empty p.
 not_tried w m p e = and_false (is_none (stop w p.state)) (is_tried p.after_empty p.state) (p.windows == m) e
 
 other_window : (w : Setting) (m : ℕ) (p : Position) → p.windows ≢ m → begins_window w m p ≡ false
-other_window w m p ne = and_last (is_none (stop w p.state)) (is_tried p.after_empty p.state) (p.windows == m) (not_equal p.windows m ne)
+other_window w m p ne = and_last (is_none (stop w p.state)) (is_tried p.after_empty p.state) (p.windows == m)
+    (ne_eqb p.windows m ne)
 
 tried_here : (w : Setting) (m : ℕ) (p : Position) → stop w p.state ≡ None → is_tried p.after_empty p.state ≡ true → p.windows ≡ m
     → begins_window w m p ≡ true

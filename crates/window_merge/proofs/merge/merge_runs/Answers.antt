@@ -2,14 +2,15 @@ use Rattle.std.proofs.Common.{◌≡◌, ◌<◌, sym, ◌∙◌, subst, arith}
 use Rattle.outer_lane.specs.Setting.{setting_of}
 use Rattle.window_merge.specs.Window.{longest}
 use Rattle.window_merge.specs.Merging.{rests_at}
-use Rattle.window_merge.proofs.Windows.{lengths_of, stands_at_first, within_first, ends_at_run, tries_at, ends_tried, stands_next, ends_full}
+use Rattle.window_merge.proofs.Windows.{stands_at_first, within_first, ends_at_run, tries_at, ends_tried, stands_next, ends_full}
 use Rattle.window_merge.proofs.merge.merge_runs.Goals as goal
 
 pub loop-k-init : goal.loop-k-init
 loop-k-init g c =
     let w = setting_of c.args.world.now.script.now (g.X.Device.meaning c.args.world.now.device.now) c.args.world.now.limit in
     record {
-      stands = rw c.first-indices.ensures (stands_at_first w c.args.machine.now c.args.runs.now c.clear.new.self c.requires.free (record { pins = c.fact_copies_are_known.ensures.pins; offer = c.fact_copies_are_known.ensures.offer }) c.requires.runs c.clear.ensures);
+      stands = rw c.first-indices.ensures (stands_at_first w c.args.machine.now c.args.runs.now c.clear.new.self c.requires.free
+          c.fact_copies_are_known.ensures.knows c.requires.runs c.clear.ensures);
       within = rw c.first-indices.ensures (within_first c.args.runs.now);
       counted = omega arith;
     }
@@ -32,7 +33,8 @@ returns-then-not-try_cycle-clause-length g c =
     let w = setting_of c.args.world.now.script.now (g.X.Device.meaning c.args.world.now.device.now) c.args.world.now.limit in
     let below : c.loop-k.k < longest w c.args.machine.now = subst (λ n. c.loop-k.k < n) c.longest-longest.ensures.value c.loop-k-test.true in
     let tries = tries_at w c.args.machine.now c.args.runs.now c.loop-k.k c.loop-k.machine (rests_at c.args.runs.now c.loop-k.indices) c.loop-k.marks c.end_at.result c.requires.runs c.loop-k.invariant.stands below c.end_at.ensures c.if-end_at.false in
-    ends_tried w c.args.machine.now (lengths_of c.args.runs.now) c.loop-k.k c.loop-k.machine (rests_at c.args.runs.now c.loop-k.indices) c.loop-k.marks c.try_cycle.result tries c.try_cycle.ensures.fits c.if-not-try_cycle.true
+    ends_tried w c.args.machine.now c.loop-k.k c.loop-k.machine (rests_at c.args.runs.now c.loop-k.indices) c.loop-k.marks
+    c.try_cycle.result tries c.try_cycle.ensures.fits c.if-not-try_cycle.true
 
 pub loop-k-preserved : goal.loop-k-preserved
 loop-k-preserved g c =
@@ -40,7 +42,10 @@ loop-k-preserved g c =
     let below : c.loop-k.k < longest w c.args.machine.now = subst (λ n. c.loop-k.k < n) c.longest-longest.ensures.value c.loop-k-test.true in
     let tries = tries_at w c.args.machine.now c.args.runs.now c.loop-k.k c.loop-k.machine (rests_at c.args.runs.now c.loop-k.indices) c.loop-k.marks c.end_at.result c.requires.runs c.loop-k.invariant.stands below c.end_at.ensures c.if-end_at.false in
     record {
-      stands = stands_next w c.args.machine.now (lengths_of c.args.runs.now) c.loop-k.k c.loop-k.machine (rests_at c.args.runs.now c.loop-k.indices) c.loop-k.marks c.try_cycle.result c.try_cycle.new.machine (rests_at c.args.runs.now c.try_cycle.new.indices) c.try_cycle.new.marks tries c.try_cycle.ensures.fits c.if-not-try_cycle.false c.try_cycle.ensures.state c.try_cycle.ensures.indices c.try_cycle.ensures.marks;
+      stands = stands_next w c.args.machine.now c.loop-k.k c.loop-k.machine (rests_at c.args.runs.now c.loop-k.indices)
+          c.loop-k.marks c.try_cycle.result c.try_cycle.new.machine (rests_at c.args.runs.now c.try_cycle.new.indices)
+          c.try_cycle.new.marks tries c.try_cycle.ensures.fits c.if-not-try_cycle.false c.try_cycle.ensures.state
+          c.try_cycle.ensures.indices c.try_cycle.ensures.marks;
       within = c.try_cycle.ensures.within;
       counted = let before = c.loop-k.invariant.counted in let tick = c.tick.ensures in omega arith;
     }
@@ -49,4 +54,5 @@ pub returns-clause-length : goal.returns-clause-length
 returns-clause-length g c =
     let w = setting_of c.args.world.now.script.now (g.X.Device.meaning c.args.world.now.device.now) c.args.world.now.limit in
     let full : c.loop-k.k ≡ c.longest-longest.result = let ended = c.loop-k-test.false in let end = c.loop-k.auto.k-end in omega arith in
-    sym full ∙ ends_full w c.args.machine.now (lengths_of c.args.runs.now) c.loop-k.k c.loop-k.machine (rests_at c.args.runs.now c.loop-k.indices) c.loop-k.marks c.loop-k.invariant.stands (full ∙ c.longest-longest.ensures.value)
+    sym full ∙ ends_full w c.args.machine.now c.loop-k.k c.loop-k.machine (rests_at c.args.runs.now c.loop-k.indices)
+    c.loop-k.marks c.loop-k.invariant.stands (full ∙ c.longest-longest.ensures.value)
