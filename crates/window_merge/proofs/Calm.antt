@@ -118,12 +118,16 @@ core1_rests_by false offered s none = refl
 
 -- ---- the cycle
 
--- what is known of a cycle in which this is begun
-pub record IsCalm (b : Begun) (s : State) : Type 0 where
+-- what is wanted is nothing, or an access to SRAM
+pub record AreCalm (b : Begun) : Type 0 where
   pub calm0 : ends_want (core.want_of b.core0) ≡ false
   pub calm1 : ends_want (core.want_of b.core1) ≡ false
   pub calm_read : ends_want (dma.want_of b.dma.read) ≡ false
   pub calm_write : ends_want (dma.want_of b.dma.write) ≡ false
+
+-- what is known of a cycle in which this is begun
+pub record IsCalm (b : Begun) (s : State) : Type 0 where
+  pub calm : AreCalm b
   pub placed0 : IsPlaced (core.want_of b.core0)
   pub placed1 : IsPlaced (core.want_of b.core1)
   pub placed_read : IsPlaced (dma.want_of b.dma.read)
@@ -151,14 +155,14 @@ granted_calm : (b : Begun) (s : State) → IsCalm b s → granted (wanted b) s �
     is_some (asked_of (core.want_of b.core0)) ∷ is_some (asked_of (core.want_of b.core1)) ∷ is_some (asked_of (dma.want_of b.dma.read)) ∷ is_some (asked_of (dma.want_of b.dma.write)) ∷ []
 unfolding granted asked wanted
 granted_calm b s h = free_done _ _ _ _ s.fabric h.apart
-    (in_bank (core.want_of b.core0) h.calm0 h.placed0) (in_bank (core.want_of b.core1) h.calm1 h.placed1)
-    (in_bank (dma.want_of b.dma.read) h.calm_read h.placed_read) (in_bank (dma.want_of b.dma.write) h.calm_write h.placed_write)
+    (in_bank (core.want_of b.core0) h.calm.calm0 h.placed0) (in_bank (core.want_of b.core1) h.calm.calm1 h.placed1)
+    (in_bank (dma.want_of b.dma.read) h.calm.calm_read h.placed_read) (in_bank (dma.want_of b.dma.write) h.calm.calm_write h.placed_write)
 
 still_free : (b : Begun) (s : State) → IsCalm b s → has_hold (with_grants (wanted b) s).fabric ≡ false
 unfolding asked wanted
 still_free b s h = free_after (asked_of (core.want_of b.core0)) (asked_of (core.want_of b.core1)) (asked_of (dma.want_of b.dma.read)) (asked_of (dma.want_of b.dma.write)) s.fabric h.free
-    (in_bank (core.want_of b.core0) h.calm0 h.placed0) (in_bank (core.want_of b.core1) h.calm1 h.placed1)
-    (in_bank (dma.want_of b.dma.read) h.calm_read h.placed_read) (in_bank (dma.want_of b.dma.write) h.calm_write h.placed_write)
+    (in_bank (core.want_of b.core0) h.calm.calm0 h.placed0) (in_bank (core.want_of b.core1) h.calm.calm1 h.placed1)
+    (in_bank (dma.want_of b.dma.read) h.calm.calm_read h.placed_read) (in_bank (dma.want_of b.dma.write) h.calm.calm_write h.placed_write)
 
 abbrev calm_turns : Begun → List Turn
 calm_turns b = turn_alone (core.want_of b.core0) ∷ turn_alone (core.want_of b.core1) ∷ turn_alone (dma.want_of b.dma.read) ∷ turn_alone (dma.want_of b.dma.write) ∷ []
@@ -168,10 +172,10 @@ unfolding turns wanted
 turns_calm w b s h =
     ap (turns w b (wanted b) s) (granted_calm b s h)
     ∙ rw (
-      turn_calm w b.outer (core.want_of b.core0) master.Core0 (core.want_of b.core0) s h.calm0 h.placed0,
-      turn_calm w b.outer (core.want_of b.core0) master.Core1 (core.want_of b.core1) s h.calm1 h.placed1,
-      turn_calm w b.outer (core.want_of b.core0) master.DmaRead (dma.want_of b.dma.read) s h.calm_read h.placed_read,
-      turn_calm w b.outer (core.want_of b.core0) master.DmaWrite (dma.want_of b.dma.write) s h.calm_write h.placed_write,
+      turn_calm w b.outer (core.want_of b.core0) master.Core0 (core.want_of b.core0) s h.calm.calm0 h.placed0,
+      turn_calm w b.outer (core.want_of b.core0) master.Core1 (core.want_of b.core1) s h.calm.calm1 h.placed1,
+      turn_calm w b.outer (core.want_of b.core0) master.DmaRead (dma.want_of b.dma.read) s h.calm.calm_read h.placed_read,
+      turn_calm w b.outer (core.want_of b.core0) master.DmaWrite (dma.want_of b.dma.write) s h.calm.calm_write h.placed_write,
     ) refl
 
 -- the deeds of the masters but for what they store
@@ -234,8 +238,8 @@ unfolding after_deeds
 done_calm w b s h =
     ap (λ t. ended (with_stores (calm_deeds w b s) t))
     (masters_calm w (after_lanes w b s).sio _ _ _ _ (after_lanes w b s)
-    (deed_calm w b.outer _ (core.want_of b.core0) s h.calm0) (deed_calm w b.outer _ (core.want_of b.core1) s h.calm1)
-    (deed_calm w b.outer _ (dma.want_of b.dma.read) s h.calm_read) (deed_calm w b.outer _ (dma.want_of b.dma.write) s h.calm_write)
+    (deed_calm w b.outer _ (core.want_of b.core0) s h.calm.calm0) (deed_calm w b.outer _ (core.want_of b.core1) s h.calm.calm1)
+    (deed_calm w b.outer _ (dma.want_of b.dma.read) s h.calm.calm_read) (deed_calm w b.outer _ (dma.want_of b.dma.write) s h.calm.calm_write)
     (rests_on w b s h))
 
 -- the state after the cycle
@@ -316,9 +320,9 @@ pub calm_sram : (w : Setting) (b : Begun) (s : State) → IsCalm b s → (next_b
 calm_sram w b s h =
     ap (λ (t : State). t.sram) (stepped_calm w b s h) ∙ after_sram w b s
     ∙ rw (
-      stored_calm_by w b.outer (core.want_of b.core0) s s.sram h.calm0 h.placed0,
-      stored_calm_by w b.outer (core.want_of b.core1) s (sram_after (core.want_of b.core0) s.sram) h.calm1 h.placed1,
-      stored_calm_by w b.outer (dma.want_of b.dma.read) s (sram_after (core.want_of b.core1) (sram_after (core.want_of b.core0) s.sram)) h.calm_read h.placed_read,
+      stored_calm_by w b.outer (core.want_of b.core0) s s.sram h.calm.calm0 h.placed0,
+      stored_calm_by w b.outer (core.want_of b.core1) s (sram_after (core.want_of b.core0) s.sram) h.calm.calm1 h.placed1,
+      stored_calm_by w b.outer (dma.want_of b.dma.read) s (sram_after (core.want_of b.core1) (sram_after (core.want_of b.core0) s.sram)) h.calm.calm_read h.placed_read,
       stored_calm_by w b.outer (dma.want_of b.dma.write) s
-          (sram_after (dma.want_of b.dma.read) (sram_after (core.want_of b.core1) (sram_after (core.want_of b.core0) s.sram))) h.calm_write h.placed_write,
+          (sram_after (dma.want_of b.dma.read) (sram_after (core.want_of b.core1) (sram_after (core.want_of b.core0) s.sram))) h.calm.calm_write h.placed_write,
     ) refl

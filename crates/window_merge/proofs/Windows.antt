@@ -31,7 +31,7 @@ use Rattle.window_merge.specs.declared.runs.Runs.{Runs}
 use Rattle.rp_machine.specs.Laws.{KnowsSio}
 use Rattle.window_merge.specs.Merging.{Rests, begun_by, left_by, differs_by, wants_of, fits, marks_in, AreRunsAlone, IsWithin, rests_at, end_at}
 use Rattle.window_merge.proofs.Agree.{six_false, itself}
-use Rattle.window_merge.proofs.Calm.{IsCalm, IsStepped, calm_next}
+use Rattle.window_merge.proofs.Calm.{AreCalm, IsCalm, IsStepped, calm_next}
 use Rattle.window_merge.proofs.Comparing.{clash_four}
 use Rattle.window_merge.proofs.InSram.{core_placed, dma_placed}
 use Rattle.window_merge.proofs.Lanes.{run, cycles_of, tree, LaneStands, lane_first, log_alone, LaneTold, lane_told, lane_next}
@@ -164,13 +164,6 @@ first_ends v u e =
     let b = or_parts (ends_want u) _ a.1 in
     (a.0, b.0)
 
--- what is wanted is nothing, or an access to SRAM
-pub record AreCalm (b : Begun) : Type 0 where
-  pub calm0 : ends_want (core.want_of b.core0) ≡ false
-  pub calm1 : ends_want (core.want_of b.core1) ≡ false
-  pub calm_read : ends_want (dma.want_of b.dma.read) ≡ false
-  pub calm_write : ends_want (dma.want_of b.dma.write) ≡ false
-
 all_calm : (w : Setting) (s : State) (k : ℕ) (now : State) (rests : Rests) (marks : List Mark) → Tries w s k now rests marks
     → AreCalm (begun_by rests now)
 all_calm w s k now rests marks t =
@@ -203,13 +196,9 @@ calm_here : (w : Setting) (s : State) (k : ℕ) (now : State) (rests : Rests) (m
     → begun_by rests now ≡ begun now → clash (wants_of (begun_by rests now)) ≡ false → IsCalm (begun now) now
 unfolding begun
 calm_here w s k now rests marks t same none =
-    let calm = subst AreCalm same (all_calm w s k now rests marks t) in
     let apart = ap (λ b. clash (wants_of b)) (sym same) ∙ none in
     record {
-      calm0 = calm.calm0;
-      calm1 = calm.calm1;
-      calm_read = calm.calm_read;
-      calm_write = calm.calm_write;
+      calm = subst AreCalm same (all_calm w s k now rests marks t);
       placed0 = core_placed (answer_of 0 now) now.core0 now.cycle;
       placed1 = core_placed (answer_of 1 now) now.core1 now.cycle;
       placed_read = (dma_placed (answer_of 2 now) now.dma.block).read;
@@ -306,8 +295,7 @@ fitted w s k now rests marks t e =
     record {
       same = same;
       calm = calm;
-      runs = runs_on w now ne
-          (record { calm0 = calm.calm0; calm1 = calm.calm1; calm_read = calm.calm_read; calm_write = calm.calm_write });
+      runs = runs_on w now ne calm.calm;
     }
 
 pub stands_next : (w : Setting) (s : State) (k : ℕ) (now : State) (rests : Rests) (marks : List Mark) (fitting : Bool)
