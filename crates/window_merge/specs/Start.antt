@@ -4,7 +4,7 @@ use Rattle.std.specs.Prelude.{◌≡◌, nat_eq, ℕ, ◌==◌, ◌||◌, ◌&&�
 use Rattle.rp_base.specs.declared.map.Spot.{Spot}
 use Rattle.rp_base.specs.declared.map.Spot.TheVariants as spot
 use Rattle.rp_base.specs.Map.{place_of}
-use Rattle.lane_look.specs.Asking.{answered}
+use Rattle.lane_look.specs.Asking.{Asking, answered}
 use Rattle.lane_look.specs.declared.lane.Ask.{Ask}
 use Rattle.lane_look.specs.declared.lane.Ask.TheVariants as ask
 use Rattle.lane_look.specs.Replay.{asked}
@@ -60,6 +60,12 @@ abbrev pub matched : Matcher → Ask → ℕ → Matcher → Type 0
 matched old question answer new =
     (answer ≡ answer_of old.lane old.machine.now question)
     × (new ≡ record old { same = old.same && nat_eq (guessed old question) answer })
+
+-- a lane has begun by what the machine answers, and it is kept whether the start answers the same
+pub record IsBegun {B : Type 0} (lane : ℕ) (start : Start) (n : Notes) (s : State) (tree : Asking B) (before : Bool) (did : B)
+    (after : Bool) : Type 0 where
+  pub begun : did ≡ answered (answer_of lane s) tree
+  pub same : after ≡ (before && not (differs (answer_of lane s) (asked (guess lane start (seen_of lane n s.sram)) tree)))
 
 -- ---- the six lanes
 

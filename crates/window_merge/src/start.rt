@@ -1,7 +1,7 @@
 //! What the start of a window answers each lane, while the machine goes on; and looks that compare it with what the machine answers.
 
 ghost use Rattle.std.specs.Prelude.{◌≡◌, ◌&&◌, not};
-ghost use Rattle.lane_look.specs.Asking.{Runs, answered};
+ghost use Rattle.lane_look.specs.Asking.{Runs};
 ghost use Rattle.lane_look.specs.Replay.{asked};
 ghost use Rattle.lane_look.specs.Alone.{differs};
 ghost use Rattle.dma_engine.specs.Asks as dma;
@@ -9,7 +9,7 @@ ghost use Rattle.m0_core.specs.Fetch.{asks};
 ghost use Rattle.rp_machine.specs.Answers.{answer_of, lines_of};
 ghost use Rattle.window_merge.specs.Notes.{seen_of};
 ghost use Rattle.rp_machine.specs.Cycle.{begun};
-ghost use Rattle.window_merge.specs.Start.{guess, matched, differs_core0, differs_outer, differs_from};
+ghost use Rattle.window_merge.specs.Start.{guess, matched, IsBegun, differs_core0, differs_outer, differs_from};
 
 use crate::copies::half_of;
 use crate::notes::Notes;
@@ -160,12 +160,8 @@ fn begin_by<E, S: Lane<E>>(
     notes: &Notes,
     same: &mut bool,
 ) -> S::Begun
-    ensures begun { result ≡ answered (answer_of number machine.now)
-        (S.asks env.now lane.now machine.now.cycle) }
-    ensures same { same.new ≡ (same.old && not (differs
-        (answer_of number machine.now)
-        (asked (guess number start.now (seen_of number notes.now machine.now.sram))
-        (S.asks env.now lane.now machine.now.cycle)))) }
+    ensures { IsBegun number start.now notes.now machine.now
+        (S.asks env.now lane.now machine.now.cycle) same.old result same.new }
 {
     let mut look = Matcher {
         machine,
@@ -212,12 +208,8 @@ fn begin_core(
     begun: &mut Doing,
     same: &mut bool,
 )
-    ensures begun { begun.new ≡ answered (answer_of number machine.now)
-        (asks core.now machine.now.cycle) }
-    ensures same { same.new ≡ (same.old && not (differs
-        (answer_of number machine.now)
-        (asked (guess number start.now (seen_of number notes.now machine.now.sram))
-        (asks core.now machine.now.cycle)))) }
+    ensures { IsBegun number start.now notes.now machine.now (asks core.now machine.now.cycle)
+        same.old begun.new same.new }
 {
     let mut look = Matcher {
         machine,
@@ -239,11 +231,8 @@ fn begin_dma(
     begun: &mut BegunTransfer,
     same: &mut bool,
 )
-    ensures begun { begun.new ≡ answered (answer_of 2 machine.now) (dma.asks machine.now.dma.block) }
-    ensures same { same.new ≡ (same.old && not (differs
-        (answer_of 2 machine.now)
-        (asked (guess 2 start.now (seen_of 2 notes.now machine.now.sram))
-        (dma.asks machine.now.dma.block)))) }
+    ensures { IsBegun 2 start.now notes.now machine.now (dma.asks machine.now.dma.block) same.old
+        begun.new same.new }
 {
     let mut look = Matcher {
         machine,

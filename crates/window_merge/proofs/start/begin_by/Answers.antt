@@ -1,23 +1,12 @@
-use Rattle.std.proofs.Common.{◌≡◌, not, ◌&&◌, subst}
-use Rattle.lane_look.specs.Asking.{answered}
-use Rattle.lane_look.specs.Replay.{asked}
-use Rattle.lane_look.specs.Alone.{differs}
+use Rattle.std.proofs.Common.{subst}
 use Rattle.rp_machine.specs.State.{State}
-use Rattle.rp_machine.specs.Answers.{answer_of}
-use Rattle.window_merge.specs.Notes.{seen_of}
-use Rattle.window_merge.specs.Start.{guess}
+use Rattle.window_merge.specs.Start.{IsBegun}
 use Rattle.window_merge.proofs.Starting.{runs_match}
 use Rattle.window_merge.proofs.start.begin_by.Goals as goal
 
-pub returns-clause-begun : goal.returns-clause-begun
-returns-clause-begun g c =
-    let here = answer_of c.args.number c.args.machine.now in
-    let family : State → Type 0 = λ s. c.begin-begun.result ≡ answered here (g.S.Lane.asks c.args.env.now c.args.lane.now s.cycle) in
-    subst family c.machine.view_is (runs_match _ (g.S.Lane.asks c.args.env.now c.args.lane.now c.machine.inside.at) _ _ c.begin-begun.ensures).begun
-
-pub returns-clause-same : goal.returns-clause-same
-returns-clause-same g c =
-    let here = answer_of c.args.number c.args.machine.now in
-    let there = guess c.args.number c.args.start.now (seen_of c.args.number c.args.notes.now c.args.machine.now.sram) in
-    let family : State → Type 0 = λ s. c.begin-begun.new.look.same ≡ (c.args.same.now && not (differs here (asked there (g.S.Lane.asks c.args.env.now c.args.lane.now s.cycle)))) in
-    subst family c.machine.view_is (runs_match _ (g.S.Lane.asks c.args.env.now c.args.lane.now c.machine.inside.at) _ _ c.begin-begun.ensures).is_same
+pub returns : goal.returns
+returns g c =
+    let family : State → Type 0 = λ s. IsBegun c.args.number c.args.start.now c.args.notes.now c.args.machine.now
+    (g.S.Lane.asks c.args.env.now c.args.lane.now s.cycle) c.args.same.now c.begin-begun.result c.begin-begun.new.look.same in
+    let m = runs_match _ (g.S.Lane.asks c.args.env.now c.args.lane.now c.machine.inside.at) _ _ c.begin-begun.ensures in
+    subst family c.machine.view_is (record { begun = m.begun; same = m.is_same })
