@@ -6,10 +6,11 @@ ghost use Rattle.lane_look.specs.Replay.{asked};
 ghost use Rattle.lane_look.specs.Alone.{differs};
 ghost use Rattle.dma_engine.specs.Asks as dma;
 ghost use Rattle.m0_core.specs.Fetch.{asks};
+ghost use Rattle.outer_lane.specs.Step as outer;
 ghost use Rattle.rp_machine.specs.Answers.{answer_of, lines_of};
 ghost use Rattle.window_merge.specs.Notes.{seen_of};
 ghost use Rattle.rp_machine.specs.Cycle.{begun};
-ghost use Rattle.window_merge.specs.Start.{guess, matched, IsBegun, differs_core0, differs_outer, differs_from};
+ghost use Rattle.window_merge.specs.Start.{guess, matched, IsBegun, differs_from};
 
 use crate::copies::half_of;
 use crate::notes::Notes;
@@ -245,22 +246,6 @@ fn begin_dma(
     *same = look.same;
 }
 
-/// Begins the cycle of core 0 so.
-#[inline(always)]
-#[tactic(auto, unfolding(rp_machine::specs::Cycle::begun))]
-pub(crate) fn begin_core0(
-    machine: &Machine,
-    start: &Start,
-    notes: &Notes,
-    core0: &mut Doing,
-    same: &mut bool,
-)
-    ensures begun { core0.new ≡ (begun machine.now).core0 }
-    ensures same { same.new ≡ (same.old && not (differs_core0 start.now notes.now machine.now)) }
-{
-    begin_core(&machine.core0, 0, machine, start, notes, core0, same);
-}
-
 /// Begins the cycle of core 1 so. While it sleeps it asks nothing.
 #[inline(always)]
 #[tactic(auto, unfolding(rp_machine::specs::Cycle::begun, m0_core::specs::Fetch::asks))]
@@ -282,8 +267,7 @@ fn begin_core1(machine: &Machine, start: &Start, notes: &Notes, core1: &mut Doin
 
 /// Begins the cycle of the peripherals so.
 #[inline(always)]
-#[tactic(auto, unfolding(rp_machine::specs::Cycle::begun))]
-pub(crate) fn begin_outer<X: Device>(
+fn begin_outer<X: Device>(
     machine: &Machine,
     world: &World<'_, X>,
     start: &Start,
@@ -291,8 +275,8 @@ pub(crate) fn begin_outer<X: Device>(
     seen: &mut SeenOutputs,
     same: &mut bool,
 )
-    ensures begun { seen.new ≡ (begun machine.now).outer }
-    ensures same { same.new ≡ (same.old && not (differs_outer start.now notes.now machine.now)) }
+    ensures { IsBegun 5 start.now notes.now machine.now
+        (outer.asks machine.now.outer machine.now.cycle) same.old seen.new same.new }
 {
     let mut look = Matcher {
         machine,
@@ -320,7 +304,8 @@ pub(crate) fn begin_later<X: Device>(
     ensures begun { lanes.new ≡ begun machine.now }
     ensures same { same.new ≡ (same.old && not (differs_from start.now notes.now machine.now)) }
 {
-    begin_core0(machine, start, notes, &mut lanes.core0, same);
+    let core0 = &mut lanes.core0;
+    begin_core(&machine.core0, 0, machine, start, notes, core0, same);
     begin_core1(machine, start, notes, &mut lanes.core1, same);
     begin_dma(machine, start, notes, &mut lanes.dma, same);
     lanes.pio0 = begin_by(&machine.pio0.block, &(), 3, machine, start, notes, same);
