@@ -162,20 +162,20 @@ quiet_window w s n i h long le =
     let offer : t.core1.offer ≡ s.core1.offer = ap (λ (x : State). x.core1.offer) at ∙ h.parts.core1.offer i (omega (arith, le)) in
     let sio : t.sio ≡ s.sio = ap (λ (x : State). x.sio) at in
     let whole : longest w t ≡ 256 = whole_by (w.limit - t.cycle) (omega (arith, limit, number, le)) in
-    let first : First t [] = record {
+    let first : First t = record {
       free = ap (λ (x : State). has_hold x.fabric) at ∙ h.parts.fabric;
       knows = record {
         pins = ap (λ (x : State). x.outer.sio) at ∙ h.parts.peripherals.sio i (omega (arith, le)) ∙ h.agree.pins ∙ ap pins_of (sym sio);
         offer = offer ∙ h.agree.offer ∙ ap offers_of (sym sio);
       };
-      none = refl;
       long = ap (λ (x : State). length x.sram) at ∙ long;
     } in
     let calm : is_launching t.core1 ≡ false = calm_by t.core1.asleep t.core1.offer (offer ∙ h.agree.offer ∙ h.parts.launcher) in
     let start : start_of t ≡ start_of s = ap start_of at ∙ starts w no_notes s n i h (omega (arith, le)) in
     let goes : GoesAsAlone w (start_of t) no_notes t 256 = subst (λ (x : Start). GoesAsAlone w x no_notes t 256) (sym start) (waits_as_alone w no_notes s n i 256 h le) in
-    let fits : 256 ≤ longest w t = omega (arith, whole) in
-    sym (closed_full w t 256 _ _ _ _ (along_first w t (start_of t) no_notes 256 _ _ _ first calm fits refl refl goes refl refl refl) (sym whole))
+    let gone : GoneOver w (start_of t) t no_notes [] 256 (states w t 256) (noted_in w (start_of t) no_notes t 256) (marks_in w t 256) =
+    record { state = refl; goes = goes; noted = refl; marked = refl } in
+    sym (closed_full (along_first first gone calm (omega (arith, whole)) refl refl refl) (sym whole)).length
 
 sees_none : (s : State) → sees_sram no_notes s ≡ true
 sees_none s = or-true s.core1.asleep

@@ -1,19 +1,18 @@
-use Rattle.std.proofs.Common.{◌/◌, ◌*◌, ◌<◌, subst, arith}
+use Rattle.std.proofs.Common.{◌/◌, ◌*◌, ◌<◌, refl, sym, subst, arith}
 use Rattle.outer_lane.specs.Setting.{setting}
 use Rattle.rp_machine.specs.Copies.{CopiesAgree}
-use Rattle.quiet_run.proofs.Passing.{fewer_parts}
-use Rattle.window_merge.proofs.Passing.{no_states}
+use Rattle.quiet_run.proofs.Passing.{fewer_parts, no_states}
 use Rattle.window_merge.proofs.WaitingCycles.{no_window, quiet_windows}
 use Rattle.window_merge.proofs.quiet.pass_windows.Goals as goal
 
 pub returns-then-not-is_waiting-clause-state : goal.returns-then-not-is_waiting-clause-state
-returns-then-not-is_waiting-clause-state g c = no_states (setting g.X.Device.meaning c.args.world.now) c.args.machine.now
+returns-then-not-is_waiting-clause-state g c = sym (no_states (setting g.X.Device.meaning c.args.world.now) c.args.machine.now 0 refl)
 
 pub returns-then-not-is_waiting-clause-quiet : goal.returns-then-not-is_waiting-clause-quiet
 returns-then-not-is_waiting-clause-quiet g c = no_window (setting g.X.Device.meaning c.args.world.now) c.args.machine.now
 
 pub returns-then-windows-eq0-clause-state : goal.returns-then-windows-eq0-clause-state
-returns-then-windows-eq0-clause-state g c = no_states (setting g.X.Device.meaning c.args.world.now) c.args.machine.now
+returns-then-windows-eq0-clause-state g c = sym (no_states (setting g.X.Device.meaning c.args.world.now) c.args.machine.now 0 refl)
 
 pub returns-then-windows-eq0-clause-quiet : goal.returns-then-windows-eq0-clause-quiet
 returns-then-windows-eq0-clause-quiet g c = no_window (setting g.X.Device.meaning c.args.world.now) c.args.machine.now
