@@ -156,13 +156,15 @@ granted_calm : (b : Begun) (s : State) → IsCalm b s → granted (wanted b) s �
 unfolding granted asked wanted
 granted_calm b s h = free_done _ _ _ _ s.fabric h.apart
     (in_bank (core.want_of b.core0) h.calm.calm0 h.placed0) (in_bank (core.want_of b.core1) h.calm.calm1 h.placed1)
-    (in_bank (dma.want_of b.dma.read) h.calm.calm_read h.placed_read) (in_bank (dma.want_of b.dma.write) h.calm.calm_write h.placed_write)
+    (in_bank (dma.want_of b.dma.read) h.calm.calm_read h.placed_read)
+    (in_bank (dma.want_of b.dma.write) h.calm.calm_write h.placed_write)
 
 still_free : (b : Begun) (s : State) → IsCalm b s → has_hold (with_grants (wanted b) s).fabric ≡ false
 unfolding asked wanted
 still_free b s h = free_after (asked_of (core.want_of b.core0)) (asked_of (core.want_of b.core1)) (asked_of (dma.want_of b.dma.read)) (asked_of (dma.want_of b.dma.write)) s.fabric h.free
     (in_bank (core.want_of b.core0) h.calm.calm0 h.placed0) (in_bank (core.want_of b.core1) h.calm.calm1 h.placed1)
-    (in_bank (dma.want_of b.dma.read) h.calm.calm_read h.placed_read) (in_bank (dma.want_of b.dma.write) h.calm.calm_write h.placed_write)
+    (in_bank (dma.want_of b.dma.read) h.calm.calm_read h.placed_read)
+    (in_bank (dma.want_of b.dma.write) h.calm.calm_write h.placed_write)
 
 abbrev calm_turns : Begun → List Turn
 calm_turns b = turn_alone (core.want_of b.core0) ∷ turn_alone (core.want_of b.core1) ∷ turn_alone (dma.want_of b.dma.read) ∷ turn_alone (dma.want_of b.dma.write) ∷ []
@@ -239,7 +241,8 @@ done_calm w b s h =
     ap (λ t. ended (with_stores (calm_deeds w b s) t))
     (masters_calm w (after_lanes w b s).sio _ _ _ _ (after_lanes w b s)
     (deed_calm w b.outer _ (core.want_of b.core0) s h.calm.calm0) (deed_calm w b.outer _ (core.want_of b.core1) s h.calm.calm1)
-    (deed_calm w b.outer _ (dma.want_of b.dma.read) s h.calm.calm_read) (deed_calm w b.outer _ (dma.want_of b.dma.write) s h.calm.calm_write)
+    (deed_calm w b.outer _ (dma.want_of b.dma.read) s h.calm.calm_read)
+    (deed_calm w b.outer _ (dma.want_of b.dma.write) s h.calm.calm_write)
     (rests_on w b s h))
 
 -- the state after the cycle
@@ -322,7 +325,9 @@ calm_sram w b s h =
     ∙ rw (
       stored_calm_by w b.outer (core.want_of b.core0) s s.sram h.calm.calm0 h.placed0,
       stored_calm_by w b.outer (core.want_of b.core1) s (sram_after (core.want_of b.core0) s.sram) h.calm.calm1 h.placed1,
-      stored_calm_by w b.outer (dma.want_of b.dma.read) s (sram_after (core.want_of b.core1) (sram_after (core.want_of b.core0) s.sram)) h.calm.calm_read h.placed_read,
+      stored_calm_by w b.outer (dma.want_of b.dma.read) s
+          (sram_after (core.want_of b.core1) (sram_after (core.want_of b.core0) s.sram)) h.calm.calm_read h.placed_read,
       stored_calm_by w b.outer (dma.want_of b.dma.write) s
-          (sram_after (dma.want_of b.dma.read) (sram_after (core.want_of b.core1) (sram_after (core.want_of b.core0) s.sram))) h.calm.calm_write h.placed_write,
+          (sram_after (dma.want_of b.dma.read) (sram_after (core.want_of b.core1) (sram_after (core.want_of b.core0) s.sram)))
+          h.calm.calm_write h.placed_write,
     ) refl
