@@ -1,5 +1,5 @@
 -- Windows in which nobody has anything to do, on the way of a run: each is a step of which nothing is told.
-use Rattle.std.proofs.Common.{◌≡◌, ℕ, zero, suc, ◌+◌, ◌-◌, ◌*◌, ◌<◌, ◌≤◌, ◌==◌, Bool, true, false, if◌then◌else◌, List, None, Ok, refl, ap, sym, ◌∙◌, subst, arith}
+use Rattle.std.proofs.Common.{◌≡◌, ℕ, zero, suc, ◌+◌, ◌-◌, ◌*◌, ◌<◌, ◌≤◌, Bool, true, false, List, None, Ok, refl, ap, sym, ◌∙◌, subst, arith}
 use Rattle.outer_lane.specs.Setting.{Setting}
 use Rattle.trace_text.specs.declared.event.Event.{Event as Shown}
 use Rattle.rp_machine.specs.State.{State}
@@ -8,7 +8,7 @@ use Rattle.rp_machine.specs.Events.{events}
 use Rattle.rp_machine.specs.Run.{states, events_in}
 use Rattle.rp_machine.proofs.Joining.{runs_follow}
 use Rattle.window_merge.specs.Quiet.{AreQuietWindows, behind_quiet}
-use Rattle.window_merge.specs.Window.{Position, is_tried, by_window, next_position, window_length}
+use Rattle.window_merge.specs.Window.{Position, is_tried, by_window}
 use Rattle.window_merge.proofs.Positions.{left_of}
 use Rattle.window_merge.proofs.WaitingCycles.{no_window}
 use Rattle.window_runner.specs.Told.{all_shown, step_events}
