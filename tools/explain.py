@@ -106,7 +106,7 @@ def forms_in(cell):
 
 
 def near(word, known):
-    found = difflib.get_close_matches(word, known, 1)
+    found = difflib.get_close_matches(word, known, 1, 0.75 if word.startswith("--") else 0.6)
     return f"; did you mean {found[0]}?" if found else ""
 
 
@@ -165,7 +165,7 @@ def split(page, words):
         if word == "--":
             arguments, rest = arguments + rest, []
             continue
-        if not word.startswith("-") or word == "-":
+        if not word.startswith("-") or word == "-" or command == "gen" and word[1:].isdigit():
             arguments.append(word)
             continue
         name, is_joined, value = word.partition("=")
@@ -191,10 +191,11 @@ def words_fault(page, words):
     """The first thing that is wrong with the words."""
     command = words[0] if words else ""
     if command not in page.forms:
-        what = "no command" if command.startswith("-") or not command else f"no command {command}"
+        if command.startswith("-"):
+            return f"the first word is the command, and {command} is none"
         if command.endswith((".uf2", ".elf", ".bin")):
             return f"the command comes first: pico run {command} --cycles N"
-        return f"there is {what}{near(command, page.forms)}"
+        return f"there is no command {command}".strip() + near(command, page.forms)
     if "--help" in words or "-h" in words:
         return f"this is the usage of {command}; ./pico help prints the whole page"
     arguments, given, fault = split(page, words)
@@ -391,11 +392,13 @@ def explain(page, program, words, status, line):
         say(f"status {status}: docs/USAGE.md tells what it means")
 
 
-def told_outside(address):
+def told_outside(words, address):
     """Says what is where a run stopped outside of the machine."""
     area = area_of(int(address, 16))
     say(f"{address} is {f'in {area}' if area else 'in no block'}{vector_of(int(address, 16))}; docs/FIRMWARE.md has what is left out, "
         "and tools/where.py names the line of the program")
+    if int(address, 16) == 0 and "--table" not in words:
+        say("a pointer that was never set is 0; an image that takes memset and memcpy from the table runs with --table")
 
 
 def image_of(page, words):
@@ -459,7 +462,7 @@ def run(page, program, given, words):
     elif given[:1] == ["run"]:
         for found in filter(None, map(STOP.fullmatch, lines)):
             if found[2]:
-                told_outside(found[2])
+                told_outside(given, found[2])
     return status
 
 
