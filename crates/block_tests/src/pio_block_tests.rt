@@ -87,7 +87,7 @@ impl Wired {
                     && self.block.registers(first as u8) == [second, third, fourth, fifth, sixth]
             }
             "lines" => self.block.lines() == [first == 1, second == 1],
-            "idle" => (self.block.quiet() == u64::MAX) == (first == 1),
+            "idle" => (self.block.quiet(Inputs { now: 0, second: 0 }) == u64::MAX) == (first == 1),
             _ => false,
         }
     }

@@ -5,11 +5,11 @@ use Rattle.rp_base.specs.Rows.{Row, register, read_only, read_write, word_at, ef
 use Rattle.rp_base.specs.Word.{bit_number}
 use Rattle.pio_machine.specs.declared.machine.Machine1.{Machine1}
 use Rattle.pio_machine.specs.Progress.{forced}
-use Rattle.pio_block.specs.State.{is_written}
+use Rattle.pio_machine.specs.Quiet.{is_forced}
 
 -- EXEC_STALLED tells that a word that was written to INSTR waits
 abbrev pub execctrl_of : Machine1 → ℕ
-execctrl_of m = bit_or m.execctrl (bit_number (is_written m.waiting) * 2 ^ 31)
+execctrl_of m = bit_or m.execctrl (bit_number (is_forced m.waiting) * 2 ^ 31)
 
 -- the named bits of EXECCTRL that are kept: SIDE_EN, SIDE_PINDIR, JMP_PIN, WRAP_TOP, WRAP_BOTTOM, STATUS_SEL and STATUS_N
 abbrev pub execctrl_bits : ℕ

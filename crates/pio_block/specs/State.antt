@@ -1,9 +1,9 @@
 -- A PIO block (RP2040 Datasheet, 3.2 and 3.7): four machines, the instruction memory and the interrupt flags that they share,
 -- and the levels and enables of the pins that they have written.
-use Rattle.std.specs.Prelude.{ℕ, zero, suc, ◌+◌, ◌-◌, ◌^◌, Bool, false, ◌||◌, List, [], ◌∷◌, Option, Some, None, bit_and, replicate, slice_index_or}
+use Rattle.std.specs.Prelude.{ℕ, zero, suc, ◌+◌, ◌-◌, ◌^◌, Bool, ◌||◌, List, [], ◌∷◌, bit_and, replicate, slice_index_or}
 use Rattle.std.specs.List.{list_any}
 use Rattle.pio_machine.specs.declared.machine.Machine1.{Machine1}
-use Rattle.pio_machine.specs.declared.machine.Waiting.{Waiting}
+use Rattle.pio_machine.specs.Quiet.{is_forced}
 use Rattle.pio_machine.specs.Start as machine
 
 pub record State : Type 0 where
@@ -66,13 +66,8 @@ with_machines ms s = record s { machines = ms }
 
 -- ---- what is asked of the pins
 
--- a word that was written to INSTR waits
-abbrev pub is_written : Option Waiting → Bool
-is_written None = false
-is_written (Some w) = w.forced
-
 abbrev pub is_running : Machine1 → Bool
-is_running m = m.enabled || is_written m.waiting
+is_running m = m.enabled || is_forced m.waiting
 
 -- the block steps: a machine is enabled, or a written word waits
 abbrev pub is_busy : State → Bool

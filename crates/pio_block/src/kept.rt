@@ -1,6 +1,6 @@
 //! A machine with what its registers say.
 
-use crate::machine::{control, pass, quiet, write_register};
+use crate::machine::{control, write_register};
 use pio_machine::settings::Settings;
 use pio_machine::{Done, Machine1, Seen, tick};
 use rp_base::bits::has_bit;
@@ -26,11 +26,12 @@ impl Model for Kept {
 }
 
 impl Kept {
-    ghost use Rattle.std.specs.Prelude.{◌≡◌, ◌<◌, Decides};
+    ghost use Rattle.std.specs.Prelude.{◌≡◌, ◌<◌, ℕ, Decides};
     ghost use Rattle.pio_machine.specs.Start.{at_reset};
     ghost use Rattle.pio_machine.specs.Operation.{with_pc};
     ghost use Rattle.pio_machine.specs.Cycle.{after_cycle, written_in_cycle};
-    ghost use Rattle.pio_block.specs.Quiet.{IsBetweenTicks, divider_after};
+    ghost use Rattle.pio_machine.specs.declared.machine.Seen.{Seen};
+    ghost use Rattle.pio_machine.specs.Quiet.{waited, IsQuiet};
     ghost use Rattle.pio_block.specs.Control.{controlled};
     ghost use Rattle.pio_block.specs.Words.{room_left};
     ghost use Rattle.pio_block.specs.Queues.{with_stalls_cleared, with_sent, with_taken};
@@ -72,21 +73,36 @@ impl Kept {
         tick(&mut self.machine, &self.settings, number, seen, done);
     }
 
-    /// For so many cycles from now on the machine does not tick, and no word that was written waits.
+    /// For so many cycles from now on the machine tries no word, whatever it sees.
     #[inline(always)]
-    pub(crate) fn quiet(&self) -> u64
-        ensures { IsBetweenTicks self.now result }
+    pub(crate) fn tries_none(&self) -> u64
+        ensures { (number : ℕ) → (seen : Seen) → (level enable : ℕ) → IsQuiet number seen level enable self.now result }
     {
-        quiet(&self.machine)
+        self.machine.tries_none(&self.settings)
     }
 
-    /// So many cycles at once, in which the machine does not tick.
+    /// For so many cycles from now on the machine of that number only waits, where it sees this and the pins have these levels and enables.
+    #[inline(always)]
+    pub(crate) fn quiet(&self, number: u8, seen: &Seen, levels: u32, enables: u32) -> u64
+        requires { number < 4 }
+        ensures { IsQuiet number seen.now levels enables self.now result }
+    {
+        if self
+            .machine
+            .stalls(&self.settings, number, seen, levels, enables)
+        {
+            u64::MAX
+        } else {
+            self.tries_none()
+        }
+    }
+
+    /// So many cycles at once, in which the machine only waits.
     #[inline(always)]
     pub(crate) fn pass(&mut self, n: u64)
-        requires { IsBetweenTicks self.old n }
-        ensures { self.new ≡ divider_after n self.old }
+        ensures { self.new ≡ waited n self.old }
     {
-        pass(&mut self.machine, n);
+        self.machine.pass(&self.settings, n);
     }
 
     /// A write of CTRL, to the machine of that number.

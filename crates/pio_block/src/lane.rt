@@ -7,8 +7,8 @@ use crate::block::PioBlock;
 use crate::inputs::Inputs;
 use lane_look::{Ask, Lane, Look, Marks, Turn, Want};
 
-/// The two words of an answer.
-fn inputs_of(answer: u128) -> Inputs
+/// The two words of an answer, which the machine gives to `Ask::Inputs`.
+pub fn inputs_of(answer: u128) -> Inputs
     ensures { result ≡ inputs_of answer }
 {
     Inputs {

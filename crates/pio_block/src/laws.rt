@@ -23,8 +23,8 @@ pub fn a_block_that_is_held_is_still()
     ensures { ABlockThatIsHeldIsStill }
 {}
 
-/// In cycles in which none of its machines ticks or tries a word a block does not heed its inputs: only the dividers go on, and its pins,
-/// its interrupt lines and the counts that pace DMA channels stay.
+/// In cycles in which each of its machines only waits, between ticks, in a delay or on a word that stalls, and its inputs stay, only the
+/// dividers and delays of a block go on, and its pins, its interrupt lines and the counts that pace DMA channels stay.
 #[tactic(auto, using(crate::proofs::Between::a_quiet_block_shows_the_same))]
 pub fn a_quiet_block_shows_the_same()
     ensures { AQuietBlockShowsTheSame }

@@ -5,7 +5,7 @@
 pub mod block;
 pub mod inputs;
 mod kept;
-mod lane;
+pub mod lane;
 pub mod laws;
 mod machine;
 mod machines;

@@ -1,9 +1,7 @@
 //! What the system does to one machine.
 
 ghost use Rattle.std.specs.Prelude.{◌≡◌, ◌<◌};
-ghost use Rattle.pio_machine.specs.Ready.{settings_of};
-ghost use Rattle.pio_block.specs.State.{is_running, is_written};
-ghost use Rattle.pio_block.specs.Quiet.{IsBetweenTicks, divider_after};
+ghost use Rattle.pio_block.specs.State.{is_running};
 ghost use Rattle.pio_block.specs.Control.{restarted_if, with_divider_restarted, controlled};
 ghost use Rattle.pio_block.specs.Registers.{execctrl_of, register_of, joined, register_written};
 
@@ -11,50 +9,11 @@ use crate::registers::{SM_ADDR, SM_CLKDIV, SM_EXECCTRL, SM_INSTR, SM_PINCTRL, SM
 use pio_machine::{Machine1, Memory, Waiting};
 use rp_base::bits::{bit_number, has_bit};
 
-/// A word that was written to INSTR waits.
-fn is_written(waiting: Option<Waiting>) -> bool
-    ensures { result ≡ is_written waiting }
-{
-    match waiting {
-        Some(waiting) => waiting.forced,
-        None => false,
-    }
-}
-
 /// The machine is enabled, or a written word waits.
 pub(crate) fn is_running(machine: &Machine1) -> bool
     ensures { result ≡ is_running machine.now }
 {
-    machine.enabled || is_written(machine.waiting)
-}
-
-/// For so many cycles from now on the machine does not tick, and no word that was written waits.
-#[inline(always)]
-#[tactic(auto, using(crate::proofs::Between::between_ticks, crate::proofs::Between::never_ticks))]
-pub(crate) fn quiet(machine: &Machine1) -> u64
-    ensures { IsBetweenTicks machine.now result }
-{
-    if is_written(machine.waiting) {
-        return 0;
-    }
-    if machine.enabled {
-        u64::from(machine.acc / 256)
-    } else {
-        u64::MAX
-    }
-}
-
-/// So many cycles at once, in which the machine does not tick.
-#[inline(always)]
-#[tactic(auto, using(crate::proofs::Between::taken_fits, crate::proofs::Between::gone_on, crate::proofs::Between::after_off))]
-pub(crate) fn pass(machine: &mut Machine1, n: u64)
-    requires { IsBetweenTicks machine.old n }
-    ensures after { machine.new ≡ divider_after n machine.old }
-    ensures settings { settings_of machine.new ≡ settings_of machine.old }
-{
-    if machine.enabled {
-        machine.acc = (u64::from(machine.acc) - 256 * n) as u32;
-    }
+    machine.enabled || machine.is_forced()
 }
 
 /// A write of CTRL, to the machine of that number.
@@ -88,7 +47,7 @@ fn restart_divider_if(machine: &mut Machine1, asked: bool)
 fn execctrl(machine: &Machine1) -> u32
     ensures { result ≡ execctrl_of machine.now }
 {
-    machine.execctrl | (bit_number(is_written(machine.waiting)) * 0x8000_0000)
+    machine.execctrl | (bit_number(machine.is_forced()) * 0x8000_0000)
 }
 
 /// A register of the machine, by its offset from the first one.

@@ -24,11 +24,13 @@ impl Model for Machines {
 }
 
 impl Machines {
-    ghost use Rattle.std.specs.Prelude.{◌≡◌, ◌<◌, Decides, replicate, map};
+    ghost use Rattle.std.specs.Prelude.{◌≡◌, ◌<◌, ℕ, Decides, replicate, map};
     ghost use Rattle.std.specs.List.{list_any};
     ghost use Rattle.pio_machine.specs.Start.{at_reset};
     ghost use Rattle.pio_block.specs.State.{machine_of, changed, each, is_running};
-    ghost use Rattle.pio_block.specs.Quiet.{AreBetweenTicks, divider_after};
+    ghost use Rattle.pio_machine.specs.declared.machine.Seen.{Seen};
+    ghost use Rattle.pio_machine.specs.Quiet.{waited};
+    ghost use Rattle.pio_block.specs.Quiet.{AreMachinesQuiet};
     ghost use Rattle.pio_block.specs.Control.{controlled};
     ghost use Rattle.pio_block.specs.Words.{pacing_of};
     ghost use Rattle.pio_block.specs.Queues.{with_stalls_cleared, with_sent, with_taken};
@@ -83,19 +85,32 @@ impl Machines {
         self.fourth.tick(3, seen, done);
     }
 
-    /// For so many cycles from now on no machine ticks, and no word that was written waits.
-    pub(crate) fn quiet(&self) -> u64
-        ensures { AreBetweenTicks self.now result }
+    /// For so many cycles from now on no machine tries a word, whatever they see.
+    #[tactic(auto, using(crate::proofs::Between::fewer_machine))]
+    pub(crate) fn try_none(&self) -> u64
+        ensures { (seen : Seen) → (level enable : ℕ) → AreMachinesQuiet 0 seen level enable self.now result }
     {
-        let low = self.first.quiet().min(self.second.quiet());
-        let high = self.third.quiet().min(self.fourth.quiet());
+        let low = self.first.tries_none().min(self.second.tries_none());
+        let high = self.third.tries_none().min(self.fourth.tries_none());
         low.min(high)
     }
 
-    /// So many cycles at once, in which no machine ticks.
+    /// For so many cycles from now on all machines only wait, where they see this and the pins have these levels and enables.
+    #[tactic(auto, using(crate::proofs::Between::fewer_machine))]
+    pub(crate) fn quiet(&self, seen: &Seen, levels: u32, enables: u32) -> u64
+        ensures { AreMachinesQuiet 0 seen.now levels enables self.now result }
+    {
+        let first = self.first.quiet(0, seen, levels, enables);
+        let second = self.second.quiet(1, seen, levels, enables);
+        let third = self.third.quiet(2, seen, levels, enables);
+        let fourth = self.fourth.quiet(3, seen, levels, enables);
+        let low = first.min(second);
+        low.min(third.min(fourth))
+    }
+
+    /// So many cycles at once, in which all only wait.
     pub(crate) fn pass(&mut self, n: u64)
-        requires { AreBetweenTicks self.old n }
-        ensures { self.new ≡ map (divider_after n) self.old }
+        ensures { self.new ≡ map (waited n) self.old }
     {
         self.first.pass(n);
         self.second.pass(n);

@@ -1,6 +1,7 @@
 //! For how long a block is quiet, and many cycles at once.
 
 use crate::block::PioBlock;
+use crate::inputs::Inputs;
 use crate::state::State;
 
 impl State {
@@ -16,17 +17,20 @@ impl State {
         let (_flags, _levels, _enables) = (self.seen.flags, self.levels, self.enables);
     }
 
-    /// For so many cycles from now on no machine ticks or tries a word.
-    fn quiet(&self) -> u64
-        ensures { IsQuiet self.now result }
+    /// For so many cycles from now on all machines only wait. That one stalls is known where the inputs are those of its last cycle.
+    fn quiet(&self, inputs: Inputs) -> u64
+        ensures { IsQuiet inputs self.now result }
     {
         self.fact_has_words();
-        self.machines.quiet()
+        if self.seen.inputs == [inputs.now, inputs.second] {
+            self.machines.quiet(&self.seen, self.levels, self.enables)
+        } else {
+            self.machines.try_none()
+        }
     }
 
-    /// So many cycles at once, in which no machine ticks.
+    /// So many cycles at once, in which all machines only wait.
     fn pass(&mut self, n: u64)
-        requires { IsQuiet self.old n }
         ensures after { self.new ≡ block_after n self.old }
         ensures silent { is_silent self.new ≡ is_silent self.old }
     {
@@ -38,32 +42,29 @@ impl PioBlock {
     ghost use Rattle.std.specs.Prelude.{◌≡◌};
     ghost use Rattle.pio_block.specs.Quiet.{IsQuiet, block_after};
 
-    /// For so many cycles from now on no machine of the block ticks or tries a word: whatever its inputs are, only the dividers go on,
-    /// and it shows the same. Any smaller number is right too.
+    /// For so many cycles from now on each machine of the block only waits, as long as these are its inputs: it tries no word, or stalls on
+    /// one, so that only dividers and delays go on, and the block shows the same. Any smaller number is right too.
     #[inline(always)]
     #[tactic(auto, using(crate::proofs::Between::idle_quiet))]
-    pub fn quiet(&self) -> u64
-        ensures { IsQuiet self.now result }
+    pub fn quiet(&self, inputs: Inputs) -> u64
+        ensures { IsQuiet inputs self.now result }
     {
         if self.busy {
-            self.state.quiet()
+            self.state.quiet(inputs)
         } else {
             self.state.fact_has_words();
             u64::MAX
         }
     }
 
-    /// So many cycles at once, in which the block is quiet.
+    /// So many cycles at once, in which each machine of the block only waits.
     #[inline(always)]
-    #[tactic(auto, using(crate::proofs::Between::idle_stays))]
+    #[tactic(auto, using(crate::proofs::Between::idle_stays, crate::proofs::Between::busy_stays))]
     pub fn pass(&mut self, n: u64)
-        requires { IsQuiet self.old n }
         ensures { self.new ≡ block_after n self.old }
     {
         if self.busy {
             self.state.pass(n);
-            self.busy = self.state.is_busy();
-            self.counts = self.state.idle_counts(self.busy);
         }
     }
 }

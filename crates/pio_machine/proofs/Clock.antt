@@ -32,7 +32,7 @@ at_least-by true q r h = omega arith
 at_least-by false zero r h = absurd (cc)
 at_least-by false (suc q) r h = omega arith
 
-at_least : (m : Machine1) → 256 ≤ divider m
+pub at_least : (m : Machine1) → 256 ≤ divider m
 at_least m = at_least-by (m.clkdiv / 2 ^ 16 == 0) (m.clkdiv / 2 ^ 16) (m.clkdiv / 2 ^ 8 % 2 ^ 8) refl
 
 divided-low : (m : Machine1) → nat_lt m.acc 256 ≡ true → divided m ≡ m.acc + divider m - 256
@@ -59,7 +59,7 @@ record IsBetween (n p acc period : ℕ) : Type 0 where
   low : 256 * n ≤ p + acc
   high : p + acc < 256 * n + period
 
-one_more : (t period : ℕ) → (1 + t) * period ≡ period + t * period
+pub one_more : (t period : ℕ) → (1 + t) * period ≡ period + t * period
 one_more t period = add-mul 1 t period ∙ ap (λ x. x + t * period) (one-mul period)
 
 with_tick : (n p acc next period : ℕ) → 256 ≤ period → acc < 256 → next ≡ acc + period - 256 → IsBetween n p next period → IsBetween (suc n) (period + p) acc period

@@ -224,7 +224,7 @@ writes-side-by true true pin base count value low h = writes-enables pin base co
 writes-side-by true false pin base count value low h = writes-levels pin base count value low h
 writes-side-by false pindir pin base count value low h = same pin
 
-writes-side : (pin : ℕ) → pin < 32 → (word : ℕ) (m : Machine1) → Writes pin (with_side word m)
+pub writes-side : (pin : ℕ) → pin < 32 → (word : ℕ) (m : Machine1) → Writes pin (with_side word m)
 unfolding with_side
 writes-side pin low word m =
     writes-side-by (has_side word m) (side_pindir m) pin (side_base m) (side_pins m) (side_value word m) low (side_fits-by (side_enable m) (m.pinctrl / 2 ^ 29 % 2 ^ 3))

@@ -8,5 +8,7 @@ pub mod NoSide
 pub mod Once
 pub mod Refills
 pub mod Ready
+pub mod Stuck
+pub mod Waits
 pub mod Stream
 pub mod Tries

@@ -1,5 +1,5 @@
 -- IN and autopush (RP2040 Datasheet, 3.4.4 and 3.5.4).
-use Rattle.std.specs.Prelude.{ℕ, ◌&&◌, nat_le, if◌then◌else◌, min}
+use Rattle.std.specs.Prelude.{ℕ, Bool, ◌&&◌, nat_le, if◌then◌else◌, min}
 use Rattle.pio_words.specs.declared.op.InSource.{InSource}
 use Rattle.pio_words.specs.declared.op.InSource.TheVariants.{Pins, X, Y, Null, Isr, Osr}
 use Rattle.pio_machine.specs.declared.machine.Machine1.{Machine1}
@@ -31,9 +31,12 @@ shifted_once source count seen m =
     if (progress_of m).shifted then m else shifted_in (in_value source seen m) (min count 32) m
 
 -- autopush: an ISR that reached its threshold is pushed, and waits where the RX FIFO is full
+abbrev pub is_autopush_due : Machine1 → Bool
+is_autopush_due m = autopush m && nat_le (push_threshold m) m.isr_count
+
 abbrev pub autopushed : Machine1 → Try
 autopushed m =
-    if autopush m && nat_le (push_threshold m) m.isr_count
+    if is_autopush_due m
     then (if is_rx_full m
     then stalled (with_rx_stall (with_shifted m))
     else completed (pushed m))

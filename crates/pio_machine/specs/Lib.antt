@@ -13,6 +13,7 @@ pub mod Queue
 pub mod Move
 pub mod Operation
 pub mod Cycle
+pub mod Quiet
 pub mod Tie
 pub mod Once
 pub mod Clock

@@ -74,6 +74,8 @@ try_push_now block m =
     else completed (pushed m)
 
 -- with IfFull, a PUSH whose ISR has not reached its threshold does nothing
+abbrev pub is_push_void : Bool → Machine1 → Bool
+is_push_void if_full m = if_full && nat_lt m.isr_count (push_threshold m)
+
 unfoldable pub try_push : Bool → Bool → Machine1 → Try
-try_push if_full block m =
-    if if_full && nat_lt m.isr_count (push_threshold m) then completed m else try_push_now block m
+try_push if_full block m = if is_push_void if_full m then completed m else try_push_now block m

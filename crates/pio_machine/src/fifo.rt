@@ -37,6 +37,13 @@ impl Fifo {
         self.words.len() as u8
     }
 
+    /// There is no word.
+    pub(crate) fn is_empty(&self) -> bool
+        ensures { Decides result (self.now ≡ []) }
+    {
+        self.words.is_empty()
+    }
+
     /// The first word; 0 where there is none.
     pub fn first(&self) -> u32
         ensures { result ≡ slice_index self.now 0 }

@@ -22,7 +22,7 @@ pub(crate) fn flag_of(index: IrqIndex, number: u8) -> u8
     }
 }
 
-fn has_flag(flags: u8, flag: u8) -> bool
+pub(crate) fn has_flag(flags: u8, flag: u8) -> bool
     requires { flag < 8 }
     ensures { result ≡ has_bit flags flag }
 {
@@ -57,7 +57,7 @@ impl Done {
 
 impl Machine1 {
     /// What a WAIT looks at is high.
-    fn is_high(&self, source: WaitSource, number: u8, seen: &Seen) -> bool
+    pub(crate) fn is_high(&self, source: WaitSource, number: u8, seen: &Seen) -> bool
         requires { number < 4 }
         ensures { result ≡ is_high source number seen.now self.now }
     {

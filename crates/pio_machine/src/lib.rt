@@ -18,6 +18,7 @@ mod moves;
 mod operation;
 mod pins;
 mod queue;
+mod quiet;
 pub mod settings;
 mod shifting;
 

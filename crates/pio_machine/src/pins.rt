@@ -33,7 +33,7 @@ pub(crate) fn pins_from(base: u32, count: u8) -> u32
 }
 
 /// A word, in which the pins of a mask have the bits of another one.
-fn overlaid(mask: u32, bits: u32, word: u32) -> u32
+pub(crate) fn overlaid(mask: u32, bits: u32, word: u32) -> u32
     ensures { result ≡ overlaid mask bits word }
 {
     (word & !mask) | (bits & mask)

@@ -1,7 +1,7 @@
 //! PUSH, PULL and autopull.
 
 ghost use Rattle.std.specs.Prelude.{◌≡◌, false};
-ghost use Rattle.pio_machine.specs.Queue.{loaded, refilled, is_pull_void, pulled_from, try_pull, pushed, with_isr_cleared, try_push_now, try_push};
+ghost use Rattle.pio_machine.specs.Queue.{loaded, refilled, is_pull_void, pulled_from, try_pull, pushed, is_push_void, with_isr_cleared, try_push_now, try_push};
 ghost use Rattle.pio_machine.specs.Fields.{is_rx_full};
 ghost use Rattle.pio_machine.specs.Output.{out_stalls};
 ghost use Rattle.pio_machine.specs.Ready.{settings_of};
@@ -44,7 +44,7 @@ impl Machine1 {
     }
 
     /// A PULL does nothing.
-    fn is_pull_void(&self, if_empty: bool) -> bool
+    pub(crate) fn is_pull_void(&self, if_empty: bool) -> bool
         ensures { result ≡ is_pull_void if_empty self.now }
     {
         (if_empty && self.osr_count < self.pull_threshold())
@@ -120,13 +120,20 @@ impl Machine1 {
         Outcome::Completed
     }
 
+    /// A PUSH does nothing.
+    pub(crate) fn is_push_void(&self, if_full: bool) -> bool
+        ensures { result ≡ is_push_void if_full self.now }
+    {
+        if_full && self.isr_count < self.push_threshold()
+    }
+
     /// A try of PUSH.
     #[tactic(auto, unfolding(crate::specs::Queue::try_push))]
     pub(crate) fn try_push(&mut self, if_full: bool, block: bool) -> Outcome
         ensures machine { self.new ≡ (try_push if_full block self.old).machine }
         ensures ending { stands_for result ≡ (try_push if_full block self.old).ending }
     {
-        if if_full && self.isr_count < self.push_threshold() {
+        if self.is_push_void(if_full) {
             return Outcome::Completed;
         }
         self.push_now(block)

@@ -1,7 +1,7 @@
 //! IN, OUT and SET.
 
 ghost use Rattle.std.specs.Prelude.{◌≡◌, ◌≤◌};
-ghost use Rattle.pio_machine.specs.Input.{in_value, shifted_in, shifted_once, autopushed, try_in};
+ghost use Rattle.pio_machine.specs.Input.{in_value, shifted_in, shifted_once, is_autopush_due, autopushed, try_in};
 ghost use Rattle.pio_machine.specs.Output.{out_value, shifted_out, with_out, ending_of_out, starved, out_done, try_out, out_pins, written_by_out, after_set, written_by_set};
 ghost use Rattle.pio_machine.specs.Ready.{settings_of};
 ghost use Rattle.pio_machine.specs.Tie.{stands_for};
@@ -44,12 +44,19 @@ impl Machine1 {
         }
     }
 
+    /// Autopush: the ISR has reached its threshold.
+    pub(crate) fn is_autopush_due(&self) -> bool
+        ensures { result ≡ is_autopush_due self.now }
+    {
+        self.autopush() && self.push_threshold() <= self.isr_count
+    }
+
     /// Pushes an ISR that reached its threshold.
     fn autopush_now(&mut self) -> Outcome
         ensures machine { self.new ≡ (autopushed self.old).machine }
         ensures ending { stands_for result ≡ (autopushed self.old).ending }
     {
-        if self.autopush() && self.push_threshold() <= self.isr_count {
+        if self.is_autopush_due() {
             if self.is_rx_full() {
                 self.keep_shifted();
                 self.rx_stall = true;
