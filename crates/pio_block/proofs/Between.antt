@@ -1,5 +1,5 @@
 -- A block whose machines only wait.
-use Rattle.std.proofs.Common.{◌≡◌, ℕ, zero, suc, ◌+◌, ◌-◌, ◌%◌, ◌^◌, ◌<◌, ◌≤◌, Bool, true, false, if◌then◌else◌, List, [], ◌∷◌, map, Some, None, refl, sym, ap, ◌∙◌, arith}
+use Rattle.std.proofs.Common.{◌≡◌, ℕ, zero, suc, ◌+◌, ◌-◌, ◌%◌, ◌^◌, ◌<◌, ◌≤◌, min, Bool, true, false, if◌then◌else◌, List, [], ◌∷◌, map, Some, None, refl, sym, ap, ◌∙◌, arith}
 use Rattle.std.specs.Prelude.{bit_and, bit_or}
 use Rattle.std.specs.Int.Bits.{and_zero_r, or_zero_r}
 use Rattle.std.specs.List.{list_any}
@@ -33,6 +33,12 @@ fewer_machine i seen level enable m n k h le = record { steps = λ j lt. h.steps
 pub fewer_machines : (i : ℕ) (seen : Seen) (level enable : ℕ) (ms : List Machine1) (n k : ℕ) → AreMachinesQuiet i seen level enable ms n → k ≤ n → AreMachinesQuiet i seen level enable ms k
 fewer_machines i seen level enable [] n k h le = h
 fewer_machines i seen level enable (m ∷ ms) n k h le = (fewer_machine i seen level enable m n k h.0 le, fewer_machines (i + 1) seen level enable ms n k h.1 le)
+
+pub four_machines : (seen : Seen) (level enable : ℕ) (a b c d : Machine1) (p q r s n : ℕ) → machine_quiet.IsQuiet 0 seen level enable a p → machine_quiet.IsQuiet 1 seen level enable b q
+    → machine_quiet.IsQuiet 2 seen level enable c r → machine_quiet.IsQuiet 3 seen level enable d s → n ≡ min (min p q) (min r s) → AreMachinesQuiet 0 seen level enable (a ∷ b ∷ c ∷ d ∷ []) n
+four_machines seen level enable a b c d p q r s n h i j k e =
+    (fewer_machine 0 seen level enable a p n h (omega (arith, e)), (fewer_machine 1 seen level enable b q n i (omega (arith, e)),
+    (fewer_machine 2 seen level enable c r n j (omega (arith, e)), (fewer_machine 3 seen level enable d s n k (omega (arith, e)), tt))))
 
 pub fewer : (x : Inputs) (s : State) (n k : ℕ) → IsQuiet x s n → k ≤ n → IsQuiet x s k
 fewer x s n k h le = record { words = h.words; machines = fewer_machines 0 (seen_by x.now x.second s) s.levels s.enables s.machines n k h.machines le }
