@@ -6,6 +6,7 @@ use Rattle.std.specs.List.{filter}
 use Rattle.rp_base.specs.declared.resettable.Resettable.{Resettable}
 use Rattle.rp_base.specs.Held.{unless_held, stays_if}
 use Rattle.rp_base.specs.Resettable.{unless_held_becomes}
+use Rattle.rp_base.proofs.Rows.{held as all_held}
 use Rattle.io_bank.specs.declared.outputs.Outs.{Outs}
 use Rattle.io_bank.specs.State.{State as Bank}
 use Rattle.io_bank.specs.Edges.{edges_of}
@@ -25,6 +26,7 @@ use Rattle.pin_script.proofs.Due.{due_are_first, cycle_at-get_or}
 use Rattle.rp_timer.specs.State.{State as TimerState, lines_of}
 use Rattle.rp_timer.specs.Step as timer
 use Rattle.rp_timer.specs.Quiet as timer_quiet
+use Rattle.rp_timer.specs.Words as timer_words
 use Rattle.rp_uart.specs.State.{State as SerialPort}
 use Rattle.rp_uart.specs.Step.{output_of, pacing_of}
 use Rattle.rp_uart.specs.Step as uart
@@ -77,6 +79,16 @@ timer_stays t cycle n q = record {
   held = λ k le. ap (λ (x : Resettable TimerState). x.held) (timer_cycles t cycle k);
 }
 
+read_by : (offset : ℕ) (held : Bool) (x y : TimerState) →
+    unless_held held (timer_words.word_of offset y) ≡ unless_held held (timer_words.word_of offset (stays_if held x y))
+read_by offset true x y = (all_held timer_words.timer_rows).reads offset tt y ∙ sym ((all_held timer_words.timer_rows).reads offset tt x)
+read_by offset false x y = refl
+
+pub timer_reads : (t : Resettable TimerState) (cycle k offset : ℕ) →
+    unless_held t.held (timer_words.word_of offset (timer.after_cycles cycle k t.block))
+    ≡ unless_held (times timer_after cycle k t).held (timer_words.word_of offset (times timer_after cycle k t).block)
+timer_reads t cycle k offset = rw (timer_cycles t cycle k) (read_by offset t.held t.block (timer.after_cycles cycle k t.block))
+
 -- ---- a UART
 
 pub uart_cycles : (line : Bool) (u : Resettable SerialPort) (cycle k : ℕ) →
@@ -91,6 +103,10 @@ uart_keeps : {A : Type 0} (f : SerialPort → A) (line : Bool) (u : Resettable S
     f (times (uart_cycle line) cycle k u).block ≡ f u.block
 uart_keeps f line u cycle k q =
     ap (λ (x : Resettable SerialPort). f x.block) (uart_cycles line u cycle k) ∙ kept_by f u.held u.block _ q
+
+later_by : (held : Bool) (x y : SerialPort) → (held ≡ false → uart_quiet.IsLater x y) → uart_quiet.IsLater x (stays_if held x y)
+later_by true x y q = refl
+later_by false x y q = q refl
 
 no_byte : (held : Bool) (x y : SerialPort) → (held ≡ false → uart.sent_byte y ≡ None) →
     byte_of (record { block = stays_if held x y; held = held }) ≡ None
@@ -108,6 +124,7 @@ uart_stays line u cycle n q = record {
   words = λ k le offset.
       ap (uart_word offset) (uart_cycles line u cycle k)
       ∙ ap (unless_held u.held) (kept_by (word_of offset) u.held u.block _ (λ e. (q e).words k le offset));
+  later = λ k le. rw (uart_cycles line u cycle k) (later_by u.held u.block _ (λ e. (q e).later k le));
 }
 
 -- each of them for no cycle

@@ -16,6 +16,7 @@ use Rattle.rp_timer.specs.State.{State as TimerState, lines_of}
 use Rattle.rp_uart.specs.State.{State as SerialPort}
 use Rattle.rp_uart.specs.Step.{output_of, pacing_of}
 use Rattle.rp_uart.specs.Interrupts.{is_line_high}
+use Rattle.rp_uart.specs.Quiet.{IsLater}
 use Rattle.rp_uart.specs.Words.{word_of}
 use Rattle.outer_lane.specs.declared.world.SeenOutputs.{SeenOutputs}
 use Rattle.outer_lane.specs.Setting.{Setting}
@@ -92,6 +93,7 @@ pub record IsUartQuiet (line : Bool) (u : Resettable SerialPort) (cycle n : ℕ)
   pub pacing : (k : ℕ) → k ≤ n → pacing_of (times (uart_cycle line) cycle k u).block ≡ pacing_of u.block
   pub held : (k : ℕ) → k ≤ n → (times (uart_cycle line) cycle k u).held ≡ u.held
   pub words : (k : ℕ) → k ≤ n → (offset : ℕ) → uart_word offset (times (uart_cycle line) cycle k u) ≡ uart_word offset u
+  pub later : (k : ℕ) → k ≤ n → IsLater u.block (times (uart_cycle line) cycle k u).block
 
 pub record AreWordsQuiet (d : DeviceMeaning) (words : List ℕ) (cycle levels n : ℕ) : Type 0 where
   pub drives : (k : ℕ) → k < n → wires_by d (times (words_cycle d levels) cycle k words) (cycle + k) levels ≡ wires_by d words cycle levels

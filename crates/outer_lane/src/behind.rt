@@ -1,9 +1,10 @@
 //! The timer and the UARTs lie behind: as long as they are quiet, a cycle of them is only counted.
 
-use crate::blocks::{Blocks, pass_timer, word};
+use crate::blocks::{Blocks, word};
 use io_bank::uart_outputs;
-use rp_base::Resettable;
 use rp_base::map::Block;
+use rp_base::resettable::unless_held;
+use rp_timer::Timer;
 use std::marker::Model;
 
 /// The timer and the UARTs as they were some cycles ago, and since then quiet. Contracts see them brought up to now.
@@ -150,6 +151,20 @@ impl Behind {
         self.span = self.blocks.span(line0, line1, next);
     }
 
+    /// A read at this offset of one of them is known to change nothing.
+    #[inline(always)]
+    #[tactic(auto, using(crate::proofs::BroughtUp::timer_still))]
+    pub(crate) fn is_still(&self, block: Block, offset: u16) -> bool
+        ensures { result ≡ true → blocks_accessed block offset None self.now.blocks ≡ self.now.blocks }
+    {
+        match block {
+            Block::Uart0 => self.blocks.uart0.block.is_still(offset),
+            Block::Uart1 => self.blocks.uart1.block.is_still(offset),
+            Block::Timer => Timer::is_still(offset),
+            _ => false,
+        }
+    }
+
     /// Does what a read, or a write of this word, does to one of them.
     #[tactic(auto, unfolding(lane_look::specs::Times::times))]
     pub(crate) fn access(&mut self, block: Block, offset: u16, write: Option<u32>)
@@ -189,16 +204,17 @@ impl Behind {
         }
     }
 
-    /// A word of the timer, as a copy shows it that is brought up.
+    /// A word of the timer.
+    #[inline(always)]
+    #[tactic(auto, using(crate::proofs::Cycles::timer_reads))]
     fn read_timer(&self, offset: u16) -> Option<u32>
         ensures { result ≡ unless_held self.now.blocks.timer.held (word_of offset self.now.blocks.timer.block) }
     {
-        let mut timer = Resettable {
-            block: self.blocks.timer.block,
-            held: self.blocks.timer.held,
-        };
-        pass_timer(&mut timer, self.span.first, self.span.count);
-        word(&timer, offset)
+        let timer = &self.blocks.timer;
+        let word = timer
+            .block
+            .read_after(offset, self.span.first, self.span.count);
+        unless_held(timer.held, word)
     }
 
     /// Their interrupt lines.

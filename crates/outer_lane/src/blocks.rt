@@ -181,7 +181,7 @@ fn timer_quiet(timer: &Resettable<Timer>, cycle: u64) -> u64
 
 /// So many cycles of the timer from this one on.
 #[tactic(auto, using(crate::proofs::Cycles::timer_cycles))]
-pub(crate) fn pass_timer(timer: &mut Resettable<Timer>, cycle: u64, n: u64)
+fn pass_timer(timer: &mut Resettable<Timer>, cycle: u64, n: u64)
     requires { cycle + n < 2 ^ 64 }
     ensures { timer.new ≡ times timer_after cycle n timer.old }
 {

@@ -115,6 +115,9 @@ impl Outer {
     fn access_blocks(&mut self, block: Block, offset: u16, write: Option<u32>)
         ensures { self.new ≡ with_blocks (blocks_accessed block offset write (blocks_of self.old)) self.old }
     {
+        if write.is_none() && self.blocks.is_still(block, offset) {
+            return;
+        }
         self.blocks.access(block, offset, write);
         let uarts = self.blocks.outs();
         let same = self.drivers.has_uarts(uarts);

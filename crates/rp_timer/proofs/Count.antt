@@ -47,7 +47,7 @@ count-tick s first n h t false e before =
     ∙ before
     ∙ ap (λ k. (s.time + k) % 2 ^ 64) (omega (arith, ticks-same (first + n) e))
 
-count : (s : State) (first n : ℕ) → s.paused ≡ false → s.time < 2 ^ 64 →
+pub count : (s : State) (first n : ℕ) → s.paused ≡ false → s.time < 2 ^ 64 →
     (after_cycles first n s).time ≡ (s.time + ((first + n) / 125 - first / 125)) % 2 ^ 64
 count s first zero h t = omega arith
 count s first (suc n) h t = count-tick s first n h t (is_tick (first + n)) refl (count s first n h t)

@@ -7,7 +7,7 @@ use Rattle.rp_base.specs.Word.{minus}
 use Rattle.rp_timer.specs.State.{State}
 use Rattle.rp_timer.specs.Step.{is_tick, due_of, alarmed, at_time, risen, after_step, after_cycles}
 use Rattle.rp_timer.specs.Quiet.{passed}
-use Rattle.rp_timer.proofs.Count.{ticks-more, ticks-same}
+use Rattle.rp_timer.proofs.Count.{ticks-more, ticks-same, count}
 
 -- ---- one cycle
 
@@ -80,3 +80,8 @@ stands s first (suc n) p =
 pub cycles-more : (first n m : ℕ) (s : State) → m ≡ n + 1 → after_cycles first m s ≡ after_step (first + n) (after_cycles first n s)
 cycles-more first n zero s e = absurd (omega arith)
 cycles-more first n (suc m) s e = let same : m ≡ n = omega arith in rw same refl
+
+pub stands-time : (s : State) (first n : ℕ) → s.paused ≡ true → (after_cycles first n s).time ≡ s.time
+stands-time s first n p = ap (λ (t : State). t.time) (stands s first n p)
+
+pub ruleset time_passes = (count, stands-time)

@@ -34,6 +34,20 @@ impl Timer {
         }
     }
 
+    /// The time after so many cycles from one on.
+    #[inline(always)]
+    #[tactic(auto, using(crate::proofs::Passing::time_passes))]
+    pub(crate) fn time_after(&self, first: u64, n: u64) -> u64
+        requires { first + n < 2 ^ 64 }
+        ensures { result ≡ (after_cycles first n self.now).time }
+    {
+        fact_fits(self.time, self.armed);
+        if self.paused {
+            return self.time;
+        }
+        self.time.wrapping_add((first + n) / 125 - first / 125)
+    }
+
     /// So many cycles one by one.
     fn step_each(&mut self, first: u64, n: u64)
         requires { first + n < 2 ^ 64 }

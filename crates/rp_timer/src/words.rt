@@ -1,6 +1,8 @@
 //! The registers, by their offsets.
 
-ghost use Rattle.std.specs.Prelude.{◌≡◌, ◌<◌, Some, None};
+ghost use Rattle.std.specs.Prelude.{◌≡◌, ◌+◌, ◌^◌, ◌<◌, true, Some, None};
+ghost use Rattle.rp_timer.specs.State.{State};
+ghost use Rattle.rp_timer.specs.Step.{after_cycles};
 ghost use Rattle.rp_timer.specs.Words.{with_alarm, word_of, is_word, effect_of};
 
 use crate::registers::{
@@ -35,12 +37,35 @@ impl Timer {
         }
     }
 
+    /// The word at an offset after so many cycles from one on. None exactly where there is no such word.
+    pub fn read_after(&self, offset: u16, first: u64, n: u64) -> Option<u32>
+        requires { first + n < 2 ^ 64 }
+        ensures { result ≡ word_of offset (after_cycles first n self.now) }
+    {
+        match offset {
+            TIMERAWH => Some(high_of(self.time_after(first, n))),
+            TIMELR | TIMERAWL => Some(low_of(self.time_after(first, n))),
+            _ => self.read_other(offset, first, n),
+        }
+    }
+
+    /// The same, as a copy shows it.
+    #[inline(never)]
+    fn read_other(&self, offset: u16, first: u64, n: u64) -> Option<u32>
+        requires { first + n < 2 ^ 64 }
+        ensures { result ≡ word_of offset (after_cycles first n self.now) }
+    {
+        let mut later = *self;
+        later.pass(first, n);
+        later.read(offset)
+    }
+
     /// There is a word at this offset, which any read and any write may reach.
     pub fn allows(&self, offset: u16, write: Option<u32>) -> bool
         ensures { result ≡ is_word offset }
     {
         let _ = write;
-        self.read(offset).is_some()
+        offset <= INTS && offset % 4 == 0
     }
 
     /// Does what a read, or a write of this word, does to the timer. False, and nothing is changed, exactly where there is
@@ -55,6 +80,14 @@ impl Timer {
             None => self.after_read(offset),
         }
         allowed
+    }
+
+    /// A read of the word at this offset changes nothing.
+    #[inline(always)]
+    pub fn is_still(offset: u16) -> bool
+        ensures { result ≡ true → (t : State) → effect_of offset None t ≡ t }
+    {
+        offset != TIMELR
     }
 
     /// What a read does.

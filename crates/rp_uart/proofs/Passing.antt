@@ -1,5 +1,5 @@
 -- Cycles within bits.
-use Rattle.std.proofs.Common.{◌≡◌, ◌∙◌, ℕ, zero, suc, ◌+◌, ◌-◌, ◌*◌, ◌<◌, ◌≤◌, Bool, true, false, not, ◌&&◌, nat_lt, cond, Option, Some, None, refl, ap, arith}
+use Rattle.std.proofs.Common.{◌≡◌, ◌∙◌, ℕ, zero, suc, ◌+◌, ◌-◌, ◌*◌, ◌<◌, ◌≤◌, Bool, true, false, not, ◌&&◌, nat_lt, cond, Option, Some, None, refl, sym, ap, subst, arith}
 use Rattle.std.specs.Prelude.{◌==◌, length, slice_get}
 use Rattle.std.proofs.lemmas.Bool.Decides.{nat_tests}
 use Rattle.std.proofs.lemmas.List.{nil_from_length}
@@ -12,7 +12,7 @@ use Rattle.rp_uart.specs.declared.sender.Sending.{Sending}
 use Rattle.rp_uart.specs.declared.sender.Sender.{Sender}
 use Rattle.rp_uart.specs.declared.sender.Sender.TheVariants as senders
 use Rattle.rp_uart.specs.Interrupts.{is_line_high}
-use Rattle.rp_uart.specs.Quiet.{after_cycles, IsQuiet, sent_longer, heard_longer, waited_longer, passed, has_frame, SendsOn, HearsOn, WaitsOn, GoesOn}
+use Rattle.rp_uart.specs.Quiet.{after_cycles, IsLater, IsQuiet, sent_longer, heard_longer, waited_longer, passed, has_frame, SendsOn, HearsOn, WaitsOn, GoesOn}
 use Rattle.rp_uart.specs.Receiver.{can_receive, first_heard, is_stop, after_sample, after_more_waiting, after_waiting, after_line, is_byte_due, after_receiving, with_receiver, with_waited}
 use Rattle.rp_uart.specs.Interrupts.{raised, timeout_interrupt}
 use Rattle.rp_uart.specs.Sender.{bit_time, is_over, level_of, can_send, is_last_bit, with_sender, with_first, next_frame, after_bit, after_sender, after_sending, ended_byte}
@@ -150,6 +150,7 @@ goes-quiet line s n g = record {
   lines = λ k le. ap is_line_high (passes line s n g k le);
   pacing = λ k le. ap pacing_of (passes line s n g k le);
   words = λ k le offset. ap (word_of offset) (passes line s n g k le) ∙ word-stays (4 * k) offset s.sender (heard_longer (4 * k) s.receiver) (waited_longer (4 * k) s.waited) s;
+  later = λ k le. subst (IsLater s) (sym (passes line s n g k le)) refl;
 }
 
 stays-quiet : (line : Bool) (s : State) (n : ℕ) → ((k : ℕ) → k ≤ n → after_cycles line k s ≡ s) → (0 < n → sent_byte s ≡ None) →
@@ -160,6 +161,7 @@ stays-quiet line s n at none = record {
   lines = λ k le. ap is_line_high (at k le);
   pacing = λ k le. ap pacing_of (at k le);
   words = λ k le offset. ap (word_of offset) (at k le);
+  later = λ k le. subst (IsLater s) (sym (at k le)) refl;
 }
 
 pub quiet-none : (line : Bool) (s : State) → IsQuiet line s 0

@@ -18,13 +18,19 @@ abbrev pub after_cycles : Bool → ℕ → State → State
 after_cycles line zero s = s
 after_cycles line (suc n) s = after_step line (after_cycles line n s)
 
--- in so many cycles no frame ends, and TX, the interrupt line, what the DMA engine is told and what each word reads as stay
+-- the same, but that time has passed: within a bit, and without a byte
+abbrev pub IsLater : State → State → Type 0
+IsLater s t = t ≡ record s { sender = t.sender; receiver = t.receiver; waited = t.waited }
+
+-- in so many cycles no frame ends, and TX, the interrupt line, what the DMA engine is told and what each word reads as stay;
+-- what has passed is time
 pub record IsQuiet (line : Bool) (s : State) (n : ℕ) : Type 0 where
   pub silent : (k : ℕ) → k < n → sent_byte (after_cycles line k s) ≡ None
   pub output : (k : ℕ) → k ≤ n → output_of (after_cycles line k s) ≡ output_of s
   pub lines : (k : ℕ) → k ≤ n → is_line_high (after_cycles line k s) ≡ is_line_high s
   pub pacing : (k : ℕ) → k ≤ n → pacing_of (after_cycles line k s) ≡ pacing_of s
   pub words : (k : ℕ) → k ≤ n → (offset : ℕ) → word_of offset (after_cycles line k s) ≡ word_of offset s
+  pub later : (k : ℕ) → k ≤ n → IsLater s (after_cycles line k s)
 
 -- ---- within bits
 

@@ -2,7 +2,7 @@
 
 ghost use Rattle.std.specs.Prelude.{◌≡◌, ◌≤◌};
 ghost use Rattle.rp_uart.specs.State.{no_errors};
-ghost use Rattle.rp_uart.specs.Interrupts.{depth_of, trigger_of, receive_trigger, transmit_trigger, error_bits, error_interrupts, raised, raised_if, cleared, cleared_if, settled};
+ghost use Rattle.rp_uart.specs.Interrupts.{depth_of, trigger_of, receive_trigger, transmit_trigger, error_bits, error_interrupts, with_raw, raised, raised_if, cleared, cleared_if, settled};
 
 use crate::receiver::Errors;
 use crate::uart::Uart;
@@ -60,20 +60,22 @@ impl Uart {
         self.raw &= !set;
     }
 
-    /// Clears the interrupts whose cause is gone.
+    /// The interrupts without those whose cause is gone.
     #[tactic(auto, unfolding(crate::specs::Interrupts::settled))]
-    pub(crate) fn settle(&mut self)
-        ensures { self.new ≡ settled self.old }
+    pub(crate) fn settled(&self) -> u32
+        ensures { settled self.now ≡ with_raw result self.now }
     {
+        let mut raw = self.raw;
         if self.received.len() < self.receive_trigger() {
-            self.clear(RECEIVE);
+            raw &= !RECEIVE;
         }
         if self.transmit_trigger() < self.to_send.len() {
-            self.clear(TRANSMIT);
+            raw &= !TRANSMIT;
         }
         if self.received.is_empty() {
-            self.clear(TIMEOUT);
+            raw &= !TIMEOUT;
         }
+        raw
     }
 }
 

@@ -1,6 +1,8 @@
 //! The registers, by their offsets.
 
-ghost use Rattle.std.specs.Prelude.{◌≡◌, ◌≤◌, Some, None, slice_get};
+ghost use Rattle.std.specs.Prelude.{◌≡◌, ◌≤◌, true, Some, None, slice_get};
+ghost use Rattle.rp_uart.specs.State.{State};
+ghost use Rattle.rp_uart.specs.Quiet.{IsLater};
 ghost use Rattle.rp_uart.specs.Words.{received_word, status_of, after_taking, after_giving, without_errors, is_busy, flags_of, code_of, width_of_code, line_control_of, line_control_from, control_of, control_from, dma_control_of, dma_control_from, word_of, is_word, after_access, effect_of};
 
 use crate::control::{Control, DmaControl};
@@ -59,8 +61,17 @@ impl Uart {
             Some(word) => self.write(offset, word),
             None => self.after_read(offset),
         }
-        self.settle();
+        self.raw = self.settled();
         true
+    }
+
+    /// A read of the word at this offset is known to change nothing, also where only time has passed.
+    #[inline(always)]
+    #[tactic(auto, using(crate::proofs::Still::still_later))]
+    pub fn is_still(&self, offset: u16) -> bool
+        ensures { result ≡ true → (t : State) → IsLater self.now t → effect_of offset None t ≡ t }
+    {
+        offset != DR && self.settled() == self.raw
     }
 
     /// A write of a word.
