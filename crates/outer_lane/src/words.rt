@@ -102,6 +102,7 @@ impl Outer {
     }
 
     /// Does what a read, or a write of this word, does to the pads.
+    #[inline(never)]
     fn access_pads(&mut self, offset: u16, write: Option<u32>)
         ensures { self.new ≡ record self.old { pads = effect_of offset write self.old.pads } }
     {
@@ -112,12 +113,21 @@ impl Outer {
     }
 
     /// Does what a read, or a write of this word, does to the timer or a UART.
+    #[inline(always)]
     fn access_blocks(&mut self, block: Block, offset: u16, write: Option<u32>)
         ensures { self.new ≡ with_blocks (blocks_accessed block offset write (blocks_of self.old)) self.old }
     {
         if write.is_none() && self.blocks.is_still(block, offset) {
             return;
         }
+        self.access_changing(block, offset, write);
+    }
+
+    /// The same, where something may change.
+    #[inline(never)]
+    fn access_changing(&mut self, block: Block, offset: u16, write: Option<u32>)
+        ensures { self.new ≡ with_blocks (blocks_accessed block offset write (blocks_of self.old)) self.old }
+    {
         self.blocks.access(block, offset, write);
         let uarts = self.blocks.outs();
         let same = self.drivers.has_uarts(uarts);
