@@ -1,5 +1,5 @@
--- The DMA engine and both PIO blocks, which are quiet.
-use Rattle.std.proofs.Common.{◌≡◌, ℕ, ◌≤◌, refl, ap, subst, arith}
+-- Core 1, the DMA engine and both PIO blocks, which are quiet.
+use Rattle.std.proofs.Common.{◌≡◌, ◌∙◌, ℕ, ◌≤◌, true, refl, sym, ap, subst, arith}
 use Rattle.rp_base.specs.Resettable.{with_block}
 use Rattle.dma_engine.specs.State.{State as Engine}
 use Rattle.dma_engine.specs.Quiet as dma
@@ -10,8 +10,11 @@ use Rattle.pio_block.specs.Quiet as pio
 use Rattle.pio_block.proofs.Between.{block_none}
 use Rattle.pio_block.proofs.Between as pio_proofs
 use Rattle.rp_machine.specs.State.{State}
-use Rattle.rp_machine.specs.Answers.{pacing_of}
-use Rattle.rp_machine.specs.Alone.{AreBlocksQuiet, blocks_after, with_blocks}
+use Rattle.m0_core.specs.State.{State as Core}
+use Rattle.m0_core.specs.Quiet as core
+use Rattle.m0_core.proofs.Lasting.{quiet_asleep, stays_asleep}
+use Rattle.rp_machine.specs.Answers.{lines_of, pacing_of}
+use Rattle.rp_machine.specs.Alone.{AreBlocksQuiet, blocks_after, with_blocks, IsCore1Quiet, core1_after}
 
 pub none_after : (s : State) → blocks_after 0 s ≡ record { dma = s.dma.block; pio0 = s.pio0.block; pio1 = s.pio1.block }
 none_after s = rw (engine_none s.dma.block, block_none s.pio0.block, block_none s.pio1.block) refl
@@ -39,3 +42,27 @@ passed_by i s n d p q same e f g = rw (e, f, g) (ap (λ (x : State). with_blocks
 -- where one is quiet in none
 pub none_by : (i s : State) (b c : ℕ) → i ≡ s → pio.IsQuiet i.pio0.block b → pio.IsQuiet i.pio1.block c → AreBlocksQuiet s 0
 none_by i s b c e p q = quiet_by i s 0 b c 0 e (none_quiet (pacing_of s) i.dma.block) p q (omega arith) (omega arith) (omega arith)
+
+-- ---- core 1
+
+pub core_fewer : (lines : ℕ) (c : Core) (first n k : ℕ) → core.IsQuiet lines c first n → k ≤ n → core.IsQuiet lines c first k
+core_fewer lines c first n k q le = record {
+  begins = λ j lt. q.begins j (omega arith);
+  wants = λ j lt. q.wants j (omega arith);
+  offer = λ j lt. q.offer j (omega arith);
+}
+
+-- where it is asleep
+asleep_as : (i s : State) → i ≡ s → i.core1.asleep ≡ true → s.core1.asleep ≡ true
+asleep_as i s e sleeps = ap (λ (x : State). x.core1.asleep) (sym e) ∙ sleeps
+
+pub core1_sleeps : (i s : State) (n : ℕ) → i ≡ s → i.core1.asleep ≡ true → IsCore1Quiet s n
+core1_sleeps i s n e sleeps = quiet_asleep s.core1 (lines_of 1 s) s.cycle n (asleep_as i s e sleeps)
+
+pub core1_stays : (i s : State) (first n : ℕ) → i ≡ s → i.core1.asleep ≡ true → s ≡ record s { core1 = core1_after first n s }
+core1_stays i s first n e sleeps = ap (λ (x : Core). record s { core1 = x }) (sym (stays_asleep s.core1 (lines_of 1 s) first n (asleep_as i s e sleeps)))
+
+-- by what the calls say
+pub core1_quiet_by : (i s : State) (lines n : ℕ) → i ≡ s → lines ≡ lines_of 1 s → core.IsQuiet lines i.core1 i.cycle n → IsCore1Quiet s n
+core1_quiet_by i s lines n e told q =
+    subst (λ (x : State). core.IsQuiet (lines_of 1 s) x.core1 x.cycle n) e (subst (λ (x : ℕ). core.IsQuiet x i.core1 i.cycle n) told q)

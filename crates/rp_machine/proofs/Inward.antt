@@ -14,8 +14,11 @@ use Rattle.lane_look.specs.declared.lane.Ask.TheVariants as ask
 use Rattle.lane_look.specs.declared.marks.Mark.{Mark}
 use Rattle.lane_look.specs.declared.lane.Want.{Want}
 use Rattle.lane_look.specs.declared.lane.Want.TheVariants as want
+use Rattle.lane_look.specs.declared.lane.Turn.TheVariants as turn
 use Rattle.lane_look.specs.Asking.{Asking, answered}
 use Rattle.lane_look.specs.Asking.Asking.{Ready, Question}
+use Rattle.m0_core.specs.State.{State as Core}
+use Rattle.m0_core.specs.Quiet.{rested}
 use Rattle.m0_core.specs.declared.doing.Doing.{Doing}
 use Rattle.m0_core.specs.Fetch as core_asks
 use Rattle.m0_core.specs.Fetch.{asks_second, ends_with}
@@ -50,8 +53,8 @@ use Rattle.rp_machine.specs.Registers.{Part, part_of, part_word}
 use Rattle.rp_machine.specs.Registers.Part.{Resets, Fabric, Dma, Pio0, Pio1, Outer}
 use Rattle.rp_machine.specs.Cycle.{begun, wanted, wanted_by, cause_in, pins_of, with_sio, ended, after_deed, mark, stop, next}
 use Rattle.rp_machine.specs.Wantless.{core1_launched}
-use Rattle.rp_machine.specs.Alone.{Blocks, AreBlocksQuiet, blocks_after, with_blocks, IsCore0Alone, alone_next, granted_alone, with_grant, with_store}
-use Rattle.rp_machine.specs.Inward.{with_beside, is_theirs, is_peripheral, is_inward, core0_want, goes_inward, inward_turn, inward_deed, core0_stepped, inward_wantless, inward_next, TellsSame, GoesAlone, GoesOn, inward_cycle, inward_after, StaysInward, onward_after, GoesOnward, Core0GoesOnAlone}
+use Rattle.rp_machine.specs.Alone.{Blocks, AreBlocksQuiet, blocks_after, with_blocks, IsCore1Quiet, core1_after, IsCore0Alone, alone_next, granted_alone, with_grant, with_store}
+use Rattle.rp_machine.specs.Inward.{with_beside, is_theirs, is_peripheral, is_inward, core0_want, goes_inward, inward_turn, inward_deed, core0_stepped, inward_wantless, inward_next, TellsSame, AgreeWithSio, GoesAlone, GoesOn, inward_cycle, inward_after, StaysInward, onward_after, GoesOnward, Core0GoesOnAlone}
 use Rattle.rp_machine.specs.Events.{events}
 use Rattle.rp_machine.specs.Run.{states}
 use Rattle.rp_machine.proofs.Quietly.{RunsThrough, states_through, fewer, no_events, seen_later, seen_number}
@@ -70,18 +73,18 @@ same_way : {A : Type 0} (c : Bool) (x : A) → (if c then x else x) ≡ x
 same_way true x = refl
 same_way false x = refl
 
-answer_same : (p : Blocks) (o : OuterState) (s : State) → TellsSame p o s → (a : Ask) → answer_of 0 (with_beside p o s) a ≡ answer_of 0 s a
+answer_same : (p : Blocks) (c : Core) (o : OuterState) (s : State) → TellsSame p c o s → (a : Ask) → answer_of 0 (with_beside p c o s) a ≡ answer_of 0 s a
 unfolding inputs_of
-answer_same p o s h ask.Lines = h.lines
-answer_same p o s h (ask.Half address) = refl
-answer_same p o s h (ask.Word address) = refl
-answer_same p o s h ask.Pacing = h.pacing
-answer_same p o s h ask.Inputs = ap packed_pair h.inputs
-answer_same p o s h (ask.Outs block) = h.outs block
+answer_same p c o s h ask.Lines = h.lines
+answer_same p c o s h (ask.Half address) = refl
+answer_same p c o s h (ask.Word address) = refl
+answer_same p c o s h ask.Pacing = h.pacing
+answer_same p c o s h ask.Inputs = ap packed_pair h.inputs
+answer_same p c o s h (ask.Outs block) = h.outs block
 
-pub begun_same : (p : Blocks) (o : OuterState) (s : State) → TellsSame p o s → (begun (with_beside p o s)).core0 ≡ (begun s).core0
+pub begun_same : (p : Blocks) (c : Core) (o : OuterState) (s : State) → TellsSame p c o s → (begun (with_beside p c o s)).core0 ≡ (begun s).core0
 unfolding begun
-begun_same p o s h = answered_same (answer_of 0 (with_beside p o s)) (answer_of 0 s) (answer_same p o s h) (core_asks.asks s.core0 s.cycle)
+begun_same p c o s h = answered_same (answer_of 0 (with_beside p c o s)) (answer_of 0 s) (answer_same p c o s h) (core_asks.asks s.core0 s.cycle)
 
 -- ---- the cycle
 
@@ -105,9 +108,11 @@ no_deed_where w found true request q = no_deed w found request request.write (pl
 no_deed_where w found false request q = refl
 
 -- SIO ends its cycle beside others
-ends_beside : (p : Blocks) (o : OuterState) (q : State) → o.sio ≡ pins_of q.sio → ended (with_beside p o q) ≡ with_beside p o (ended q)
+ends_beside : (p : Blocks) (c : Core) (o : OuterState) (q : State) → c.offer ≡ offers_of q.sio → o.sio ≡ pins_of q.sio → ended (with_beside p c o q) ≡ with_beside p c o (ended q)
 unfolding ended with_sio
-ends_beside p o q h = ap (λ (pins : List ℕ). with_beside p (record o { sio = pins }) (ended q)) (sym h)
+ends_beside p c o q told pins =
+    ap (λ (offer : Bool). with_beside p (record c { offer = offer }) (record o { sio = pins_of q.sio }) (ended q)) (sym told)
+    ∙ ap (λ (pins : List ℕ). with_beside p c (record o { sio = pins }) (ended q)) (sym pins)
 
 -- what a cycle has come to before the launcher has its turn
 abbrev reached : Doing → Want → State → State
@@ -116,14 +121,14 @@ reached b x s = core0_stepped b (inward_turn (granted_alone x s) x) (with_grant 
 abbrev closed : Want → ℕ → Bool → State → State
 closed x cycle granted q = record (ended (with_store (inward_deed granted x) q)) { cycle = cycle + 1 }
 
-inward_end : (w : Setting) (p : Blocks) (o : OuterState) (s : State) (b : Doing) (seen : SeenOutputs) (x : Want) → GoesAlone s → o.sio ≡ pins_of s.sio
-    → closed x s.cycle (granted_alone x s) (core1_launched (offers_of s.sio) (with_beside p (outer.next w o seen) (reached b x s)))
-    ≡ with_beside p (outer.next w o seen) (inward_next b x s)
+inward_end : (w : Setting) (p : Blocks) (c : Core) (o : OuterState) (s : State) (b : Doing) (seen : SeenOutputs) (x : Want) → AgreeWithSio c o s
+    → closed x s.cycle (granted_alone x s) (core1_launched (offers_of s.sio) (with_beside p c (outer.next w o seen) (reached b x s)))
+    ≡ with_beside p c (outer.next w o seen) (inward_next b x s)
 unfolding inward_next
-inward_end w p o s b seen x h pins =
-    ap (λ (q : State). closed x s.cycle (granted_alone x s) q) (rests_again (offers_of s.sio) (with_beside p (outer.next w o seen) (reached b x s)) h.offers)
+inward_end w p c o s b seen x h =
+    ap (λ (q : State). closed x s.cycle (granted_alone x s) q) (rests_again (offers_of s.sio) (with_beside p c (outer.next w o seen) (reached b x s)) h.offers)
     ∙ ap (λ (q : State). record q { cycle = s.cycle + 1 })
-    (ends_beside p (outer.next w o seen) (with_store (inward_deed (granted_alone x s) x) (reached b x s)) ((outer_next w o seen).sio ∙ pins))
+    (ends_beside p c (outer.next w o seen) (with_store (inward_deed (granted_alone x s) x) (reached b x s)) h.told ((outer_next w o seen).sio ∙ h.pins))
 
 -- an access to the peripherals that is not granted is not done
 waits : (at : Spot) (granted : Bool) → (not granted && is_peripheral at) ≡ true → is_done_at at granted ≡ false
@@ -154,26 +159,26 @@ has_word w seen m r (spot.Sio offset) false s e = absurd (cc e)
 has_word w seen m r (spot.Ppb offset) false s e = absurd (cc e)
 has_word w seen m r spot.Outside false s e = absurd (cc e)
 
-inward_same : (w : Setting) (p q : Blocks) (o : OuterState) (s : State) (b : Doing) (seen : SeenOutputs) (x : Want) → GoesAlone s → o.sio ≡ pins_of s.sio
-    → is_inward (granted_alone x s) x ≡ true → alone_next w q b seen x (with_beside p o s) ≡ with_beside q (outer.next w o seen) (inward_next b x s)
+inward_same : (w : Setting) (p q : Blocks) (c d : Core) (o : OuterState) (s : State) (b : Doing) (seen : SeenOutputs) (x : Want) → AgreeWithSio d o s
+    → is_inward (granted_alone x s) x ≡ true → alone_next w q d b seen x (with_beside p c o s) ≡ with_beside q d (outer.next w o seen) (inward_next b x s)
 unfolding alone_next turn_of deed_of asked_of after_deed
-inward_same w p q o s b seen want.Nothing h pins e = inward_end w q o s b seen want.Nothing h pins
-inward_same w p q o s b seen (want.Ram request) h pins e =
+inward_same w p q c d o s b seen want.Nothing h e = inward_end w q d o s b seen want.Nothing h
+inward_same w p q c d o s b seen (want.Ram request) h e =
     ap (λ (r : State). closed (want.Ram request) s.cycle (granted_alone (want.Ram request) s) (core1_launched (offers_of s.sio) r))
-    (no_deed_where w _ (granted_alone (want.Ram request) s) request (with_beside q (outer.next w o seen) (reached b (want.Ram request) s)))
-    ∙ inward_end w q o s b seen (want.Ram request) h pins
-inward_same w p q o s b seen (want.Outward request) h pins e =
+    (no_deed_where w _ (granted_alone (want.Ram request) s) request (with_beside q d (outer.next w o seen) (reached b (want.Ram request) s)))
+    ∙ inward_end w q d o s b seen (want.Ram request) h
+inward_same w p q c d o s b seen (want.Outward request) h e =
     let x = want.Outward request in
-    rw (waits (place_of request.address) (granted_alone x s) e) (inward_end w q o s b seen x h pins)
-inward_same w p q o s b seen want.Signal h pins e = cc
-inward_same w p q o s b seen (want.Stopped cause) h pins e = cc
+    rw (waits (place_of request.address) (granted_alone x s) e) (inward_end w q d o s b seen x h)
+inward_same w p q c d o s b seen want.Signal h e = cc
+inward_same w p q c d o s b seen (want.Stopped cause) h e = cc
 
-pub onward : (w : Setting) (p q : Blocks) (o : OuterState) (s : State) → GoesAlone s → IsCore0Alone (with_beside p o s) q → TellsSame p o s → goes_inward s ≡ true
-    → next w (with_beside p o s) ≡ with_beside q (outer.next w o (begun (with_beside p o s)).outer) (inward_next (begun s).core0 (core0_want s) s)
-onward w p q o s h alone same inward =
-    next_alone w (with_beside p o s) q alone
-    ∙ ap (λ b. alone_next w q b (begun (with_beside p o s)).outer (core.want_of b) (with_beside p o s)) (begun_same p o s same)
-    ∙ inward_same w p q o s (begun s).core0 (begun (with_beside p o s)).outer (core0_want s) h same.sio inward
+pub onward : (w : Setting) (p q : Blocks) (c d : Core) (o : OuterState) (s : State) → AgreeWithSio d o s → IsCore0Alone (with_beside p c o s) q d → TellsSame p c o s
+    → goes_inward s ≡ true → next w (with_beside p c o s) ≡ with_beside q d (outer.next w o (begun (with_beside p c o s)).outer) (inward_next (begun s).core0 (core0_want s) s)
+onward w p q c d o s h alone same inward =
+    next_alone w (with_beside p c o s) q d alone
+    ∙ ap (λ b. alone_next w q d b (begun (with_beside p c o s)).outer (core.want_of b) (with_beside p c o s)) (begun_same p c o s same)
+    ∙ inward_same w p q c d o s (begun s).core0 (begun (with_beside p c o s)).outer (core0_want s) h inward
 
 -- no master stops it
 abbrev outside_unless : Bool → ℕ → Option Why
@@ -188,12 +193,12 @@ no_cause w seen s granted (want.Outward request) e =
 no_cause w seen s granted want.Signal e = cc
 no_cause w seen s granted (want.Stopped cause) e = cc
 
-pub onward_runs : (w : Setting) (p q : Blocks) (o : OuterState) (s : State) → IsCore0Alone (with_beside p o s) q → TellsSame p o s → goes_inward s ≡ true
-    → cause_in w (begun (with_beside p o s)) (wanted (begun (with_beside p o s))) (with_beside p o s) ≡ None
-onward_runs w p q o s alone same inward =
-    cause_alone w (with_beside p o s) q alone
-    ∙ ap (λ b. cause_of w (begun (with_beside p o s)).outer (with_beside p o s) (wanted_by master.Core0 (core.want_of b))) (begun_same p o s same)
-    ∙ no_cause w (begun (with_beside p o s)).outer (with_beside p o s) (granted_alone (core0_want s) s) (core0_want s) inward
+pub onward_runs : (w : Setting) (p q : Blocks) (c d : Core) (o : OuterState) (s : State) → IsCore0Alone (with_beside p c o s) q d → TellsSame p c o s → goes_inward s ≡ true
+    → cause_in w (begun (with_beside p c o s)) (wanted (begun (with_beside p c o s))) (with_beside p c o s) ≡ None
+onward_runs w p q c d o s alone same inward =
+    cause_alone w (with_beside p c o s) q d alone
+    ∙ ap (λ b. cause_of w (begun (with_beside p c o s)).outer (with_beside p c o s) (wanted_by master.Core0 (core.want_of b))) (begun_same p c o s same)
+    ∙ no_cause w (begun (with_beside p c o s)).outer (with_beside p c o s) (granted_alone (core0_want s) s) (core0_want s) inward
 
 -- ---- a cycle in which nothing is wanted, and no access lasts
 
@@ -233,8 +238,12 @@ reaches_by b s t e reaches = reaches ∙ ap (λ (d : Doing). inward_next d (core
 pub inward_by : (b : Doing) (s : State) → b ≡ (begun s).core0 → is_inward (granted_alone (core.want_of b) s) (core.want_of b) ≡ true → goes_inward s ≡ true
 inward_by b s e inward = ap (by_begun s) (sym e) ∙ inward
 
-goes_on : (w : Setting) (p q : Blocks) (o : OuterState) (s : State) → GoesAlone s → IsCore0Alone (with_beside p o s) q → TellsSame p o s → goes_inward s ≡ true → GoesOn w p q o s
-goes_on w p q o s h alone same inward = record { cause = onward_runs w p q o s alone same inward; state = onward w p q o s h alone same inward }
+goes_on : (w : Setting) (p q : Blocks) (c d : Core) (o : OuterState) (s : State) → AgreeWithSio d o s → IsCore0Alone (with_beside p c o s) q d → TellsSame p c o s
+    → goes_inward s ≡ true → GoesOn w p q c d o s
+goes_on w p q c d o s h alone same inward = record {
+  cause = onward_runs w p q c d o s alone same inward;
+  state = onward w p q c d o s h alone same inward;
+}
 
 -- ---- one cycle after another
 
@@ -245,30 +254,37 @@ pub record Stays (s t : State) (n : ℕ) : Type 0 where
   pub dma : t.dma ≡ s.dma
   pub pio0 : t.pio0 ≡ s.pio0
   pub pio1 : t.pio1 ≡ s.pio1
-  pub pins : pins_of t.sio ≡ pins_of s.sio
+  pub core1 : t.core1 ≡ s.core1
+  pub lines1 : lines_of 1 t ≡ lines_of 1 s
   pub cycle : t.cycle ≡ s.cycle + n
 
 stays_here : (s : State) → GoesAlone s → Stays s s 0
-stays_here s h = record { alone = h; outer = refl; dma = refl; pio0 = refl; pio1 = refl; pins = refl; cycle = omega arith }
+stays_here s h = record { alone = h; outer = refl; dma = refl; pio0 = refl; pio1 = refl; core1 = refl; lines1 = refl; cycle = omega arith }
 
-stays_on : (b : Doing) (x : Want) (s t : State) (n : ℕ) → s.outer.sio ≡ pins_of s.sio → Stays s t n → Stays s (inward_next b x t) (suc n)
+-- the interrupt lines of either core
+pub lines_stay : (b : Doing) (x : Want) (t : State) (number : ℕ) → lines_of number (inward_next b x t) ≡ lines_of number t
+unfolding inward_next ended with_sio lines_of block_lines outer_lines
+lines_stay b x t number = refl
+
+stays_on : (b : Doing) (x : Want) (s t : State) (n : ℕ) → Stays s t n → Stays s (inward_next b x t) (suc n)
 unfolding inward_next ended with_sio
-stays_on b x s t n known h =
+stays_on b x s t n h =
     let cycle = h.cycle in
     record {
-      alone = record { asleep = h.alone.asleep; offers = h.alone.offers };
-      outer = ap (λ (o : OuterState). record o { sio = pins_of t.sio }) h.outer ∙ ap (λ (pins : List ℕ). record s.outer { sio = pins }) (h.pins ∙ sym known);
+      alone = record { offers = h.alone.offers; told = refl; pins = refl };
+      outer = ap (λ (pins : List ℕ). record t.outer { sio = pins }) (sym h.alone.pins) ∙ h.outer;
       dma = h.dma;
       pio0 = h.pio0;
       pio1 = h.pio1;
-      pins = h.pins;
+      core1 = ap (λ (offer : Bool). record t.core1 { offer = offer }) (sym h.alone.told) ∙ h.core1;
+      lines1 = lines_stay b x t 1 ∙ h.lines1;
       cycle = omega arith;
     }
 
-pub stays_after : (s : State) (n : ℕ) → GoesAlone s → s.outer.sio ≡ pins_of s.sio → Stays s (inward_after n s) n
+pub stays_after : (s : State) (n : ℕ) → GoesAlone s → Stays s (inward_after n s) n
 unfolding inward_after
-stays_after s zero h known = stays_here s h
-stays_after s (suc n) h known = stays_on _ _ s (inward_after n s) n known (stays_after s n h known)
+stays_after s zero h = stays_here s h
+stays_after s (suc n) h = stays_on _ _ s (inward_after n s) n (stays_after s n h)
 
 -- the blocks and the peripherals, which are quiet, tell in the cycle k what they told first
 pub record TellOn (s t : State) : Type 0 where
@@ -309,7 +325,7 @@ outs_on s t block h = ap packed_pair (outs_by (block == 0) s t h)
 
 -- the state in which the others have gone so many cycles, and core 0 has gone to t
 abbrev pub beside_after : Setting → State → ℕ → State → State
-beside_after w s k t = with_beside (blocks_after k s) (outer_after w (begun s).outer k s.outer) t
+beside_after w s k t = with_beside (blocks_after k s) (core1_after s.cycle k s) (outer_after w (begun s).outer k s.outer) t
 
 pub tell_on : (w : Setting) (s t : State) (n k : ℕ) → k ≤ n → AreBlocksQuiet s n → IsQuiet w (begun s).outer s.outer n → TellOn s (beside_after w s k t)
 tell_on w s t n k le blocks quiet =
@@ -354,14 +370,25 @@ told_both s t u h i = record {
   pacing1 = h.pacing1 ∙ i.pacing1;
 }
 
--- in a cycle of these the blocks come to what they are in the next
-pub alone_by : (w : Setting) (s t : State) (n k : ℕ) → k < n → t.core1.asleep ≡ true → AreBlocksQuiet s n → pacing_of (beside_after w s k t) ≡ pacing_of s
-    → IsCore0Alone (beside_after w s k t) (blocks_after (suc k) s)
+-- one cycle more of a core that is quiet
+pub core_more : (lines : ℕ) (c : Core) (cycle k : ℕ) (b : Doing) → b ≡ answered (λ ask. lines) (core_asks.asks (times (rested lines) cycle k c) (cycle + k))
+    → core.next (times (rested lines) cycle k c) b (turn.Nothing ∷ turn.Nothing ∷ []) ≡ times (rested lines) cycle (suc k) c
+unfolding times
+core_more lines c cycle k b e = rw e refl
+
+-- in a cycle of these the blocks and core 1 come to what they are in the next
+pub alone_by : (w : Setting) (s t : State) (n k : ℕ) → k < n → Stays s t k → AreBlocksQuiet s n → IsCore1Quiet s n → TellOn s (beside_after w s k t)
+    → TellOn t (beside_after w s k t) → IsCore0Alone (beside_after w s k t) (blocks_after (suc k) s) (core1_after s.cycle (suc k) s)
 unfolding begun
-alone_by w s t n k lt asleep blocks pacing =
+alone_by w s t n k lt stays blocks quiet on here =
     let u = beside_after w s k t in
+    let pacing = pacing_on s u on in
+    let begins : (begun u).core1 ≡ answered (λ ask. lines_of 1 s) (core_asks.asks (core1_after s.cycle k s) (s.cycle + k)) =
+    ap (λ (cycle : ℕ). answered (answer_of 1 u) (core_asks.asks (core1_after s.cycle k s) cycle)) stays.cycle
+    ∙ quiet.begins k lt (answer_of 1 u) (lines_on t u 1 refl here ∙ stays.lines1) in
     record {
-      asleep = asleep;
+      rests = ap core.want_of begins ∙ quiet.wants k lt;
+      core1 = core_more (lines_of 1 s) s.core1 s.cycle k (begun u).core1 begins;
       wants = blocks.dma.wants k lt (answer_of 2 u) pacing;
       dma = λ turns. blocks.dma.steps k lt (answer_of 2 u) pacing turns;
       pio0 = (a_quiet_block_shows_the_same s.pio0.block n blocks.pio0).steps k lt (answer_of 3 u);
@@ -381,43 +408,49 @@ stop_none w s lt none = elim (eqb_tells s.cycle w.limit) [
   | inr e ↦ rw e.0 none
 ]
 
-a_step : (w : Setting) (s : State) (n k : ℕ) → k < n → GoesAlone s → s.outer.sio ≡ pins_of s.sio → AreBlocksQuiet s n → IsQuiet w (begun s).outer s.outer n
+a_step : (w : Setting) (s : State) (n k : ℕ) → k < n → GoesAlone s → AreBlocksQuiet s n → IsCore1Quiet s n → IsQuiet w (begun s).outer s.outer n
     → goes_inward (inward_after k s) ≡ true → s.cycle + n ≤ w.limit → IsStep w s k
 unfolding mark events inward_after times
-a_step w s n k lt h known blocks quiet inward limit =
+a_step w s n k lt h blocks core1 quiet inward limit =
     let le : k ≤ n = omega arith in
     let t = inward_after k s in
     let p = blocks_after k s in
+    let c = core1_after s.cycle k s in
+    let d = core1_after s.cycle (suc k) s in
     let o = outer_after w (begun s).outer k s.outer in
     let u = beside_after w s k t in
-    let stays = stays_after s k h known in
+    let stays = stays_after s k h in
     let number = seen_number s in
     let cycle = stays.cycle in
     let on = tell_on w s t n k le blocks quiet in
     let here = told_both s u t on (stayed s t k stays) in
     let seen : (begun u).outer ≡ seen_in (begun s).outer ((begun s).outer.cycle + k) =
     seen_later s u (quiet.pads k le) (λ block. outs_on s u block on) ∙ ap (λ (c : ℕ). seen_in (begun s).outer c) (omega arith) in
-    let tells : TellsSame p o t = record {
+    let tells : TellsSame p c o t = record {
       lines = lines_on t u 0 refl here;
       pacing = pacing_on t u here;
       inputs = ap (λ (b : Bank). inputs_of_pads b b.current ∷ inputs_of_pads b b.second ∷ []) (quiet.pads k le) ∙ ap outer_inputs (sym stays.outer);
       outs = λ block. outs_on t u block here;
-      sio = quiet.sio k le ∙ known ∙ sym stays.pins;
     } in
-    let step = goes_on w p (blocks_after (suc k) s) o t stays.alone (alone_by w s t n k lt stays.alone.asleep blocks (pacing_on s u on)) tells inward in
+    let knows : AgreeWithSio d o t = record {
+      offers = stays.alone.offers;
+      told = core1.offer (suc k) (omega arith) ∙ ap (λ (x : Core). x.offer) (sym stays.core1) ∙ stays.alone.told;
+      pins = quiet.sio k le ∙ ap (λ (x : OuterState). x.sio) (sym stays.outer) ∙ stays.alone.pins;
+    } in
+    let step = goes_on w p (blocks_after (suc k) s) c d o t knows (alone_by w s t n k lt stays blocks core1 on here) tells inward in
     record {
       stop = stop_none w u (omega arith) step.cause;
-      next = step.state ∙ ap (λ (x : SeenOutputs). with_beside (blocks_after (suc k) s) (outer.next w o x) (inward_next (begun t).core0 (core0_want t) t)) seen;
+      next = step.state ∙ ap (λ (x : SeenOutputs). with_beside (blocks_after (suc k) s) d (outer.next w o x) (inward_next (begun t).core0 (core0_want t) t)) seen;
       events = no_events t.cycle o.pads.current (marked w o (begun u).outer)
           (ap (λ (x : SeenOutputs). marked w o x) seen ∙ quiet.mark k lt ∙ ap (λ (b : Bank). record { uart = None ∷ None ∷ []; pads = b.current }) (sym (quiet.pads k le)));
     }
 
-runs_through : (w : Setting) (s : State) (n : ℕ) → GoesAlone s → s.outer.sio ≡ pins_of s.sio → AreBlocksQuiet s n → IsQuiet w (begun s).outer s.outer n → StaysInward s n
+runs_through : (w : Setting) (s : State) (n : ℕ) → GoesAlone s → AreBlocksQuiet s n → IsCore1Quiet s n → IsQuiet w (begun s).outer s.outer n → StaysInward s n
     → s.cycle + n ≤ w.limit → RunsThrough w (onward_after w s) n
-runs_through w s n h known blocks quiet inward limit = record {
-  stop = λ k lt. (a_step w s n k lt h known blocks quiet (inward k lt) limit).stop;
-  next = λ k lt. (a_step w s n k lt h known blocks quiet (inward k lt) limit).next;
-  events = λ k lt. (a_step w s n k lt h known blocks quiet (inward k lt) limit).events;
+runs_through w s n h blocks core1 quiet inward limit = record {
+  stop = λ k lt. (a_step w s n k lt h blocks core1 quiet (inward k lt) limit).stop;
+  next = λ k lt. (a_step w s n k lt h blocks core1 quiet (inward k lt) limit).next;
+  events = λ k lt. (a_step w s n k lt h blocks core1 quiet (inward k lt) limit).events;
 }
 
 -- no cycle
@@ -426,8 +459,8 @@ unfolding inward_after times
 nothing_after w s = ap (λ (p : Blocks). with_blocks p s) (none_after s)
 
 pub core0_goes_on_alone : Core0GoesOnAlone
-core0_goes_on_alone w s n h known blocks quiet inward limit =
-    let runs = runs_through w s n h known blocks quiet inward limit in
+core0_goes_on_alone w s n h blocks core1 quiet inward limit =
+    let runs = runs_through w s n h blocks core1 quiet inward limit in
     let here : (k : ℕ) → k ≤ n → states w s k ≡ onward_after w s k =
     λ k le. ap (λ (x : State). states w x k) (sym (nothing_after w s)) ∙ states_through w (onward_after w s) k (fewer w (onward_after w s) n k le runs) in
     record {
@@ -436,22 +469,28 @@ core0_goes_on_alone w s n h known blocks quiet inward limit =
         goes = λ k lt. ap (stop w) (here k (omega arith)) ∙ runs.stop k lt;
         silent = λ k lt. ap (events w) (here k (omega arith)) ∙ runs.events k lt;
         pads = λ k le. ap (λ (t : State). t.outer.pads) (here k le) ∙ quiet.pads k le;
-        cycle = λ k le. ap (λ (t : State). t.cycle) (here k le) ∙ (stays_after s k h known).cycle;
+        cycle = λ k le. ap (λ (t : State). t.cycle) (here k le) ∙ (stays_after s k h).cycle;
       };
     }
 
 blocks_went : (s t : State) (n k : ℕ) → Stays s t k → blocks_after n t ≡ blocks_after n s
 blocks_went s t n k h = rw (h.dma, h.pio0, h.pio1) refl
 
+core1_went : (s t : State) (first n k : ℕ) → Stays s t k → core1_after first n t ≡ core1_after first n s
+core1_went s t first n k h = rw (h.lines1, h.core1) refl
+
 -- the same of what the calls of a run leave
-pub went_onward : (w : Setting) (s t : State) (o : OuterState) (seen : SeenOutputs) (n : ℕ) → GoesAlone s → s.outer.sio ≡ pins_of s.sio → seen ≡ (begun s).outer
-    → t ≡ inward_after n s → o ≡ outer_after w seen n t.outer → GoesOnward w s n → with_beside (blocks_after n t) o t ≡ states w s n
-went_onward w s t o seen n h known same went passed runs =
-    ap (λ (x : OuterState). with_beside (blocks_after n t) x t) passed
-    ∙ ap (λ (x : State). with_beside (blocks_after n x) (outer_after w seen n x.outer) x) went
-    ∙ ap (λ (x : SeenOutputs). with_beside (blocks_after n (inward_after n s)) (outer_after w x n (inward_after n s).outer) (inward_after n s)) same
-    ∙ ap (λ (x : OuterState). with_beside (blocks_after n (inward_after n s)) (outer_after w (begun s).outer n x) (inward_after n s)) (stays_after s n h known).outer
-    ∙ ap (λ (x : Blocks). with_beside x (outer_after w (begun s).outer n s.outer) (inward_after n s)) (blocks_went s (inward_after n s) n n (stays_after s n h known))
+pub went_onward : (w : Setting) (s t : State) (seen : SeenOutputs) (n : ℕ) → GoesAlone s → seen ≡ (begun s).outer → t ≡ inward_after n s → GoesOnward w s n
+    → with_beside (blocks_after n t) (core1_after seen.cycle n t) (outer_after w seen n t.outer) t ≡ states w s n
+went_onward w s t seen n h same went runs =
+    let u = inward_after n s in
+    let stays = stays_after s n h in
+    ap (λ (x : State). with_beside (blocks_after n x) (core1_after seen.cycle n x) (outer_after w seen n x.outer) x) went
+    ∙ ap (λ (x : SeenOutputs). with_beside (blocks_after n u) (core1_after x.cycle n u) (outer_after w x n u.outer) u) same
+    ∙ ap (λ (first : ℕ). with_beside (blocks_after n u) (core1_after first n u) (outer_after w (begun s).outer n u.outer) u) (seen_number s)
+    ∙ ap (λ (x : OuterState). with_beside (blocks_after n u) (core1_after s.cycle n u) (outer_after w (begun s).outer n x) u) stays.outer
+    ∙ ap (λ (x : Blocks). with_beside x (core1_after s.cycle n u) (outer_after w (begun s).outer n s.outer) u) (blocks_went s u n n stays)
+    ∙ ap (λ (x : Core). with_beside (blocks_after n s) x (outer_after w (begun s).outer n s.outer) u) (core1_went s u s.cycle n n stays)
     ∙ sym runs.state
 
 -- ---- as far as core 0 goes on
@@ -478,10 +517,6 @@ has_gone_none s most lines steps marks h = record {
   cycle = omega arith;
 }
 
-pub lines_stay : (b : Doing) (x : Want) (t : State) → lines_of 0 (inward_next b x t) ≡ lines_of 0 t
-unfolding inward_next ended with_sio lines_of block_lines outer_lines
-lines_stay b x t = refl
-
 cycle_more : (b : Doing) (x : Want) (t : State) → (inward_next b x t).cycle ≡ t.cycle + 1
 unfolding inward_next ended with_sio
 cycle_more b x t = refl
@@ -507,7 +542,7 @@ has_gone_on s t u most done more lines before now later old new last h lt inward
       within = omega arith;
       state = state ∙ ap (λ (k : ℕ). inward_after k s) (sym n);
       inward = rw n (inward_again s t done h.state inward h.inward);
-      told = h.told ∙ sym (ap (lines_of 0) e ∙ lines_stay _ _ t);
+      told = h.told ∙ sym (ap (lines_of 0) e ∙ lines_stay _ _ t 0);
       counted = omega arith;
       kept = mark ∙ h.kept;
       cycle = omega arith;

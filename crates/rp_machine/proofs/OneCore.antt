@@ -8,9 +8,6 @@ use Rattle.lane_look.specs.declared.lane.Want.TheVariants as want
 use Rattle.lane_look.specs.declared.lane.Turn.{Turn}
 use Rattle.lane_look.specs.declared.lane.Turn.TheVariants as turn
 use Rattle.m0_core.specs.State.{State as Core}
-use Rattle.m0_core.specs.declared.doing.Doing.{Doing}
-use Rattle.m0_core.specs.declared.doing.Act.TheVariants as act
-use Rattle.m0_core.specs.Fetch as core_asks
 use Rattle.m0_core.specs.Cycle as core
 use Rattle.dma_engine.specs.Cycle as dma
 use Rattle.pio_block.specs.Cycle as pio
@@ -27,23 +24,19 @@ use Rattle.rp_machine.specs.Alone.{Blocks, IsCore0Alone, beside, stepped_alone, 
 
 -- ---- what the others begin
 
-begun_core1 : (s : State) (p : Blocks) → IsCore0Alone s p → (begun s).core1.act ≡ act.Asleep
-unfolding begun core_asks.asks
-begun_core1 s p h = rw h.asleep refl
-
 pub first_want : (a b : Want) → a ∷ b ∷ [] ≡ want.Nothing ∷ want.Nothing ∷ [] → a ≡ want.Nothing
 first_want a b e = ap (λ (xs : List Want). slice_index_or xs 0 want.Nothing) e
 
 pub second_want : (a b : Want) → a ∷ b ∷ [] ≡ want.Nothing ∷ want.Nothing ∷ [] → b ≡ want.Nothing
 second_want a b e = ap (λ (xs : List Want). slice_index_or xs 1 want.Nothing) e
 
-pub wanted_alone : (s : State) (p : Blocks) → IsCore0Alone s p → wanted (begun s) ≡ beside (core.want_of (begun s).core0)
+pub wanted_alone : (s : State) (p : Blocks) (c : Core) → IsCore0Alone s p c → wanted (begun s) ≡ beside (core.want_of (begun s).core0)
 unfolding wanted
-wanted_alone s p h = rw (begun_core1 s p h, first_want _ _ h.wants, second_want _ _ h.wants) refl
+wanted_alone s p c h = rw (h.rests, first_want _ _ h.wants, second_want _ _ h.wants) refl
 
 -- ---- the first cause
 
-alone_first : (c : Option Why) → first_cause (c ∷ None ∷ None ∷ None ∷ []) ≡ c
+alone_first : (cause : Option Why) → first_cause (cause ∷ None ∷ None ∷ None ∷ []) ≡ cause
 alone_first None = refl
 alone_first (Some why) = refl
 
@@ -51,31 +44,28 @@ cause_beside : (w : Setting) (b : Begun) (x : Want) (s : State) → cause_in w b
 unfolding cause_in cause_of
 cause_beside w b x s = alone_first _
 
-pub cause_alone : (w : Setting) (s : State) (p : Blocks) → IsCore0Alone s p
+pub cause_alone : (w : Setting) (s : State) (p : Blocks) (c : Core) → IsCore0Alone s p c
     → cause_in w (begun s) (wanted (begun s)) s ≡ cause_of w (begun s).outer s (wanted_by master.Core0 (core.want_of (begun s).core0))
-cause_alone w s p h =
-    ap (λ xs. cause_in w (begun s) xs s) (wanted_alone s p h) ∙ cause_beside w (begun s) (core.want_of (begun s).core0) s
+cause_alone w s p c h =
+    ap (λ xs. cause_in w (begun s) xs s) (wanted_alone s p c h) ∙ cause_beside w (begun s) (core.want_of (begun s).core0) s
 
 -- ---- the steps
 
-asleep_stays : (c : Core) (b : Doing) (turns : List Turn) → b.act ≡ act.Asleep → core.next c b turns ≡ c
-unfolding core.next
-asleep_stays c b turns h = rw h refl
-
-turns_by : (w : Setting) (p : Blocks) (b : Begun) (ts : List Turn) (t : State)
-    → core.next t.core1 b.core1 (turn_for ts master.Core1 ∷ turn.Nothing ∷ []) ≡ t.core1
+turns_by : (w : Setting) (p : Blocks) (c : Core) (b : Begun) (ts : List Turn) (t : State)
+    → core.next t.core1 b.core1 (turn_for ts master.Core1 ∷ turn.Nothing ∷ []) ≡ c
     → dma.next t.dma.block b.dma (turn_for ts master.DmaRead ∷ turn_for ts master.DmaWrite ∷ []) ≡ p.dma
     → pio.next b.pio0 t.pio0.block ≡ p.pio0
     → pio.next b.pio1 t.pio1.block ≡ p.pio1
-    → with_turns w b ts t ≡ stepped_alone w p b.core0 b.outer (turn_for ts master.Core0) t
+    → with_turns w b ts t ≡ stepped_alone w p c b.core0 b.outer (turn_for ts master.Core0) t
 unfolding with_turns
-turns_by w p b ts t e1 e2 e3 e4 = rw (e1, e2, e3, e4) refl
+turns_by w p c b ts t e1 e2 e3 e4 = rw (e1, e2, e3, e4) refl
 
-steps_alone : (w : Setting) (ts : List Turn) (s t : State) (p : Blocks) → IsCore0Alone s p → t.core1 ≡ s.core1 → t.dma ≡ s.dma → t.pio0 ≡ s.pio0 → t.pio1 ≡ s.pio1
-    → with_turns w (begun s) ts t ≡ stepped_alone w p (begun s).core0 (begun s).outer (turn_for ts master.Core0) t
-steps_alone w ts s t p h core1 same_dma same_pio0 same_pio1 =
-    turns_by w p (begun s) ts t
-    (asleep_stays t.core1 (begun s).core1 _ (begun_core1 s p h))
+steps_alone : (w : Setting) (ts : List Turn) (s t : State) (p : Blocks) (c : Core) → IsCore0Alone s p c → turn_for ts master.Core1 ≡ turn.Nothing → t.core1 ≡ s.core1
+    → t.dma ≡ s.dma → t.pio0 ≡ s.pio0 → t.pio1 ≡ s.pio1
+    → with_turns w (begun s) ts t ≡ stepped_alone w p c (begun s).core0 (begun s).outer (turn_for ts master.Core0) t
+steps_alone w ts s t p c h nothing same_core1 same_dma same_pio0 same_pio1 =
+    turns_by w p c (begun s) ts t
+    (rw (nothing, same_core1) h.core1)
     (rw same_dma (h.dma _))
     (rw same_pio0 h.pio0)
     (rw same_pio1 h.pio1)
@@ -88,22 +78,29 @@ ending w b x s t = record (after_deeds w (deeds w b (beside x) s (granted (besid
 abbrev told : Setting → Begun → Want → State → Turn
 told w b x s = turn_for (turns w b (beside x) s (granted (beside x) s)) master.Core0
 
-ends_alone : (w : Setting) (p : Blocks) (b : Begun) (x : Want) (s : State)
-    → ending w b x s (stepped_alone w p b.core0 b.outer (told w b x s) (with_grants (beside x) s)) ≡ alone_next w p b.core0 b.outer x s
+-- core 1, which wants nothing, is told nothing
+untold : (w : Setting) (b : Begun) (x : Want) (s : State) → turn_for (turns w b (beside x) s (granted (beside x) s)) master.Core1 ≡ turn.Nothing
+unfolding granted asked asked_of turns turn_of
+untold w b x s = refl
+
+ends_alone : (w : Setting) (p : Blocks) (c : Core) (b : Begun) (x : Want) (s : State)
+    → ending w b x s (stepped_alone w p c b.core0 b.outer (told w b x s) (with_grants (beside x) s)) ≡ alone_next w p c b.core0 b.outer x s
 unfolding granted asked asked_of turns turn_of deeds deed_of after_deeds after_deed core1_launched alone_next
-ends_alone w p b x s = refl
+ends_alone w p c b x s = refl
 
-next_beside : (w : Setting) (x : Want) (s : State) (p : Blocks) → IsCore0Alone s p → next_by w (begun s) (beside x) s ≡ alone_next w p (begun s).core0 (begun s).outer x s
+next_beside : (w : Setting) (x : Want) (s : State) (p : Blocks) (c : Core) → IsCore0Alone s p c
+    → next_by w (begun s) (beside x) s ≡ alone_next w p c (begun s).core0 (begun s).outer x s
 unfolding next_by stepped
-next_beside w x s p h =
+next_beside w x s p c h =
     ap (ending w (begun s) x s)
-    (steps_alone w (turns w (begun s) (beside x) s (granted (beside x) s)) s (with_grants (beside x) s) p h refl refl refl refl)
-    ∙ ends_alone w p (begun s) x s
+    (steps_alone w (turns w (begun s) (beside x) s (granted (beside x) s)) s (with_grants (beside x) s) p c h (untold w (begun s) x s) refl refl refl refl)
+    ∙ ends_alone w p c (begun s) x s
 
-pub next_alone : (w : Setting) (s : State) (p : Blocks) → IsCore0Alone s p → next w s ≡ alone_next w p (begun s).core0 (begun s).outer (core.want_of (begun s).core0) s
+pub next_alone : (w : Setting) (s : State) (p : Blocks) (c : Core) → IsCore0Alone s p c
+    → next w s ≡ alone_next w p c (begun s).core0 (begun s).outer (core.want_of (begun s).core0) s
 unfolding next
-next_alone w s p h =
-    ap (λ xs. next_by w (begun s) xs s) (wanted_alone s p h) ∙ next_beside w (core.want_of (begun s).core0) s p h
+next_alone w s p c h =
+    ap (λ xs. next_by w (begun s) xs s) (wanted_alone s p c h) ∙ next_beside w (core.want_of (begun s).core0) s p c h
 
 -- ---- a cycle in which the first master alone wants something
 

@@ -1,9 +1,10 @@
--- Core 0 goes on alone beside lanes that lie behind: the DMA engine, both PIO blocks and the peripherals. The project's own.
+-- Core 0 goes on alone beside lanes that lie behind: core 1, the DMA engine, both PIO blocks and the peripherals. The project's own.
 use Rattle.std.specs.Prelude.{◌≡◌, ℕ, zero, suc, ◌+◌, ◌<◌, ◌≤◌, ◌&&◌, not, Bool, true, false, if◌then◌else◌, [], ◌∷◌, None}
 use Rattle.lane_look.specs.declared.lane.Want.{Want}
 use Rattle.lane_look.specs.declared.lane.Want.TheVariants as want
 use Rattle.lane_look.specs.declared.lane.Turn.{Turn}
 use Rattle.lane_look.specs.declared.lane.Turn.TheVariants as turn
+use Rattle.m0_core.specs.State.{State as Core}
 use Rattle.m0_core.specs.declared.doing.Doing.{Doing}
 use Rattle.m0_core.specs.Cycle as core
 use Rattle.sio_block.specs.Launcher.{offers_of}
@@ -26,11 +27,11 @@ use Rattle.rp_machine.specs.Quiet.{IsQuiet as RunsQuietly}
 use Rattle.rp_machine.specs.Answers.{lines_of, pacing_of, outs_of}
 use Rattle.rp_machine.specs.Registers.{Part, part_of}
 use Rattle.rp_machine.specs.Registers.Part.{Outer}
-use Rattle.rp_machine.specs.Alone.{Blocks, AreBlocksQuiet, blocks_after, with_blocks, granted_alone, with_grant, with_store}
+use Rattle.rp_machine.specs.Alone.{Blocks, AreBlocksQuiet, blocks_after, with_blocks, IsCore1Quiet, core1_after, granted_alone, with_grant, with_store}
 
--- a state with these blocks and peripherals
-abbrev pub with_beside : Blocks → OuterState → State → State
-with_beside p o s = record (with_blocks p s) { outer = o }
+-- a state with these blocks, this core 1 and these peripherals
+abbrev pub with_beside : Blocks → Core → OuterState → State → State
+with_beside p c o s = record (with_blocks p s) { core1 = c; outer = o }
 
 -- a word that the peripherals have
 abbrev pub is_theirs : Part → ℕ → Bool
@@ -69,7 +70,7 @@ inward_deed granted _ = deed.Nothing
 abbrev pub core0_stepped : Doing → Turn → State → State
 core0_stepped b told s = record s { core0 = core.next s.core0 b (told ∷ turn.Nothing ∷ []) }
 
--- the state after a cycle in which core 0 has begun this and wants that, but for the blocks and the peripherals, which stay
+-- the state after a cycle in which core 0 has begun this and wants that, but for the other lanes, which stay
 unfoldable pub inward_next : Doing → Want → State → State
 inward_next b x s =
     record (ended (with_store (inward_deed (granted_alone x s) x)
@@ -79,27 +80,30 @@ inward_next b x s =
 unfoldable pub inward_wantless : Doing → State → State
 inward_wantless b s = record (ended (core0_stepped b turn.Nothing s)) { cycle = s.cycle + 1 }
 
--- these blocks and peripherals answer core 0 as those of a state do, and the peripherals keep the same of SIO
-pub record TellsSame (p : Blocks) (o : OuterState) (s : State) : Type 0 where
-  pub lines : lines_of 0 (with_beside p o s) ≡ lines_of 0 s
-  pub pacing : pacing_of (with_beside p o s) ≡ pacing_of s
+-- core 0 is answered beside these blocks, this core 1 and these peripherals as in a state
+pub record TellsSame (p : Blocks) (c : Core) (o : OuterState) (s : State) : Type 0 where
+  pub lines : lines_of 0 (with_beside p c o s) ≡ lines_of 0 s
+  pub pacing : pacing_of (with_beside p c o s) ≡ pacing_of s
   pub inputs : outer_inputs o ≡ outer_inputs s.outer
-  pub outs : (block : ℕ) → outs_of block (with_beside p o s) ≡ outs_of block s
-  pub sio : o.sio ≡ pins_of s.sio
+  pub outs : (block : ℕ) → outs_of block (with_beside p c o s) ≡ outs_of block s
 
--- core 1 sleeps, and its launcher has no word for it
-pub record GoesAlone (s : State) : Type 0 where
-  pub asleep : s.core1.asleep ≡ true
+-- this core 1 and these peripherals keep of SIO what it has, and its launcher has no word
+pub record AgreeWithSio (c : Core) (o : OuterState) (s : State) : Type 0 where
   pub offers : offers_of s.sio ≡ false
+  pub told : c.offer ≡ offers_of s.sio
+  pub pins : o.sio ≡ pins_of s.sio
+
+abbrev pub GoesAlone : State → Type 0
+GoesAlone s = AgreeWithSio s.core1 s.outer s
 
 abbrev pub inward_cycle : State → State
 inward_cycle s = inward_next (begun s).core0 (core0_want s) s
 
--- beside blocks p, which come to q, and peripherals that answer core 0 as those do with which it goes on alone, such a
--- cycle has no stop, and its state is what each leaves by itself
-pub record GoesOn (w : Setting) (p q : Blocks) (o : OuterState) (s : State) : Type 0 where
-  pub cause : cause_in w (begun (with_beside p o s)) (wanted (begun (with_beside p o s))) (with_beside p o s) ≡ None
-  pub state : next w (with_beside p o s) ≡ with_beside q (outer.next w o (begun (with_beside p o s)).outer) (inward_cycle s)
+-- beside blocks p, which come to q, core 1, which comes from c to d, and peripherals that answer core 0 as those do with which it goes on
+-- alone, such a cycle has no stop, and its state is what each leaves by itself
+pub record GoesOn (w : Setting) (p q : Blocks) (c d : Core) (o : OuterState) (s : State) : Type 0 where
+  pub cause : cause_in w (begun (with_beside p c o s)) (wanted (begun (with_beside p c o s))) (with_beside p c o s) ≡ None
+  pub state : next w (with_beside p c o s) ≡ with_beside q d (outer.next w o (begun (with_beside p c o s)).outer) (inward_cycle s)
 
 -- so many such cycles
 unfoldable pub inward_after : ℕ → State → State
@@ -110,9 +114,9 @@ inward_after (suc n) s = inward_cycle (inward_after n s)
 abbrev pub StaysInward : State → ℕ → Type 0
 StaysInward s n = (k : ℕ) → k < n → goes_inward (inward_after k s) ≡ true
 
--- the state after so many cycles, in which the blocks and the peripherals are quiet
+-- the state after so many cycles, in which the other lanes are quiet
 abbrev pub onward_after : Setting → State → ℕ → State
-onward_after w s n = with_beside (blocks_after n s) (outer_after w (begun s).outer n s.outer) (inward_after n s)
+onward_after w s n = with_beside (blocks_after n s) (core1_after s.cycle n s) (outer_after w (begun s).outer n s.outer) (inward_after n s)
 
 -- then it is the state of the run
 pub record GoesOnward (w : Setting) (s : State) (n : ℕ) : Type 0 where
@@ -121,5 +125,5 @@ pub record GoesOnward (w : Setting) (s : State) (n : ℕ) : Type 0 where
 
 abbrev pub Core0GoesOnAlone : Type 0
 Core0GoesOnAlone =
-    (w : Setting) (s : State) (n : ℕ) → GoesAlone s → s.outer.sio ≡ pins_of s.sio → AreBlocksQuiet s n → IsQuiet w (begun s).outer s.outer n
+    (w : Setting) (s : State) (n : ℕ) → GoesAlone s → AreBlocksQuiet s n → IsCore1Quiet s n → IsQuiet w (begun s).outer s.outer n
     → StaysInward s n → s.cycle + n ≤ w.limit → GoesOnward w s n

@@ -1,4 +1,4 @@
-//! A machine in which core 0 alone is at work: the blocks beside it are quiet; and what core 0 and the peripherals begin.
+//! A machine in which core 0 alone is at work: core 1 and the blocks beside it are quiet; and what core 0 and the peripherals begin.
 
 use crate::begun::{begin_core, begin_dma, begin_lane};
 use crate::machine::Machine;
@@ -8,12 +8,13 @@ use m0_core::Doing;
 use outer_lane::{SeenOutputs, World};
 
 impl Machine {
-    ghost use Rattle.std.specs.Prelude.{◌≡◌, false, Decides};
+    ghost use Rattle.std.specs.Prelude.{◌≡◌, ◌+◌, ◌^◌, ◌<◌, false, Decides};
     ghost use Rattle.rp_machine.specs.Answers.{lines_of};
     ghost use Rattle.rp_machine.specs.Cycle.{begun};
     ghost use Rattle.dma_engine.specs.Quiet.{GivesNone};
     ghost use Rattle.pio_block.specs.Quiet.{IsQuiet};
-    ghost use Rattle.rp_machine.specs.Alone.{AreBlocksQuiet, blocks_after, with_blocks};
+    ghost use Rattle.m0_core.specs.Quiet.{IsQuiet as IsCoreQuiet};
+    ghost use Rattle.rp_machine.specs.Alone.{AreBlocksQuiet, blocks_after, with_blocks, IsCore1Quiet, core1_after};
     ghost use Rattle.bus_fabric.specs.State.{has_hold};
     ghost use Rattle.lane_look.specs.declared.lane.Want.TheVariants.{Nothing};
     ghost use Rattle.m0_core.specs.Cycle.{want_of};
@@ -30,6 +31,31 @@ impl Machine {
         let mut begun = BegunTransfer::nothing();
         begin_dma(self, &mut begun);
         pio.min(self.dma.block.quiet(&begun))
+    }
+
+    /// For so many cycles from now on core 1 is quiet, as long as its interrupt lines stay: `u64::MAX` where it is asleep. Any smaller
+    /// number is right too.
+    pub fn quiet_core1(&self) -> u64
+        ensures { IsCore1Quiet self.now result }
+    {
+        if self.core1.is_asleep() {
+            return u64::MAX;
+        }
+        let lines = self.lines(1);
+        self.core1.quiet(lines, self.at)
+    }
+
+    /// So many cycles of core 1 at once from a first one on, in which it is quiet.
+    pub fn pass_core1(&mut self, first: u64, n: u64)
+        requires number { first + n < 2 ^ 64 }
+        requires quiet { IsCoreQuiet (lines_of 1 self.old) self.old.core1 first n }
+        ensures { self.new ≡ record self.old { core1 = core1_after first n self.old } }
+    {
+        if self.core1.is_asleep() {
+            return;
+        }
+        let lines = self.lines(1);
+        self.core1.pass(lines, first, n);
     }
 
     /// So many cycles of the DMA engine and both PIO blocks at once, in which they are quiet.

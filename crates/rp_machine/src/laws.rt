@@ -34,8 +34,8 @@ pub fn cycles_without_wants_change_the_lanes_alone()
     ensures { CyclesWithoutWantsChangeTheLanesAlone }
 {}
 
-/// Where core 0 alone is at work a cycle is its own and the peripherals': core 1 stays as it is, and the DMA engine and PIO come to what
-/// they come to by themselves.
+/// Where core 0 alone is at work a cycle is its own and the peripherals': core 1, the DMA engine and PIO come to what they come to by
+/// themselves.
 #[tactic(auto, using(crate::proofs::OneCore::next_alone))]
 pub fn one_core_goes_alone()
     ensures { OneCoreGoesAlone }
@@ -59,8 +59,8 @@ pub fn one_core_gets_a_lock()
     ensures { OneCoreGetsALock }
 {}
 
-/// Beside a DMA engine, PIO blocks and peripherals that are quiet, a core 0 that goes on alone and reaches for nothing but SRAM, or waits for
-/// the peripherals, does what it does where they lie behind, and they come to what they are so many cycles on.
+/// Beside a core 1, a DMA engine, PIO blocks and peripherals that are quiet, a core 0 that goes on alone and reaches for nothing but SRAM, or
+/// waits for the peripherals, does what it does where they lie behind, and they come to what they are so many cycles on.
 pub fn core0_goes_on_alone()
     ensures { Core0GoesOnAlone }
 {}
