@@ -27,7 +27,7 @@ use Rattle.quiet_run.specs.Parts.{ArePartsQuiet, IsIdle, passed}
 use Rattle.quiet_run.proofs.Passing.{states_passed}
 
 -- every halfword is BKPT
-abbrev breaks : ℕ → Ask → ℕ
+abbrev pub breaks : ℕ → Ask → ℕ
 breaks lines Lines = lines
 breaks lines _ = 48640
 
@@ -35,7 +35,7 @@ decoded : is_breakpoint (operation_of 48640 0) ≡ true
 unfolding operation_of rows
 decoded = refl
 
-stops_second : (s : Core) → asks_second 48640 s ≡ stopped (why.Bkpt s.number)
+pub stops_second : (s : Core) → asks_second 48640 s ≡ stopped (why.Bkpt s.number)
 unfolding asks_second asks_decoded
 stops_second s = rw decoded refl
 
@@ -72,7 +72,7 @@ begins_by false None None false s a b c d never =
     begins_between_is s a b ∙ ap (λ t. begins_untaken t s) c ∙ ap (λ r. if r then Some s.regs.pc else None) d
 begins_by false None None true s a b c d never = absurd (never a b c d)
 
-begins_none : (lines first n k : ℕ) (s : Core) → IsQuiet lines s first n → k < n → begins (times (rested lines) first k s) ≡ None
+pub begins_none : (lines first n k : ℕ) (s : Core) → IsQuiet lines s first n → k < n → begins (times (rested lines) first k s) ≡ None
 begins_none lines first n k s q lt =
     let u = times (rested lines) first k s in
     begins_by _ _ _ _ u refl refl refl refl (λ awake none untaken ram.

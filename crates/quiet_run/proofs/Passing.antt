@@ -4,11 +4,9 @@ use Rattle.std.specs.Prelude.{if◌then◌else◌, slice_index}
 use Rattle.std.proofs.lemmas.Bool.Decides.{nat_tests}
 use Rattle.lane_look.specs.declared.lane.Want.TheVariants as want
 use Rattle.lane_look.specs.declared.lane.Turn.{Turn}
-use Rattle.lane_look.specs.declared.lane.Turn.TheVariants as turn
 use Rattle.lane_look.specs.Asking.{answered}
 use Rattle.lane_look.specs.Times.{times}
 use Rattle.m0_core.specs.State.{State as Core}
-use Rattle.m0_core.specs.declared.doing.Doing.{Doing}
 use Rattle.m0_core.specs.Fetch as core_asks
 use Rattle.m0_core.specs.Cycle as core
 use Rattle.m0_core.specs.Quiet as core_quiet
@@ -39,8 +37,8 @@ use Rattle.rp_machine.specs.Run.{states}
 use Rattle.rp_machine.specs.Quiet.{IsQuiet}
 use Rattle.quiet_run.specs.Parts.{AreOthersQuiet, ArePartsQuiet, passed, QuietPartsGoTheirOwnWay}
 use Rattle.rp_machine.proofs.Wantless.{wantless_four}
-use Rattle.rp_machine.proofs.Going.{none_after, fewer_cycles}
-use Rattle.rp_machine.proofs.Inward.{TellOn, tell_on, lines_on, pacing_on, outs_on}
+use Rattle.rp_machine.proofs.Going.{none_after, fewer_cycles, core_fewer}
+use Rattle.rp_machine.proofs.Inward.{TellOn, tell_on, lines_on, pacing_on, outs_on, core_more}
 use Rattle.rp_machine.proofs.OneCore.{first_want, second_want}
 use Rattle.rp_machine.proofs.Quietly.{states_through, no_events, seen_later, seen_number}
 
@@ -118,10 +116,6 @@ rests w s n k q lt =
     wantless_four w (begun (passed w s k)) _ _ _ _ (passed w s k) (wants_core0 w s n k q lt) (wants_core1 w s n k q lt) (wants_read w s n k q lt) (wants_write w s n k q lt) q.fabric
 
 -- ---- the steps
-
-core_more : (lines : ℕ) (c : Core) (cycle k : ℕ) (b : Doing) → b ≡ answered (λ ask. lines) (core_asks.asks (times (core_quiet.rested lines) cycle k c) (cycle + k)) → core.next (times (core_quiet.rested lines) cycle k c) b (turn.Nothing ∷ turn.Nothing ∷ []) ≡ times (core_quiet.rested lines) cycle (suc k) c
-unfolding times
-core_more lines c cycle k b e = rw e refl
 
 after_more : (w : Setting) (seen : SeenOutputs) (o : OuterState) (k : ℕ) → outer_after w seen (suc k) o ≡ outer.next w (outer_after w seen k o) (seen_in seen (seen.cycle + k))
 unfolding times
@@ -280,13 +274,6 @@ fewer w seen o n m q le = record {
   sio = λ k lt. q.sio k (omega arith);
   held = λ k lt. q.held k (omega arith);
   words = λ k lt. q.words k (omega arith);
-}
-
-core_fewer : (lines : ℕ) (c : Core) (cycle n m : ℕ) → core_quiet.IsQuiet lines c cycle n → m ≤ n → core_quiet.IsQuiet lines c cycle m
-core_fewer lines c cycle n m q le = record {
-  begins = λ k lt. q.begins k (omega arith);
-  wants = λ k lt. q.wants k (omega arith);
-  offer = λ k lt. q.offer k (omega arith);
 }
 
 pub fewer_parts : (w : Setting) (s : State) (n m : ℕ) → ArePartsQuiet w s n → m ≤ n → ArePartsQuiet w s m

@@ -13,10 +13,10 @@ use Rattle.outer_lane.specs.Quiet as outer
 use Rattle.outer_lane.specs.declared.world.SeenOutputs.{SeenOutputs}
 use Rattle.outer_lane.specs.Setting.{Setting}
 use Rattle.rp_machine.specs.State.{State}
-use Rattle.rp_machine.specs.Alone.{AreBlocksQuiet, blocks_after}
+use Rattle.rp_machine.specs.Alone.{AreBlocksQuiet, blocks_after, IsCore1Quiet, core1_after}
 use Rattle.rp_machine.specs.Answers.{lines_of}
 use Rattle.rp_machine.specs.Copies.{CopiesAgree}
-use Rattle.rp_machine.specs.Cycle.{begun, pins_of}
+use Rattle.rp_machine.specs.Cycle.{begun}
 use Rattle.rp_machine.specs.Inward.{GoesAlone}
 use Rattle.rp_machine.specs.Run.{states}
 use Rattle.rp_machine.specs.Quiet.{IsQuiet}
@@ -24,7 +24,7 @@ use Rattle.rp_machine.specs.Quiet.{IsQuiet}
 -- each core waits, and the DMA engine, PIO and the peripherals are quiet for so many cycles, SIO is quiet, and no access lasts
 pub record ArePartsQuiet (w : Setting) (s : State) (n : ℕ) : Type 0 where
   pub core0 : core.IsQuiet (lines_of 0 s) s.core0 s.cycle n
-  pub core1 : core.IsQuiet (lines_of 1 s) s.core1 s.cycle n
+  pub core1 : IsCore1Quiet s n
   pub peripherals : outer.IsQuiet w (begun s).outer s.outer n
   pub blocks : AreBlocksQuiet s n
   pub sio : after_cycle s.sio ≡ s.sio
@@ -32,11 +32,11 @@ pub record ArePartsQuiet (w : Setting) (s : State) (n : ℕ) : Type 0 where
   pub fabric : has_hold s.fabric ≡ false
   pub limit : s.cycle + n ≤ w.limit
 
--- core 0 may go on alone for so many cycles, from the one on in which the peripherals see this: core 1 sleeps, and the other lanes are quiet
+-- core 0 may go on alone for so many cycles, from the one on in which the peripherals see this: the other lanes are quiet
 pub record MayGoAlone (w : Setting) (seen : SeenOutputs) (s : State) (n : ℕ) : Type 0 where
   pub goes : GoesAlone s
-  pub known : s.outer.sio ≡ pins_of s.sio
   pub blocks : AreBlocksQuiet s n
+  pub core1 : IsCore1Quiet s n
   pub same : seen ≡ (begun s).outer
   pub quiet : outer.IsQuiet w seen s.outer n
   pub limit : s.cycle + n ≤ w.limit
@@ -46,6 +46,7 @@ pub record MayBringUp (w : Setting) (seen : SeenOutputs) (s : State) (n : ℕ) :
   pub dma : GivesNone s.dma.block n
   pub pio0 : pio.IsQuiet s.pio0.block n
   pub pio1 : pio.IsQuiet s.pio1.block n
+  pub core1 : core.IsQuiet (lines_of 1 s) s.core1 seen.cycle n
   pub peripherals : outer.IsQuiet w seen s.outer n
 
 -- of these, what is not counted in cycles
@@ -59,7 +60,7 @@ abbrev pub passed : Setting → State → ℕ → State
 passed w s n = record s {
   cycle = s.cycle + n;
   core0 = times (core.rested (lines_of 0 s)) s.cycle n s.core0;
-  core1 = times (core.rested (lines_of 1 s)) s.cycle n s.core1;
+  core1 = core1_after s.cycle n s;
   dma = with_block s.dma (blocks_after n s).dma;
   pio0 = with_block s.pio0 (blocks_after n s).pio0;
   pio1 = with_block s.pio1 (blocks_after n s).pio1;

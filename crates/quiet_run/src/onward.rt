@@ -1,9 +1,9 @@
-//! Core 0 at work by itself, beside a DMA engine, PIO and peripherals that are quiet.
+//! Core 0 at work by itself, beside a core 1, a DMA engine, PIO and peripherals that are quiet.
 
 ghost use Rattle.std.specs.Prelude.{◌≡◌, ℕ, ◌+◌, ◌^◌, ◌<◌, ◌≤◌, false, IfSome};
 ghost use Rattle.outer_lane.specs.Setting.{setting};
 ghost use Rattle.outer_lane.specs.Quiet.{outer_after};
-ghost use Rattle.rp_machine.specs.Alone.{blocks_after};
+ghost use Rattle.rp_machine.specs.Alone.{blocks_after, core1_after};
 ghost use Rattle.rp_machine.specs.Inward.{with_beside};
 ghost use Rattle.rp_machine.specs.Quiet.{IsQuiet};
 ghost use Rattle.quiet_run.specs.Parts.{MayBringUp, MayGoAlone};
@@ -14,9 +14,11 @@ use outer_lane::SeenOutputs;
 use rp_machine::{Machine, Steps, World};
 use std::sync::ledger::Ledger;
 
-/// What may stop core 0 at work, by the state behind a cycle; the DMA engine, PIO and the peripherals are not looked at.
+/// What may stop core 0 at work, by the state behind a cycle; of the other lanes only what core 1 begins is looked at.
 pub trait Watch {
     ghost use Rattle.std.specs.Prelude.{◌≡◌, ℕ, ◌+◌, ◌^◌, ◌<◌, ◌≤◌, Bool, false};
+    ghost use Rattle.m0_core.specs.State.{State as Core};
+    ghost use Rattle.m0_core.specs.Begins.{begins};
     ghost use Rattle.outer_lane.specs.State.{State as OuterState};
     ghost use Rattle.rp_machine.specs.State.{State};
     ghost use Rattle.rp_machine.specs.Alone.{Blocks};
@@ -42,9 +44,9 @@ pub trait Watch {
         ensures marks { marks.new ≡ marks.old }
         ensures steps { steps.new ≡ steps.old + result };
 
-    /// It is the same beside others.
-    ghost looks_inward: { (watch : Self) (p : Blocks) (o : OuterState) (s : State) → stops watch
-        (with_beside p o s) ≡ stops watch s };
+    /// It is the same beside others, where core 1 begins the same.
+    ghost looks_inward: { (watch : Self) (p : Blocks) (c : Core) (o : OuterState) (s : State)
+        → begins c ≡ begins s.core1 → stops watch (with_beside p c o s) ≡ stops watch s };
 }
 
 /// Nothing stops core 0.
@@ -68,11 +70,11 @@ impl Watch for Unwatched {
         machine.go_onward(most, marks, steps)
     }
 
-    ghost looks_inward = { λ watch p o s. refl };
+    ghost looks_inward = { λ watch p c o s same. refl };
 }
 
-/// For how many cycles, at most so many, core 0 may go on alone, and what the peripherals see meanwhile, where core 1 sleeps and the other lanes
-/// are quiet.
+/// For how many cycles, at most so many, core 0 may go on alone, and what the peripherals see meanwhile, where core 1 sleeps or waits and the
+/// other lanes are quiet.
 #[inline(always)]
 pub fn room_alone<X: Device>(
     machine: &Machine,
@@ -82,7 +84,7 @@ pub fn room_alone<X: Device>(
     requires { machine.now.cycle + most ≤ world.now.limit }
     ensures { IfSome result (λ r. MayGoAlone (setting X.meaning world.now) r.0 machine.now r.1 × (r.1 ≤ most)) }
 {
-    if !machine.core1.is_asleep() || machine.sio.offers() {
+    if !machine.core1.is_waiting() || machine.sio.offers() {
         return None;
     }
     let blocks = machine.quiet_blocks();
@@ -92,15 +94,18 @@ pub fn room_alone<X: Device>(
     let seen = machine.begin_outer(world);
     let outer = machine.outer.quiet(world, &seen);
     let lanes = outer.min(blocks);
-    Some((seen, lanes.min(most)))
+    let others = lanes.min(machine.quiet_core1());
+    Some((seen, others.min(most)))
 }
 
 /// Brings the lanes beside core 0 up by so many cycles, in which they are quiet.
 pub fn bring_up<X: Device>(machine: &mut Machine, world: &World<'_, X>, seen: &SeenOutputs, n: u64)
     requires number { seen.now.cycle + n < 2 ^ 64 }
     requires quiet { MayBringUp (setting X.meaning world.now) seen.now machine.old n }
-    ensures { machine.new ≡ with_beside (blocks_after n machine.old) (outer_after (setting X.meaning world.now) seen.now n machine.old.outer) machine.old }
+    ensures { machine.new ≡ with_beside (blocks_after n machine.old) (core1_after seen.now.cycle n machine.old)
+        (outer_after (setting X.meaning world.now) seen.now n machine.old.outer) machine.old }
 {
+    machine.pass_core1(seen.cycle, n);
     machine.pass_blocks(n);
     machine.outer.pass(world, seen, n);
 }

@@ -49,7 +49,7 @@ impl Pace {
 }
 
 /// Goes over cycles in which core 0 alone is at work in SRAM, or waits for the peripherals, beside lanes that are quiet, and nothing stops it,
-/// at most up to a cycle, and counts them. Gives how many there are, 0 also where an access lasts at the start or core 1 is awake. Each of
+/// at most up to a cycle, and counts them. Gives how many there are, 0 also where an access lasts at the start or core 1 is at work. Each of
 /// them happens, has no events, and leaves the pads as they are.
 #[inline(always)]
 pub fn pass_watched<X: Device, W: Watch, L: Ledger>(
@@ -68,7 +68,7 @@ pub fn pass_watched<X: Device, W: Watch, L: Ledger>(
     ensures marks { marks.new ≡ marks.old }
     ensures steps { steps.new ≡ steps.old + result }
 {
-    if machine.fabric.holds() || !machine.core1.is_asleep() {
+    if machine.fabric.holds() || !machine.core1.is_waiting() {
         return 0;
     }
     pass_onward(machine, world, to, watch, marks, steps)

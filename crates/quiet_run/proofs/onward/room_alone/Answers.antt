@@ -8,9 +8,10 @@ pub returns : goal.returns
 returns g c =
     let min = c.min.ensures in
     let lanes = c.min-lanes.ensures in
+    let others = c.min-others.ensures in
     let room = c.requires in (
-      may_go (setting g.X.Device.meaning c.args.world.now) (the_view c.machine.inside) c.args.machine.now c.begin_outer-seen.result c.is_asleep.result c.offers.result c.quiet_blocks-blocks.result c.quiet-outer.result c.min.result
-          c.machine.view_is c.machine.invariant c.is_asleep.ensures c.if-not-is_asleep.false c.offers.ensures c.if-offers.false c.quiet_blocks-blocks.ensures c.begin_outer-seen.ensures c.quiet-outer.ensures
-          (omega arith) (omega arith) (omega arith),
+      may_go (setting g.X.Device.meaning c.args.world.now) (the_view c.machine.inside) c.args.machine.now c.begin_outer-seen.result c.offers.result c.quiet_blocks-blocks.result c.quiet_core1.result c.quiet-outer.result c.min.result
+          c.machine.view_is c.machine.invariant c.offers.ensures c.if-offers.false c.quiet_blocks-blocks.ensures c.quiet_core1.ensures c.begin_outer-seen.ensures c.quiet-outer.ensures
+          (omega arith) (omega arith) (omega arith) (omega arith),
       omega arith,
     )
