@@ -6,8 +6,6 @@ use Rattle.m0_core.specs.State.{State as Core}
 use Rattle.m0_core.specs.Begins.{begins}
 use Rattle.dma_engine.specs.State.{State as Engine}
 use Rattle.dma_engine.specs.Quiet.{GivesNone}
-use Rattle.pio_block.specs.State.{State as Pio}
-use Rattle.pio_block.specs.Quiet as pio
 use Rattle.sio_block.specs.Launcher.{offers_of}
 use Rattle.outer_lane.specs.Setting.{Setting}
 use Rattle.outer_lane.specs.State.{State as OuterState}
@@ -82,8 +80,6 @@ may_bring_up w s t seen most done h le went =
     let blocks = fewer_cycles s most done h.blocks le in
     rw went record {
       dma = subst (λ (d : Resettable Engine). GivesNone d.block done) (sym stays.dma) blocks.dma.credits;
-      pio0 = subst (λ (p : Resettable Pio). pio.IsQuiet p.block done) (sym stays.pio0) blocks.pio0;
-      pio1 = subst (λ (p : Resettable Pio). pio.IsQuiet p.block done) (sym stays.pio1) blocks.pio1;
       core1 = rw (stays.lines1, stays.core1, seen_at w s seen most h) (core_fewer (lines_of 1 s) s.core1 s.cycle most done h.core1 le);
       peripherals = subst (λ (o : OuterState). outer.IsQuiet w seen o done) (sym stays.outer) (fewer w seen s.outer most done h.quiet le);
     }

@@ -14,6 +14,7 @@ use Rattle.dma_engine.specs.State.{State as Engine}
 use Rattle.dma_engine.specs.Cycle as dma
 use Rattle.pio_block.specs.State.{State as Pio}
 use Rattle.pio_block.specs.Cycle as pio
+use Rattle.pio_block.specs.Cycle.{inputs_of as pins_in}
 use Rattle.pio_block.proofs.Between.{a_quiet_block_shows_the_same}
 use Rattle.sio_block.specs.State.{State as SioState}
 use Rattle.sio_block.specs.Launcher.{offers_of}
@@ -27,7 +28,7 @@ use Rattle.outer_lane.specs.Quiet as outer_quiet
 use Rattle.outer_lane.specs.Quiet.{seen_in, outer_after, held_blocks}
 use Rattle.rp_machine.specs.State.{State}
 use Rattle.rp_machine.specs.Alone.{Blocks, AreBlocksQuiet, blocks_after, with_blocks}
-use Rattle.rp_machine.specs.Answers.{answer_of, lines_of, pacing_of}
+use Rattle.rp_machine.specs.Answers.{answer_of, lines_of, pacing_of, inputs_of}
 use Rattle.rp_machine.specs.Copies.{Agree, CopiesAgree}
 use Rattle.rp_machine.specs.Cycle.{begun, wanted, cause_in, stop, with_turns, with_sio, with_offer, with_pins, pins_of, launched_where, ended, next, mark}
 use Rattle.rp_machine.specs.Deeds.{cause_of}
@@ -72,11 +73,11 @@ dma_more w s n k turns q lt = q.blocks.dma.steps k lt (answer_of 2 (passed w s k
 
 pio0_more : (w : Setting) (s : State) (n k : ℕ) → ArePartsQuiet w s n → k < n → pio.next (begun (passed w s k)).pio0 (passed w s k).pio0.block ≡ (passed w s (suc k)).pio0.block
 unfolding begun
-pio0_more w s n k q lt = (a_quiet_block_shows_the_same s.pio0.block n q.blocks.pio0).steps k lt (answer_of 3 (passed w s k))
+pio0_more w s n k q lt = (a_quiet_block_shows_the_same (pins_in (inputs_of s)) s.pio0.block n q.blocks.pio0).steps k lt (answer_of 3 (passed w s k)) (ap pins_in (told w s n k q (omega arith)).inputs)
 
 pio1_more : (w : Setting) (s : State) (n k : ℕ) → ArePartsQuiet w s n → k < n → pio.next (begun (passed w s k)).pio1 (passed w s k).pio1.block ≡ (passed w s (suc k)).pio1.block
 unfolding begun
-pio1_more w s n k q lt = (a_quiet_block_shows_the_same s.pio1.block n q.blocks.pio1).steps k lt (answer_of 4 (passed w s k))
+pio1_more w s n k q lt = (a_quiet_block_shows_the_same (pins_in (inputs_of s)) s.pio1.block n q.blocks.pio1).steps k lt (answer_of 4 (passed w s k)) (ap pins_in (told w s n k q (omega arith)).inputs)
 
 pub begun_outer : (w : Setting) (s : State) (n k : ℕ) → ArePartsQuiet w s n → k ≤ n → (begun (passed w s k)).outer ≡ seen_in (begun s).outer (s.cycle + k)
 begun_outer w s n k q le = seen_later s (passed w s k) (q.peripherals.pads k le) (λ block. outs_on s (passed w s k) block (told w s n k q le))

@@ -6,7 +6,6 @@ use Rattle.m0_core.specs.Begins.{begins}
 use Rattle.m0_core.specs.Quiet as core
 use Rattle.bus_fabric.specs.State.{has_hold}
 use Rattle.dma_engine.specs.Quiet.{GivesNone}
-use Rattle.pio_block.specs.Quiet as pio
 use Rattle.sio_block.specs.Cycle.{after_cycle}
 use Rattle.sio_block.specs.Launcher.{offers_of}
 use Rattle.outer_lane.specs.Quiet as outer
@@ -44,8 +43,6 @@ pub record MayGoAlone (w : Setting) (seen : SeenOutputs) (s : State) (n : ℕ) :
 -- the lanes beside core 0 may be brought up by so many cycles, from the one on in which this is seen
 pub record MayBringUp (w : Setting) (seen : SeenOutputs) (s : State) (n : ℕ) : Type 0 where
   pub dma : GivesNone s.dma.block n
-  pub pio0 : pio.IsQuiet s.pio0.block n
-  pub pio1 : pio.IsQuiet s.pio1.block n
   pub core1 : core.IsQuiet (lines_of 1 s) s.core1 seen.cycle n
   pub peripherals : outer.IsQuiet w seen s.outer n
 

@@ -6,6 +6,8 @@ use Rattle.dma_engine.specs.Quiet as dma
 use Rattle.dma_engine.proofs.Lasting.{engine_none, none_quiet}
 use Rattle.dma_engine.proofs.Lasting as dma_proofs
 use Rattle.pio_block.specs.State.{State as Pio}
+use Rattle.pio_block.specs.declared.inputs.Inputs.{Inputs}
+use Rattle.pio_block.specs.Cycle.{inputs_of as pins_of}
 use Rattle.pio_block.specs.Quiet as pio
 use Rattle.pio_block.proofs.Between.{block_none}
 use Rattle.pio_block.proofs.Between as pio_proofs
@@ -13,7 +15,7 @@ use Rattle.rp_machine.specs.State.{State}
 use Rattle.m0_core.specs.State.{State as Core}
 use Rattle.m0_core.specs.Quiet as core
 use Rattle.m0_core.proofs.Lasting.{quiet_asleep, stays_asleep}
-use Rattle.rp_machine.specs.Answers.{lines_of, pacing_of}
+use Rattle.rp_machine.specs.Answers.{lines_of, pacing_of, inputs_of}
 use Rattle.rp_machine.specs.Alone.{AreBlocksQuiet, blocks_after, with_blocks, IsCore1Quiet, core1_after}
 
 pub none_after : (s : State) → blocks_after 0 s ≡ record { dma = s.dma.block; pio0 = s.pio0.block; pio1 = s.pio1.block }
@@ -22,17 +24,20 @@ none_after s = rw (engine_none s.dma.block, block_none s.pio0.block, block_none 
 pub fewer_cycles : (s : State) (n k : ℕ) → AreBlocksQuiet s n → k ≤ n → AreBlocksQuiet s k
 fewer_cycles s n k h le = record {
   dma = dma_proofs.fewer (pacing_of s) s.dma.block n k h.dma le;
-  pio0 = pio_proofs.fewer s.pio0.block n k h.pio0 le;
-  pio1 = pio_proofs.fewer s.pio1.block n k h.pio1 le;
+  pio0 = pio_proofs.fewer (pins_of (inputs_of s)) s.pio0.block n k h.pio0 le;
+  pio1 = pio_proofs.fewer (pins_of (inputs_of s)) s.pio1.block n k h.pio1 le;
 }
 
 -- by what the calls of each say
-pub quiet_by : (i s : State) (a b c n : ℕ) → i ≡ s → dma.IsQuiet (pacing_of s) i.dma.block a → pio.IsQuiet i.pio0.block b → pio.IsQuiet i.pio1.block c → n ≤ a → n ≤ b → n ≤ c → AreBlocksQuiet s n
-quiet_by i s a b c n e d p q la lb lc = record {
-  dma = dma_proofs.fewer (pacing_of s) s.dma.block a n (subst (λ (x : State). dma.IsQuiet (pacing_of s) x.dma.block a) e d) la;
-  pio0 = pio_proofs.fewer s.pio0.block b n (subst (λ (x : State). pio.IsQuiet x.pio0.block b) e p) lb;
-  pio1 = pio_proofs.fewer s.pio1.block c n (subst (λ (x : State). pio.IsQuiet x.pio1.block c) e q) lc;
-}
+pub quiet_by : (i s : State) (x : Inputs) (a b c n : ℕ) → i ≡ s → x ≡ pins_of (inputs_of s) → dma.IsQuiet (pacing_of s) i.dma.block a → pio.IsQuiet x i.pio0.block b → pio.IsQuiet x i.pio1.block c
+    → n ≤ a → n ≤ b → n ≤ c → AreBlocksQuiet s n
+quiet_by i s x a b c n e told d p q la lb lc =
+    let pins = pins_of (inputs_of s) in
+    record {
+      dma = dma_proofs.fewer (pacing_of s) s.dma.block a n (subst (λ (t : State). dma.IsQuiet (pacing_of s) t.dma.block a) e d) la;
+      pio0 = pio_proofs.fewer pins s.pio0.block b n (subst (λ (t : State). pio.IsQuiet pins t.pio0.block b) e (subst (λ (y : Inputs). pio.IsQuiet y i.pio0.block b) told p)) lb;
+      pio1 = pio_proofs.fewer pins s.pio1.block c n (subst (λ (t : State). pio.IsQuiet pins t.pio1.block c) e (subst (λ (y : Inputs). pio.IsQuiet y i.pio1.block c) told q)) lc;
+    }
 
 -- by what they are after these
 pub passed_by : (i s : State) (n : ℕ) (d : Engine) (p q : Pio) → i ≡ s → d ≡ dma.engine_after n i.dma.block → p ≡ pio.block_after n i.pio0.block → q ≡ pio.block_after n i.pio1.block
@@ -40,8 +45,8 @@ pub passed_by : (i s : State) (n : ℕ) (d : Engine) (p q : Pio) → i ≡ s →
 passed_by i s n d p q same e f g = rw (e, f, g) (ap (λ (x : State). with_blocks (blocks_after n x) x) same)
 
 -- where one is quiet in none
-pub none_by : (i s : State) (b c : ℕ) → i ≡ s → pio.IsQuiet i.pio0.block b → pio.IsQuiet i.pio1.block c → AreBlocksQuiet s 0
-none_by i s b c e p q = quiet_by i s 0 b c 0 e (none_quiet (pacing_of s) i.dma.block) p q (omega arith) (omega arith) (omega arith)
+pub none_by : (i s : State) (x : Inputs) (b c : ℕ) → i ≡ s → x ≡ pins_of (inputs_of s) → pio.IsQuiet x i.pio0.block b → pio.IsQuiet x i.pio1.block c → AreBlocksQuiet s 0
+none_by i s x b c e told p q = quiet_by i s x 0 b c 0 e told (none_quiet (pacing_of s) i.dma.block) p q (omega arith) (omega arith) (omega arith)
 
 -- ---- core 1
 

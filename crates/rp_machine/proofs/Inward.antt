@@ -33,6 +33,7 @@ use Rattle.bus_fabric.specs.State.{has_hold}
 use Rattle.bus_fabric.proofs.Alone.{nobody-after}
 use Rattle.dma_engine.specs.Words as dma_words
 use Rattle.pio_block.specs.Words as pio_words
+use Rattle.pio_block.specs.Cycle.{inputs_of as pins_in}
 use Rattle.pio_block.proofs.Between.{a_quiet_block_shows_the_same}
 use Rattle.sio_block.specs.State.{State as SioState}
 use Rattle.sio_block.specs.Launcher.{offers_of}
@@ -290,6 +291,7 @@ stays_after s (suc n) h = stays_on _ _ s (inward_after n s) n (stays_after s n h
 pub record TellOn (s t : State) : Type 0 where
   pub lines : (core : ℕ) → outer_lines core t.outer ≡ outer_lines core s.outer
   pub uarts : outer_pacing t.outer ≡ outer_pacing s.outer
+  pub inputs : inputs_of t ≡ inputs_of s
   pub dma : dma_words.lines_of t.dma.block ≡ dma_words.lines_of s.dma.block
   pub lines0 : pio_words.lines_of t.pio0.block ≡ pio_words.lines_of s.pio0.block
   pub lines1 : pio_words.lines_of t.pio1.block ≡ pio_words.lines_of s.pio1.block
@@ -328,12 +330,15 @@ abbrev pub beside_after : Setting → State → ℕ → State → State
 beside_after w s k t = with_beside (blocks_after k s) (core1_after s.cycle k s) (outer_after w (begun s).outer k s.outer) t
 
 pub tell_on : (w : Setting) (s t : State) (n k : ℕ) → k ≤ n → AreBlocksQuiet s n → IsQuiet w (begun s).outer s.outer n → TellOn s (beside_after w s k t)
+unfolding inputs_of
 tell_on w s t n k le blocks quiet =
-    let on0 = a_quiet_block_shows_the_same s.pio0.block n blocks.pio0 in
-    let on1 = a_quiet_block_shows_the_same s.pio1.block n blocks.pio1 in
+    let pins = pins_in (inputs_of s) in
+    let on0 = a_quiet_block_shows_the_same pins s.pio0.block n blocks.pio0 in
+    let on1 = a_quiet_block_shows_the_same pins s.pio1.block n blocks.pio1 in
     record {
       lines = λ core. quiet.lines k le core;
       uarts = quiet.pacing k le;
+      inputs = ap (λ (b : Bank). packed_pair (inputs_of_pads b b.current ∷ inputs_of_pads b b.second ∷ [])) (quiet.pads k le);
       dma = refl;
       lines0 = on0.lines k;
       lines1 = on1.lines k;
@@ -345,9 +350,11 @@ tell_on w s t n k le blocks quiet =
 
 -- what stays beside core 0 tells the same too
 pub stayed : (s t : State) (n : ℕ) → Stays s t n → TellOn t s
+unfolding inputs_of
 stayed s t n h = rw (h.outer, h.dma, h.pio0, h.pio1) record {
   lines = λ core. refl;
   uarts = refl;
+  inputs = refl;
   dma = refl;
   lines0 = refl;
   lines1 = refl;
@@ -361,6 +368,7 @@ pub told_both : (s t u : State) → TellOn s t → TellOn u s → TellOn u t
 told_both s t u h i = record {
   lines = λ core. h.lines core ∙ i.lines core;
   uarts = h.uarts ∙ i.uarts;
+  inputs = h.inputs ∙ i.inputs;
   dma = h.dma ∙ i.dma;
   lines0 = h.lines0 ∙ i.lines0;
   lines1 = h.lines1 ∙ i.lines1;
@@ -391,8 +399,8 @@ alone_by w s t n k lt stays blocks quiet on here =
       core1 = core_more (lines_of 1 s) s.core1 s.cycle k (begun u).core1 begins;
       wants = blocks.dma.wants k lt (answer_of 2 u) pacing;
       dma = λ turns. blocks.dma.steps k lt (answer_of 2 u) pacing turns;
-      pio0 = (a_quiet_block_shows_the_same s.pio0.block n blocks.pio0).steps k lt (answer_of 3 u);
-      pio1 = (a_quiet_block_shows_the_same s.pio1.block n blocks.pio1).steps k lt (answer_of 4 u);
+      pio0 = (a_quiet_block_shows_the_same (pins_in (inputs_of s)) s.pio0.block n blocks.pio0).steps k lt (answer_of 3 u) (ap pins_in on.inputs);
+      pio1 = (a_quiet_block_shows_the_same (pins_in (inputs_of s)) s.pio1.block n blocks.pio1).steps k lt (answer_of 4 u) (ap pins_in on.inputs);
     }
 
 -- the cycle that comes next is one without a stop and without events

@@ -29,7 +29,7 @@ use Rattle.rp_machine.specs.declared.begun.Begun.{Begun}
 use Rattle.rp_machine.specs.declared.deed.Deed.{Deed}
 use Rattle.rp_machine.specs.declared.wanted.Wanted.{Wanted}
 use Rattle.rp_machine.specs.State.{State}
-use Rattle.rp_machine.specs.Answers.{lines_of, pacing_of}
+use Rattle.rp_machine.specs.Answers.{lines_of, pacing_of, inputs_of}
 use Rattle.rp_machine.specs.Deeds.{asked_of, turn_of, deed_of}
 use Rattle.rp_machine.specs.Cycle.{begun, next, wanted_by, with_turns, found_by, after_deed, stored, ended}
 use Rattle.rp_machine.specs.Wantless.{wants_nothing, core1_launched}
@@ -40,11 +40,11 @@ pub record Blocks : Type 0 where
   pub pio0 : Pio
   pub pio1 : Pio
 
--- they are quiet for so many cycles, as long as the counts of the UARTs stay
+-- they are quiet for so many cycles, as long as the counts of the UARTs and the levels of the pads stay
 pub record AreBlocksQuiet (s : State) (n : ℕ) : Type 0 where
   pub dma : dma_quiet.IsQuiet (pacing_of s) s.dma.block n
-  pub pio0 : pio_quiet.IsQuiet s.pio0.block n
-  pub pio1 : pio_quiet.IsQuiet s.pio1.block n
+  pub pio0 : pio_quiet.IsQuiet (pio.inputs_of (inputs_of s)) s.pio0.block n
+  pub pio1 : pio_quiet.IsQuiet (pio.inputs_of (inputs_of s)) s.pio1.block n
 
 -- and what they are after these
 abbrev pub blocks_after : ℕ → State → Blocks

@@ -6,25 +6,27 @@ use dma_engine::BegunTransfer;
 use lane_look::Device;
 use m0_core::Doing;
 use outer_lane::{SeenOutputs, World};
+use pio_block::lane::inputs_of;
 
 impl Machine {
     ghost use Rattle.std.specs.Prelude.{◌≡◌, ◌+◌, ◌^◌, ◌<◌, false, Decides};
     ghost use Rattle.rp_machine.specs.Answers.{lines_of};
     ghost use Rattle.rp_machine.specs.Cycle.{begun};
     ghost use Rattle.dma_engine.specs.Quiet.{GivesNone};
-    ghost use Rattle.pio_block.specs.Quiet.{IsQuiet};
     ghost use Rattle.m0_core.specs.Quiet.{IsQuiet as IsCoreQuiet};
     ghost use Rattle.rp_machine.specs.Alone.{AreBlocksQuiet, blocks_after, with_blocks, IsCore1Quiet, core1_after};
     ghost use Rattle.bus_fabric.specs.State.{has_hold};
     ghost use Rattle.lane_look.specs.declared.lane.Want.TheVariants.{Nothing};
     ghost use Rattle.m0_core.specs.Cycle.{want_of};
 
-    /// For so many cycles from now on the DMA engine and both PIO blocks are quiet, as long as the counts of the UARTs stay. Any smaller
-    /// number is right too.
+    /// For so many cycles from now on the DMA engine and both PIO blocks are quiet, as long as the counts of the UARTs and the levels
+    /// of the pads stay. Any smaller number is right too.
     pub fn quiet_blocks(&self) -> u64
         ensures { AreBlocksQuiet self.now result }
     {
-        let pio = self.pio0.block.quiet().min(self.pio1.block.quiet());
+        let inputs = inputs_of(self.inputs());
+        let pio0 = self.pio0.block.quiet(inputs);
+        let pio = pio0.min(self.pio1.block.quiet(inputs));
         if pio == 0 {
             return 0;
         }
@@ -60,9 +62,7 @@ impl Machine {
 
     /// So many cycles of the DMA engine and both PIO blocks at once, in which they are quiet.
     pub fn pass_blocks(&mut self, n: u64)
-        requires dma { GivesNone self.old.dma.block n }
-        requires pio0 { IsQuiet self.old.pio0.block n }
-        requires pio1 { IsQuiet self.old.pio1.block n }
+        requires { GivesNone self.old.dma.block n }
         ensures { self.new ≡ with_blocks (blocks_after n self.old) self.old }
     {
         self.dma.block.pass(n);

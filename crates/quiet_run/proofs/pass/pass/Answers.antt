@@ -14,11 +14,5 @@ returns g c =
     passed_states (setting g.X.Device.meaning c.args.world.now) (the_view c.machine.inside) c.args.machine.now c.number-at.result c.args.n c.pass.new.self c.pass-2.new.self c.pass-3.new.self (c.machine.view_is ∙ c.pass_blocks.ensures) c.number-at.ensures c.machine.invariant c.requires.quiet
     (have_passed (setting g.X.Device.meaning c.args.world.now) (the_view c.machine.inside) c.args.machine.now c.lines-lines0.result c.lines-lines1.result c.number-at.result c.args.n c.seen_now-seen.result c.pass.new.self c.pass-2.new.self c.pass-3.new.self (c.machine.view_is ∙ c.pass_blocks.ensures) c.number-at.ensures c.lines-lines0.ensures c.lines-lines1.ensures c.seen_now-seen.ensures.value c.pass.ensures c.pass-2.ensures c.pass-3.ensures)
 
-pub pass_blocks-requires-clause-dma : goal.pass_blocks-requires-clause-dma
-pass_blocks-requires-clause-dma g c = c.requires.quiet.blocks.dma.credits
-
-pub pass_blocks-requires-clause-pio0 : goal.pass_blocks-requires-clause-pio0
-pass_blocks-requires-clause-pio0 g c = c.requires.quiet.blocks.pio0
-
-pub pass_blocks-requires-clause-pio1 : goal.pass_blocks-requires-clause-pio1
-pass_blocks-requires-clause-pio1 g c = c.requires.quiet.blocks.pio1
+pub pass_blocks-requires : goal.pass_blocks-requires
+pass_blocks-requires g c = c.requires.quiet.blocks.dma.credits
