@@ -46,7 +46,7 @@ impl Model for Behind {
 }
 
 impl Behind {
-    ghost use Rattle.std.specs.Prelude.{◌≡◌, ◌+◌, ◌<◌, ◌^◌, ◌∷◌, ◌++◌, [], List, ℕ, true, false, None, Decides};
+    ghost use Rattle.std.specs.Prelude.{◌≡◌, ◌+◌, ◌<◌, ◌^◌, ◌∷◌, [], List, ℕ, true, false, None, Decides};
     ghost use Rattle.rp_base.specs.Held.{unless_held};
     ghost use Rattle.rp_timer.specs.Words.{word_of};
     ghost use Rattle.outer_lane.specs.BroughtUp.{told_at_start, told_step, told_after, blocks_outs, blocks_lines, blocks_counts, blocks_word, blocks_accessed, blocks_reset, AreBlocksQuiet};
