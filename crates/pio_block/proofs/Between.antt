@@ -36,9 +36,13 @@ fewer_machines i seen level enable (m ∷ ms) n k h le = (fewer_machine i seen l
 
 pub four_machines : (seen : Seen) (level enable : ℕ) (a b c d : Machine1) (p q r s n : ℕ) → machine_quiet.IsQuiet 0 seen level enable a p → machine_quiet.IsQuiet 1 seen level enable b q
     → machine_quiet.IsQuiet 2 seen level enable c r → machine_quiet.IsQuiet 3 seen level enable d s → n ≡ min (min p q) (min r s) → AreMachinesQuiet 0 seen level enable (a ∷ b ∷ c ∷ d ∷ []) n
-four_machines seen level enable a b c d p q r s n h i j k e =
-    (fewer_machine 0 seen level enable a p n h (omega (arith, e)), (fewer_machine 1 seen level enable b q n i (omega (arith, e)),
-    (fewer_machine 2 seen level enable c r n j (omega (arith, e)), (fewer_machine 3 seen level enable d s n k (omega (arith, e)), tt))))
+four_machines seen level enable a b c d p q r s n h i j k e = (
+  fewer_machine 0 seen level enable a p n h (omega (arith, e)),
+  (
+    fewer_machine 1 seen level enable b q n i (omega (arith, e)),
+    (fewer_machine 2 seen level enable c r n j (omega (arith, e)), (fewer_machine 3 seen level enable d s n k (omega (arith, e)), tt)),
+  ),
+)
 
 pub fewer : (x : Inputs) (s : State) (n k : ℕ) → IsQuiet x s n → k ≤ n → IsQuiet x s k
 fewer x s n k h le = record { words = h.words; machines = fewer_machines 0 (seen_by x.now x.second s) s.levels s.enables s.machines n k h.machines le }

@@ -97,7 +97,7 @@ waited_by m n acc ticks delay period on same sum least e =
     let g = gone m n on in
     let times = ap (λ p. ticks * p) same in
     let count : g.ticks ≡ ticks =
-        same_ticks-by (nat_lt g.ticks ticks) (nat_lt ticks g.ticks) g.ticks ticks (divider m) m.acc (256 * n) refl refl (omega (arith, g.sum)) (omega (arith, sum, times)) g.least (λ some. omega (arith, least some, times, same)) in
+    same_ticks-by (nat_lt g.ticks ticks) (nat_lt ticks g.ticks) g.ticks ticks (divider m) m.acc (256 * n) refl refl (omega (arith, g.sum)) (omega (arith, sum, times)) g.least (λ some. omega (arith, least some, times, same)) in
     let left : g.acc ≡ acc = omega (arith, g.sum, sum, times, ap (λ t. t * divider m) count) in
     sym (g.at ∙ ap (λ a. record m { acc = a; delay = m.delay - g.ticks }) left ∙ ap (λ t. record m { acc = acc; delay = m.delay - t }) count ∙ ap (λ d. record m { acc = acc; delay = d }) (sym e))
 

@@ -83,7 +83,9 @@ impl Machine1 {
     {
         match *op {
             PioOp::Wait { polarity, source } => self.is_high(source, number, seen) != polarity,
-            PioOp::Out { .. } => self.tx_stall && self.tx.is_empty() && self.is_autopull_due(settings),
+            PioOp::Out { .. } => self.tx_stall
+                && self.tx.is_empty()
+                && self.is_autopull_due(settings),
             PioOp::Pull { if_empty, block } => {
                 block && self.tx_stall && self.tx.is_empty() && !self.is_pull_void(if_empty)
             }
@@ -91,10 +93,16 @@ impl Machine1 {
                 block && self.rx_stall && self.is_rx_full() && !self.is_push_void(if_full)
             }
             PioOp::In { .. } => {
-                self.progress.shifted && self.rx_stall && self.is_rx_full() && self.is_autopush_due()
+                self.progress.shifted
+                    && self.rx_stall
+                    && self.is_rx_full()
+                    && self.is_autopush_due()
             }
             PioOp::Irq { clear, wait, index } => {
-                !clear && wait && self.progress.raised && has_flag(seen.flags, flag_of(index, number))
+                !clear
+                    && wait
+                    && self.progress.raised
+                    && has_flag(seen.flags, flag_of(index, number))
             }
             _ => false,
         }
@@ -147,7 +155,7 @@ impl Machine1 {
     }
 
     /// So many cycles at once, in which the machine only waits.
-    #[tactic(auto, using(crate::proofs::Waits::waited_by, crate::proofs::Waits::waited_off))]
+    #[tactic(auto, using(crate::proofs::Waits::waited_off))]
     pub fn pass(&mut self, settings: &Settings, n: u64)
         requires { settings.now ≡ settings_of self.old }
         ensures after { self.new ≡ waited n self.old }
