@@ -1,3 +1,3 @@
 pub mod GoneOn
-mod Idle
+pub mod Idle
 pub mod Passing
