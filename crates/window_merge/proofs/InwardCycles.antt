@@ -1,9 +1,9 @@
 -- Cycles of a window as long as core 0 alone is at work in SRAM beside lanes that are quiet: the start answers each lane as the machine does.
-use Rattle.std.proofs.Common.{◌≡◌, ℕ, zero, suc, ◌+◌, ◌<◌, ◌≤◌, ◌==◌, ◌||◌, ◌&&◌, nat_eq, not, inl, inr, add-one, Bool, true, false, if◌then◌else◌, List, [], ◌∷◌, ◌++◌, length, length-append, Option, Some, None, refl, sym, ap, subst, ◌∙◌, below_more, arith}
+use Rattle.std.proofs.Common.{◌≡◌, ℕ, zero, suc, ◌+◌, ◌%◌, ◌^◌, ◌<◌, ◌≤◌, ◌==◌, ◌||◌, ◌&&◌, nat_eq, not, add-one, Bool, true, false, if◌then◌else◌, List, [], ◌∷◌, ◌++◌, length, length-append, Option, Some, None, refl, sym, ap, subst, ◌∙◌, below_more, arith}
 use Rattle.std.specs.Prelude.{slice_index}
 use Rattle.std.specs.List.{list_any}
 use Rattle.std.proofs.Math.Bool.{or-true, not-not}
-use Rattle.std.proofs.lemmas.Bool.{eqb-true, and_parts, or_cases}
+use Rattle.std.proofs.lemmas.Bool.{eqb-true, and_parts}
 use Rattle.std.proofs.lemmas.List.{append-nil, append_assoc}
 use Rattle.rp_base.specs.declared.Request.{Request}
 use Rattle.rp_base.specs.declared.Master.TheVariants.{DmaRead}
@@ -20,7 +20,8 @@ use Rattle.lane_look.specs.declared.marks.Mark.{Mark}
 use Rattle.lane_look.specs.Replay.{asked}
 use Rattle.lane_look.specs.Alone.{differs, ends_want}
 use Rattle.m0_core.specs.State.{State as Core}
-use Rattle.m0_core.specs.declared.doing.Doing.{Doing}
+use Rattle.m0_core.specs.declared.doing.Act.{Act}
+use Rattle.m0_core.specs.declared.doing.Act.TheVariants.{Asleep}
 use Rattle.m0_core.specs.Fetch as core_asks
 use Rattle.m0_core.specs.Cycle as core
 use Rattle.dma_engine.specs.State.{State as Engine}
@@ -35,21 +36,20 @@ use Rattle.io_bank.specs.State.{State as Bank}
 use Rattle.io_bank.specs.Levels.{is_used, inputs_of as inputs_of_pads}
 use Rattle.outer_lane.specs.Setting.{Setting}
 use Rattle.outer_lane.specs.State.{State as OuterState}
-use Rattle.outer_lane.specs.Lines.{outer_lines}
 use Rattle.outer_lane.specs.declared.world.SeenOutputs.{SeenOutputs}
 use Rattle.outer_lane.specs.Step as outer
 use Rattle.outer_lane.specs.Quiet.{IsQuiet, seen_in, outer_after}
 use Rattle.rp_machine.specs.declared.begun.Begun.{Begun}
 use Rattle.rp_machine.specs.declared.wanted.Wanted.{Wanted}
 use Rattle.rp_machine.specs.State.{State}
-use Rattle.rp_machine.specs.Answers.{answer_of, lines_of, block_lines, packed_pair, inputs_of}
+use Rattle.rp_machine.specs.Answers.{answer_of, lines_of, packed_pair, inputs_of}
 use Rattle.rp_machine.specs.Deeds.{asked_of}
-use Rattle.rp_machine.specs.Cycle.{begun, wanted, pins_of, with_sio, ended, mark, next_by}
+use Rattle.rp_machine.specs.Cycle.{begun, wanted, mark, next_by}
 use Rattle.rp_machine.specs.Run.{states}
-use Rattle.rp_machine.specs.Alone.{Blocks, AreBlocksQuiet, IsCore0Alone, beside, blocks_after, is_first_alone}
+use Rattle.rp_machine.specs.Alone.{Blocks, AreBlocksQuiet, IsCore1Quiet, IsCore0Alone, beside, blocks_after, core1_after, is_first_alone}
 use Rattle.rp_machine.specs.Wantless.{is_nothing}
-use Rattle.rp_machine.specs.Inward.{TellsSame, GoesAlone, StaysInward, core0_want, inward_next, inward_after, onward_after}
-use Rattle.rp_machine.proofs.Going.{fewer_cycles}
+use Rattle.rp_machine.specs.Inward.{TellsSame, GoesAlone, StaysInward, core0_want, inward_after, onward_after}
+use Rattle.rp_machine.proofs.Going.{fewer_cycles, core_fewer}
 use Rattle.rp_machine.proofs.OneCore.{first_want, wanted_alone}
 use Rattle.rp_machine.proofs.Quietly.{seen_later, seen_number}
 use Rattle.rp_machine.proofs.Wantless.{nothing}
@@ -62,7 +62,7 @@ use Rattle.window_merge.specs.Notes.{is_clean, no_notes, noted_by, seen_of, HasR
 use Rattle.window_merge.specs.Start.{start_of, guess, begun_from, differs_from, ends_wanted, goes_by, goes_first, goes_on}
 use Rattle.window_merge.specs.Window.{is_port_of, clash, longest}
 use Rattle.window_merge.specs.Merging.{wants_of, marks_in}
-use Rattle.window_merge.specs.Inward.{noted_in, noted_core0, noted_inward, same_marks, sees_sram, GoesAsAlone, GoneOver}
+use Rattle.window_merge.specs.Inward.{noted_in, noted_core0, noted_inward, same_marks, GoesAsAlone, GoneOver}
 use Rattle.window_merge.specs.Inward.{KeepsInward}
 use Rattle.window_merge.proofs.Agree.{itself}
 use Rattle.window_merge.proofs.Lanes.{tree, Each, every, on_each}
@@ -70,6 +70,7 @@ use Rattle.window_merge.proofs.Later.{same_begun}
 use Rattle.window_merge.specs.Lanes.{is_launching}
 use Rattle.window_merge.proofs.Passing.{room_on, First, passes_none, passes_later}
 use Rattle.window_merge.proofs.Starting.{guess_is}
+use Rattle.window_merge.proofs.Resting.{IsReady, Rests, ready_awake, quiet_rests}
 
 -- ---- what is asked is answered alike
 
@@ -92,15 +93,24 @@ either_way : {B : Type 0} (f g : Ask → ℕ) (c : Bool) (one other : Asking B) 
 either_way {B} f g true one other h k = h
 either_way {B} f g false one other h k = k
 
-first_way : {B : Type 0} (f g : Ask → ℕ) (c : Bool) (one other : Asking B) → c ≡ true → AsksAlike f g one → AsksAlike f g (if c then one else other)
-first_way {B} f g true one other e h = h
-first_way {B} f g false one other e h = absurd (cc e)
-
 -- ---- lanes that do not ask for SRAM
 
-asleep_asks : (f g : Ask → ℕ) (s : Core) (cycle : ℕ) → s.asleep ≡ true → AsksAlike f g (core_asks.asks s cycle)
+ready_asks : (f g : Ask → ℕ) (lines cycle : ℕ) (tree : Asking Act) → IsReady tree → AsksAlike f g (core_asks.carried lines cycle tree)
+unfolding core_asks.carried
+ready_asks f g lines cycle (Ready begun) ready = tt
+ready_asks f g lines cycle (Question question next) ready = absurd ready
+
+-- a core that asks for its interrupt lines alone
+lines_asks : (f g : Ask → ℕ) (s : Core) (cycle : ℕ) → f ask.Lines ≡ g ask.Lines → (s.asleep ≡ false → IsReady (core_asks.asks_awake s)) → AsksAlike f g (core_asks.asks s cycle)
 unfolding core_asks.asks
-asleep_asks f g s cycle e = first_way f g s.asleep _ _ e tt
+lines_asks f g s cycle e ready = by_sleep s.asleep refl
+  where
+    by_sleep : (b : Bool) → s.asleep ≡ b → AsksAlike f g (if b then Ready (core_asks.ends_with 0 cycle Asleep) else Question ask.Lines (λ l. core_asks.carried (l % 2 ^ 32) cycle (core_asks.asks_awake s)))
+    by_sleep true asleep = tt
+    by_sleep false awake = (e, λ l. ready_asks f g (l % 2 ^ 32) cycle (core_asks.asks_awake s) (ready awake))
+
+rests_asks : (f g : Ask → ℕ) (lines : ℕ) (s : Core) (cycle : ℕ) → f ask.Lines ≡ g ask.Lines → Rests lines s cycle → AsksAlike f g (core_asks.asks s cycle)
+rests_asks f g lines s cycle e rests = lines_asks f g s cycle e (λ awake. ready_awake lines s cycle awake rests)
 
 pio_asks : (f g : Ask → ℕ) (s : Pio) → f ask.Inputs ≡ g ask.Inputs → AsksAlike f g (pio.asks s)
 unfolding pio.asks
@@ -190,20 +200,15 @@ alike_first w s = every (λ S B l. all_asked _ _ _ (λ q. guess_is l.number s (s
 pub goes_first_on : (w : Setting) (s : State) → goes_on (start_of s) no_notes s ≡ goes_first s
 goes_first_on w s = goes_alike w (start_of s) no_notes s (alike_first w s)
 
--- where the cores that are awake see SRAM as it is, and the DMA engine reads nothing
-pub alike_by : (w : Setting) (notes : Notes) (s : State) → sees_sram notes s ≡ true → next_request s.dma.block ≡ None
+-- where core 0 sees SRAM as it is, core 1 asks for no more than its lines, and the DMA engine reads nothing
+pub alike_by : (w : Setting) (notes : Notes) (s : State) (lines : ℕ) → is_clean 0 notes ≡ true → Rests lines s.core1 s.cycle → next_request s.dma.block ≡ None
     → AreAlike w (start_of s) notes s
-alike_by w notes s sees none =
+alike_by w notes s lines clean rests none =
     let same : (lane : ℕ) (question : Ask) → guess lane (start_of s) (slice_index s.sram) question ≡ answer_of lane s question =
     λ lane question. guess_is lane s (slice_index s.sram) s.sram question (λ i lt. refl) in
-    let both = and_parts (is_clean 0 notes) (s.core1.asleep || is_clean 1 notes) sees in
     record {
-      core0 = all_asked _ _ _ (λ q. guess_is 0 s (seen_of 0 notes s.sram) s.sram q (λ i lt. sees_clean 0 notes s.sram i both.0));
-      core1 = elim (or_cases s.core1.asleep (is_clean 1 notes) both.1) [
-        | inl asleep ↦ asleep_asks _ _ s.core1 s.cycle asleep
-        | inr clean ↦ all_asked _ _ _ (λ q. guess_is 1 s (seen_of 1 notes s.sram) s.sram q
-            (λ i lt. sees_clean 1 notes s.sram i clean))
-      ];
+      core0 = all_asked _ _ _ (λ q. guess_is 0 s (seen_of 0 notes s.sram) s.sram q (λ i lt. sees_clean 0 notes s.sram i clean));
+      core1 = rests_asks _ _ lines s.core1 s.cycle (same 1 ask.Lines) rests;
       dma = dma_asks_alike _ _ s.dma.block none (same 2 ask.Pacing);
       pio0 = pio_asks _ _ s.pio0.block (same 3 ask.Inputs);
       pio1 = pio_asks _ _ s.pio1.block (same 4 ask.Inputs);
@@ -244,20 +249,20 @@ pub goes_first_alone : (b : Begun) (xs : List Wanted) (ends alone : Bool) → xs
 goes_first_alone b xs ends alone e e_ends none e_alone first =
     first ∙ sym (ap (λ (c : Bool). not (c || clash (wants_of b))) (ap ends_wanted (sym e) ∙ sym e_ends ∙ none) ∙ ap not (apart_alone b (ap is_first_alone (sym e) ∙ sym e_alone ∙ first)))
 
-goes_by_alone : (s : State) (p : Blocks) → IsCore0Alone s p → ends_want (core.want_of (begun s).core0) ≡ false → goes_by (begun s) ≡ true
-goes_by_alone s p h keeps =
-    ap (λ (xs : List Wanted). not (ends_wanted xs || clash (wants_of (begun s)))) (wanted_alone s p h)
-    ∙ ap (λ (c : Bool). not (ends_wanted (beside (core.want_of (begun s).core0)) || c)) (apart_alone (begun s) (ap is_first_alone (wanted_alone s p h)))
-    ∙ ap (λ (c : Bool). not ((c || false) || false)) keeps
+goes_by_alone : (s : State) (p : Blocks) (c : Core) → IsCore0Alone s p c → ends_want (core.want_of (begun s).core0) ≡ false → goes_by (begun s) ≡ true
+goes_by_alone s p c h keeps =
+    ap (λ (xs : List Wanted). not (ends_wanted xs || clash (wants_of (begun s)))) (wanted_alone s p c h)
+    ∙ ap (λ (b : Bool). not (ends_wanted (beside (core.want_of (begun s).core0)) || b)) (apart_alone (begun s) (ap is_first_alone (wanted_alone s p c h)))
+    ∙ ap (λ (b : Bool). not ((b || false) || false)) keeps
 
 -- ---- cycle after cycle
 
 -- core 0 has gone on alone for so many cycles from a state of a window on, before which this was noted
 pub record IsOnward (w : Setting) (m : Notes) (s : State) (n : ℕ) : Type 0 where
-  pub sees : sees_sram m s ≡ true
+  pub sees : is_clean 0 m ≡ true
   pub goes : GoesAlone s
-  pub known : s.outer.sio ≡ pins_of s.sio
   pub blocks : AreBlocksQuiet s n
+  pub core1 : IsCore1Quiet s n
   pub quiet : IsQuiet w (begun s).outer s.outer n
   pub inward : StaysInward s n
   pub keeps : KeepsInward s n
@@ -266,16 +271,12 @@ pub record IsOnward (w : Setting) (m : Notes) (s : State) (n : ℕ) : Type 0 whe
 at_onward : (w : Setting) (m : Notes) (s : State) (n k : ℕ) → IsOnward w m s n → k ≤ n → states w s k ≡ onward_after w s k
 at_onward w m s n k h le =
     let limit = h.limit in
-    (core0_goes_on_alone w s k h.goes h.known (fewer_cycles s n k h.blocks le) (fewer w (begun s).outer s.outer n k h.quiet le) (λ j lt. h.inward j (omega arith)) (omega arith)).state
+    (core0_goes_on_alone w s k h.goes (fewer_cycles s n k h.blocks le) (core_fewer (lines_of 1 s) s.core1 s.cycle n k h.core1 le) (fewer w (begun s).outer s.outer n k h.quiet le) (λ j lt. h.inward j (omega arith)) (omega arith)).state
 
-lines_stay1 : (b : Doing) (x : Want) (t : State) → lines_of 1 (inward_next b x t) ≡ lines_of 1 t
-unfolding inward_next ended with_sio lines_of block_lines outer_lines
-lines_stay1 b x t = refl
-
-lines_inward : (s : State) (k : ℕ) → (lines_of 0 (inward_after k s) ≡ lines_of 0 s) × (lines_of 1 (inward_after k s) ≡ lines_of 1 s)
+lines_inward : (s : State) (k : ℕ) → lines_of 0 (inward_after k s) ≡ lines_of 0 s
 unfolding inward_after
-lines_inward s zero = (refl, refl)
-lines_inward s (suc k) = (lines_stay _ _ _ ∙ (lines_inward s k).0, lines_stay1 _ _ _ ∙ (lines_inward s k).1)
+lines_inward s zero = refl
+lines_inward s (suc k) = lines_stay _ _ _ 0 ∙ lines_inward s k
 
 -- no frame ends, and the pads have these levels
 abbrev pub mark_with : ℕ → Mark
@@ -284,9 +285,9 @@ mark_with pads = record { uart = None ∷ None ∷ []; pads = pads }
 -- what is known in one of the cycles
 record StandsOnward (w : Setting) (s : State) (k : ℕ) : Type 0 where
   start : start_of (onward_after w s k) ≡ start_of s
-  asleep : (onward_after w s k).core1.asleep ≡ true
+  rests : Rests (lines_of 1 s) (onward_after w s k).core1 (onward_after w s k).cycle
   reads : next_request (onward_after w s k).dma.block ≡ None
-  alone : IsCore0Alone (onward_after w s k) (blocks_after (suc k) s)
+  alone : IsCore0Alone (onward_after w s k) (blocks_after (suc k) s) (core1_after s.cycle (suc k) s)
   wants : core.want_of (begun (onward_after w s k)).core0 ≡ core0_want (inward_after k s)
   mark : mark w (onward_after w s k) ≡ mark_with s.outer.pads.current
 
@@ -309,9 +310,10 @@ stands_onward w m s n k h lt =
     let le : k ≤ n = omega arith in
     let t = inward_after k s in
     let p = blocks_after k s in
+    let c = core1_after s.cycle k s in
     let o = outer_after w (begun s).outer k s.outer in
     let u = beside_after w s k t in
-    let stays = stays_after s k h.goes h.known in
+    let stays = stays_after s k h.goes in
     let number = seen_number s in
     let cycle = stays.cycle in
     let on = tell_on w s t n k le h.blocks h.quiet in
@@ -320,21 +322,20 @@ stands_onward w m s n k h lt =
     let inputs = ap (λ (b : Bank). inputs_of_pads b b.current ∷ inputs_of_pads b b.second ∷ []) pads in
     let seen : (begun u).outer ≡ seen_in (begun s).outer ((begun s).outer.cycle + k) =
     seen_later s u pads (λ block. outs_on s u block on) ∙ ap (λ (c : ℕ). seen_in (begun s).outer c) (omega arith) in
-    let tells : TellsSame p o t = record {
+    let tells : TellsSame p c o t = record {
       lines = lines_on t u 0 refl here;
       pacing = pacing_on t u here;
       inputs = inputs ∙ ap outer_inputs_of (sym stays.outer);
       outs = λ block. outs_on t u block here;
-      sio = h.quiet.sio k le ∙ h.known ∙ sym stays.pins;
     } in
-    let alone = alone_by w s t n k lt stays.alone.asleep h.blocks (pacing_on s u on) in
+    let alone = alone_by w s t n k lt stays h.blocks h.core1 on here in
     record {
-      start = starts_by (start_of u) (start_of s) (lines_on t u 0 refl here ∙ (lines_inward s k).0) (lines_on t u 1 refl here ∙ (lines_inward s k).1) (pacing_on s u on)
+      start = starts_by (start_of u) (start_of s) (lines_on t u 0 refl here ∙ lines_inward s k) (lines_on t u 1 refl here ∙ stays.lines1) (pacing_on s u on)
           (ap packed_pair inputs) (outs_on s u 0 on) (outs_on s u 1 on);
-      asleep = stays.alone.asleep;
+      rests = subst (λ (x : ℕ). Rests (lines_of 1 s) c x) (sym stays.cycle) (quiet_rests (lines_of 1 s) s.cycle n k s.core1 h.core1 lt);
       reads = reads_none u (first_want _ _ alone.wants);
       alone = alone;
-      wants = ap core.want_of (begun_same p o t tells);
+      wants = ap core.want_of (begun_same p c o t tells);
       mark = ap (λ (x : SeenOutputs). outer.marked w o x) seen ∙ h.quiet.mark k lt;
     }
   where
@@ -347,18 +348,17 @@ unfolding noted_inward
 own_notes m s zero = (refl, refl)
 own_notes m s (suc k) = own_notes m s k
 
-sees_onward : (w : Setting) (m : Notes) (s : State) (n k : ℕ) → IsOnward w m s n → k < n → sees_sram (noted_inward m k s) (onward_after w s k) ≡ true
-sees_onward w m s n k h lt =
+sees_onward : (m : Notes) (s : State) (k : ℕ) → is_clean 0 m ≡ true → is_clean 0 (noted_inward m k s) ≡ true
+sees_onward m s k sees =
     let own = own_notes m s k in
-    let sees = and_parts (is_clean 0 m) (s.core1.asleep || is_clean 1 m) h.sees in
-    rw (own.0, own.1, (stands_onward w m s n k h lt).asleep) (rw sees.0 refl)
+    rw (own.0, own.1) sees
 
 alike_onward : (w : Setting) (m : Notes) (s : State) (n k : ℕ) → IsOnward w m s n → k < n → AreAlike w (start_of s)
     (noted_inward m k s) (onward_after w s k)
 alike_onward w m s n k h lt =
     let x = stands_onward w m s n k h lt in
     subst (λ (start : Start). AreAlike w start (noted_inward m k s) (onward_after w s k)) x.start
-    (alike_by w (noted_inward m k s) (onward_after w s k) (sees_onward w m s n k h lt) x.reads)
+    (alike_by w (noted_inward m k s) (onward_after w s k) (lines_of 1 s) (sees_onward m s k h.sees) x.rests x.reads)
 
 begun_onward : (w : Setting) (m : Notes) (s : State) (n k : ℕ) (notes : Notes) (now : State) → IsOnward w m s n → k < n → notes ≡ noted_inward m k s → now ≡ onward_after w s k
     → wanted (begun_from (start_of s) notes now) ≡ beside (core0_want (inward_after k s))
@@ -367,7 +367,7 @@ begun_onward w m s n k notes now h lt en es =
     ap (λ (m : Notes). wanted (begun_from (start_of s) m now)) en
     ∙ ap (λ (u : State). wanted (begun_from (start_of s) (noted_inward m k s) u)) es
     ∙ ap wanted (begun_alike w (start_of s) (noted_inward m k s) (onward_after w s k) (alike_onward w m s n k h lt))
-    ∙ wanted_alone (onward_after w s k) (blocks_after (suc k) s) x.alone
+    ∙ wanted_alone (onward_after w s k) (blocks_after (suc k) s) (core1_after s.cycle (suc k) s) x.alone
     ∙ ap beside x.wants
 
 pub notes_onward : (w : Setting) (m : Notes) (s : State) (n k : ℕ) → IsOnward w m s n → k ≤ n → noted_in w (start_of s) m s k ≡ noted_inward m k s
@@ -389,7 +389,7 @@ goes_as_alone w m s n h k lt =
     ap (λ (m : Notes). goes_on (start_of s) m (states w s k)) (notes_onward w m s n k h (omega arith))
     ∙ ap (goes_on (start_of s) (noted_inward m k s)) (at_onward w m s n k h (omega arith))
     ∙ goes_alike w (start_of s) (noted_inward m k s) u (alike_onward w m s n k h lt)
-    ∙ goes_by_alone u (blocks_after (suc k) s) x.alone (ap ends_want x.wants ∙ h.keeps k lt)
+    ∙ goes_by_alone u (blocks_after (suc k) s) (core1_after s.cycle (suc k) s) x.alone (ap ends_want x.wants ∙ h.keeps k lt)
 
 -- cycles that leave the same mark
 pub same_mark : (w : Setting) (s : State) (m : Mark) (n k : ℕ) → ((j : ℕ) → j < n → mark w (states w s j) ≡ m) → k ≤ n → marks_in w s k ≡ same_marks k m
@@ -462,14 +462,14 @@ same_more mark k first marks marks' h e = record {
 
 -- ---- what the calls leave
 
-pub is_onward : (w : Setting) (m : Notes) (s : State) (seen : SeenOutputs) (most done : ℕ) → sees_sram m s ≡ true → MayGoAlone w seen s most → done ≤ most → StaysInward s done → KeepsInward s done → IsOnward w m s done
+pub is_onward : (w : Setting) (m : Notes) (s : State) (seen : SeenOutputs) (most done : ℕ) → is_clean 0 m ≡ true → MayGoAlone w seen s most → done ≤ most → StaysInward s done → KeepsInward s done → IsOnward w m s done
 is_onward w m s seen most done sees h le inward keeps =
     let limit = h.limit in
     record {
       sees = sees;
       goes = h.goes;
-      known = h.known;
       blocks = fewer_cycles s most done h.blocks le;
+      core1 = core_fewer (lines_of 1 s) s.core1 s.cycle most done h.core1 le;
       quiet = fewer w (begun s).outer s.outer most done (subst (λ (x : SeenOutputs). IsQuiet w x s.outer most) h.same h.quiet) le;
       inward = inward;
       keeps = keeps;
@@ -478,9 +478,9 @@ is_onward w m s seen most done sees h le inward keeps =
 
 -- ---- the first cycle, where it is not one of these
 
--- at the start of a window each core sees SRAM as it is, and there is room
-pub sees_first : (s : State) (notes : Notes) → notes ≡ no_notes → sees_sram notes s ≡ true
-sees_first s notes e = rw e (or-true s.core1.asleep)
+-- at the start of a window core 0 sees SRAM as it is, and there is room
+pub sees_first : (notes : Notes) → notes ≡ no_notes → is_clean 0 notes ≡ true
+sees_first notes e = rw e refl
 
 -- where no cycle was gone over nothing has changed
 pub record IsBack (m : Notes) (s i : State) (marks : List Mark) (notes : Notes) (marks' : List Mark) : Type 0 where

@@ -20,6 +20,7 @@ pub mod Positions
 pub mod Reading
 pub mod Replaying
 pub mod Reported
+pub mod Resting
 pub mod Starting
 pub mod Telling
 pub mod Told

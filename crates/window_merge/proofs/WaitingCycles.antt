@@ -1,14 +1,10 @@
 -- Cycles of a window in which nobody has anything to do: the start answers each lane as the machine does.
 use Rattle.std.proofs.Common.{◌≡◌, ℕ, zero, suc, ◌+◌, ◌-◌, ◌*◌, ◌<◌, ◌≤◌, inl, inr, ◌||◌, ◌&&◌, not, nat_le, if◌then◌else◌, Bool, true, false, List, [], ◌∷◌, ◌++◌, length, refl, sym, ap, subst, ◌∙◌, arith}
-use Rattle.std.proofs.Math.Bool.{or-true}
-use Rattle.std.proofs.lemmas.Bool.{and_parts, or_cases}
 use Rattle.std.proofs.lemmas.Bool.Decides.{leb_tells}
 use Rattle.lane_look.specs.declared.lane.Want.TheVariants as want
 use Rattle.lane_look.specs.declared.marks.Mark.{Mark}
-use Rattle.m0_core.specs.State.{State as Core}
 use Rattle.bus_fabric.specs.State.{has_hold}
 use Rattle.sio_block.specs.Launcher.{offers_of}
-use Rattle.m0_core.proofs.Lasting.{stays_asleep}
 use Rattle.io_bank.specs.State.{State as Bank}
 use Rattle.io_bank.specs.Levels.{inputs_of as inputs_of_pads}
 use Rattle.outer_lane.specs.Setting.{Setting}
@@ -36,13 +32,14 @@ use Rattle.window_merge.specs.Start.{start_of, begun_from, ends_wanted, goes_by,
 use Rattle.window_merge.specs.Quiet.{AreQuietWindows}
 use Rattle.window_merge.specs.Window.{clash, longest, window_length}
 use Rattle.window_merge.specs.Merging.{wants_of, marks_in}
-use Rattle.window_merge.specs.Inward.{noted_in, same_marks, sees_sram, GoesAsAlone, GoneOver}
+use Rattle.window_merge.specs.Inward.{noted_in, same_marks, GoesAsAlone, GoneOver}
 use Rattle.window_merge.proofs.Passing.{First, along_first, closed_full}
+use Rattle.window_merge.proofs.Resting.{quiet_rests}
 use Rattle.window_merge.proofs.InwardCycles.{AreAlike, alike_by, reads_none, goes_alike, begun_alike, starts_by, apart_alone, mark_with, marked_same}
 
 -- for so many cycles from a state of a window on, before which this was noted, nobody has anything to do
 pub record IsWaiting (w : Setting) (m : Notes) (s : State) (n : ℕ) : Type 0 where
-  pub sees : sees_sram m s ≡ true
+  pub sees : is_clean 0 m ≡ true
   pub agree : CopiesAgree s
   pub parts : ArePartsQuiet w s n
 
@@ -65,20 +62,11 @@ starts w m s n k h le =
     (ap (λ (b : Bank). packed_pair (inputs_of_pads b b.current ∷ inputs_of_pads b b.second ∷ [])) (q.peripherals.pads k le))
     (outs_on s u 0 on) (outs_on s u 1 on)
 
--- a core that sleeps sleeps on
-sees_waiting : (w : Setting) (m : Notes) (s : State) (k : ℕ) → sees_sram m s ≡ true → sees_sram m (passed w s k) ≡ true
-sees_waiting w m s k sees =
-    let both = and_parts (is_clean 0 m) (s.core1.asleep || is_clean 1 m) sees in
-    elim (or_cases s.core1.asleep (is_clean 1 m) both.1) [
-      | inl asleep ↦ rw (both.0, ap (λ (c : Core). c.asleep) (stays_asleep s.core1 (lines_of 1 s) s.cycle k asleep) ∙ asleep) refl
-      | inr clean ↦ rw (both.0, clean) (or-true (passed w s k).core1.asleep)
-    ]
-
 alike_waiting : (w : Setting) (m : Notes) (s : State) (n k : ℕ) → IsWaiting w m s n → k < n
     → AreAlike w (start_of s) m (passed w s k)
 alike_waiting w m s n k h lt =
     subst (λ (start : Start). AreAlike w start m (passed w s k)) (starts w m s n k h (omega arith))
-    (alike_by w m (passed w s k) (sees_waiting w m s k h.sees) (reads_none (passed w s k) (wants_read w s n k h.parts lt)))
+    (alike_by w m (passed w s k) (lines_of 1 s) h.sees (quiet_rests (lines_of 1 s) s.cycle n k s.core1 h.parts.core1 lt) (reads_none (passed w s k) (wants_read w s n k h.parts lt)))
 
 wants_none : (w : Setting) (s : State) (n k : ℕ) → ArePartsQuiet w s n → k < n → wanted (begun (passed w s k)) ≡ beside want.Nothing
 unfolding wanted
@@ -121,7 +109,7 @@ waits_as_alone w m s n i j h le k lt =
 
 -- ---- what the call leaves
 
-pub has_waited : (w : Setting) (m : Notes) (s t : State) (n pads : ℕ) (marks marks' : List Mark) → sees_sram m s ≡ true
+pub has_waited : (w : Setting) (m : Notes) (s t : State) (n pads : ℕ) (marks marks' : List Mark) → is_clean 0 m ≡ true
     → CopiesAgree s
     → (0 < n → ArePartsQuiet w s n) → t ≡ states w s n → pads ≡ t.outer.pads.current
     → marks' ≡ marks ++ same_marks n (mark_with pads)
@@ -177,9 +165,6 @@ quiet_window w s n i h long le =
     record { state = refl; goes = goes; noted = refl; marked = refl } in
     sym (closed_full (along_first first gone calm (omega (arith, whole)) refl refl refl) (sym whole)).length
 
-sees_none : (s : State) → sees_sram no_notes s ≡ true
-sees_none s = or-true s.core1.asleep
-
 pub no_window : (w : Setting) (s : State) → AreQuietWindows w s 0
 no_window w s = record { quiet = quiet_none w s; free = λ k lt. absurd (omega (arith, lt)); whole = λ k lt. absurd (omega (arith, lt)) }
 
@@ -187,7 +172,7 @@ no_window w s = record { quiet = quiet_none w s; free = λ k lt. absurd (omega (
 pub quiet_windows : (w : Setting) (s : State) (n windows : ℕ) → CopiesAgree s → length s.sram ≡ 67584 → ArePartsQuiet w s n → 256 * windows ≤ n → AreQuietWindows w s windows
 quiet_windows w s n windows agree long parts le =
     let all = fewer_parts w s n (256 * windows) parts le in
-    let h : IsWaiting w no_notes s (256 * windows) = record { sees = sees_none s; agree = agree; parts = all } in
+    let h : IsWaiting w no_notes s (256 * windows) = record { sees = refl; agree = agree; parts = all } in
     record {
       quiet = quiet_cycles w s (256 * windows) agree all;
       free = λ k lt. ap (λ (x : State). has_hold x.fabric) (at_passed w no_notes s (256 * windows) (256 * k) h (omega (arith, lt))) ∙ parts.fabric;

@@ -1,5 +1,5 @@
 -- Cycles of a window in which nobody has anything to do, or core 0 alone is at work in SRAM beside lanes that are quiet. The project's own.
-use Rattle.std.specs.Prelude.{◌≡◌, ℕ, zero, suc, ◌+◌, ◌<◌, ◌||◌, ◌&&◌, Bool, true, false, List, [], ◌∷◌, ◌++◌}
+use Rattle.std.specs.Prelude.{◌≡◌, ℕ, zero, suc, ◌+◌, ◌<◌, true, false, List, [], ◌∷◌, ◌++◌}
 use Rattle.lane_look.specs.declared.lane.Want.{Want}
 use Rattle.lane_look.specs.declared.lane.Want.TheVariants as want
 use Rattle.lane_look.specs.declared.marks.Mark.{Mark}
@@ -11,7 +11,7 @@ use Rattle.rp_machine.specs.Inward.{core0_want, inward_after}
 use Rattle.rp_machine.specs.Run.{states}
 use Rattle.window_merge.specs.declared.notes.Notes.{Notes}
 use Rattle.window_merge.specs.declared.start.Start.{Start}
-use Rattle.window_merge.specs.Notes.{is_clean, noted, noted_by}
+use Rattle.window_merge.specs.Notes.{noted, noted_by}
 use Rattle.window_merge.specs.Start.{begun_from, goes_on}
 use Rattle.window_merge.specs.Window.{window_length}
 use Rattle.window_merge.specs.Merging.{marks_in}
@@ -41,10 +41,6 @@ pub record IsWindow (w : Setting) (s : State) (cycles : ℕ) (s' : State) (marks
   pub state : s' ≡ states w s cycles
   pub number : s'.cycle ≡ s.cycle + cycles
   pub marked : marks ≡ marks_in w s cycles
-
--- the cores that are awake see SRAM as it is: no other lane wrote
-abbrev pub sees_sram : Notes → State → Bool
-sees_sram n s = is_clean 0 n && (s.core1.asleep || is_clean 1 n)
 
 -- what core 0 wants is noted
 abbrev pub noted_core0 : Want → List ℕ → Notes → Notes

@@ -6,8 +6,8 @@ ghost use Rattle.lane_look.specs.Alone.{ends_want};
 ghost use Rattle.outer_lane.specs.Setting.{setting};
 ghost use Rattle.rp_machine.specs.Answers.{lines_of};
 ghost use Rattle.rp_machine.specs.Inward.{core0_want, goes_inward, inward_cycle, inward_after, StaysInward};
-ghost use Rattle.window_merge.specs.Inward.{noted_core0, noted_inward, same_marks, sees_sram, GoneOver, KeepsInward};
-ghost use Rattle.window_merge.specs.Notes.{HasRoom};
+ghost use Rattle.window_merge.specs.Inward.{noted_core0, noted_inward, same_marks, GoneOver, KeepsInward};
+ghost use Rattle.window_merge.specs.Notes.{is_clean, HasRoom};
 ghost use Rattle.window_merge.specs.Start.{start_of};
 
 use crate::notes::Notes;
@@ -117,7 +117,7 @@ fn go_waiting<X: Device, L: Ledger>(
 ) -> u16
     requires number { machine.old.cycle + most ≤ world.now.limit }
     requires few { length marks.old + most ≤ 256 }
-    requires sees { sees_sram notes.now machine.old ≡ true }
+    requires sees { is_clean 0 notes.now ≡ true }
     ensures most { result ≤ most }
     ensures gone { GoneOver (setting X.meaning world.now) (start_of machine.old) machine.old
         notes.now marks.old result machine.new notes.now marks.new }
@@ -144,7 +144,7 @@ pub(crate) fn go_inward<X: Device, L: Ledger>(
     requires number { machine.old.cycle + most ≤ world.now.limit }
     requires few { length marks.old + most ≤ 256 }
     requires room { HasRoom notes.old (3 * most) }
-    requires sees { sees_sram notes.old machine.old ≡ true }
+    requires sees { is_clean 0 notes.old ≡ true }
     ensures most { result ≤ most }
     ensures gone { GoneOver (setting X.meaning world.now) (start_of machine.old) machine.old
         notes.old marks.old result machine.new notes.new marks.new }
@@ -161,14 +161,6 @@ pub(crate) fn go_inward<X: Device, L: Ledger>(
     bring_up(machine, world, &seen, done);
     mark_each(marks, machine.pads(), done);
     done as u16
-}
-
-/// The cores that are awake see SRAM as it is: no other lane wrote.
-#[inline(always)]
-fn sees_sram(machine: &Machine, notes: &Notes) -> bool
-    ensures { result ≡ sees_sram notes.now machine.now }
-{
-    notes.is_clean(0) && (machine.core1.is_asleep() || notes.is_clean(1))
 }
 
 /// The same behind some cycles of a window, where a try is due and each answer is still that of the window's start.
@@ -195,7 +187,7 @@ pub(crate) fn go_inward_later<X: Device, L: Ledger>(
         return 0;
     }
     let at = machine.number();
-    if machine.quiet_blocks() == 0 || !sees_sram(machine, notes) || !start.is_of(machine) {
+    if machine.quiet_blocks() == 0 || !notes.is_clean(0) || !start.is_of(machine) {
         pace.note(at, 0);
         return 0;
     }

@@ -20,7 +20,7 @@ go_inward-done-requires-clause-room g c κs within =
     room_none c.args.notes.now (3 * c.args.most) c.requires.none (omega (arith, few, most))
 
 pub go_inward-done-requires-clause-sees : goal.go_inward-done-requires-clause-sees
-go_inward-done-requires-clause-sees g c κs within = sees_first c.args.machine.now c.args.notes.now c.requires.none
+go_inward-done-requires-clause-sees g c κs within = sees_first c.args.notes.now c.requires.none
 
 pub step_noted-requires-clause-number : goal.step_noted-requires-clause-number
 step_noted-requires-clause-number g c κs within =
