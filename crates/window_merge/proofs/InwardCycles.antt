@@ -44,7 +44,7 @@ use Rattle.rp_machine.specs.declared.wanted.Wanted.{Wanted}
 use Rattle.rp_machine.specs.State.{State}
 use Rattle.rp_machine.specs.Answers.{answer_of, lines_of, packed_pair, inputs_of}
 use Rattle.rp_machine.specs.Deeds.{asked_of}
-use Rattle.rp_machine.specs.Cycle.{begun, wanted, mark, next_by}
+use Rattle.rp_machine.specs.Cycle.{begun, wanted, mark}
 use Rattle.rp_machine.specs.Run.{states}
 use Rattle.rp_machine.specs.Alone.{Blocks, AreBlocksQuiet, IsCore1Quiet, IsCore0Alone, beside, blocks_after, core1_after, is_first_alone}
 use Rattle.rp_machine.specs.Wantless.{is_nothing}
@@ -60,15 +60,14 @@ use Rattle.window_merge.specs.declared.notes.Notes.{Notes}
 use Rattle.window_merge.specs.declared.start.Start.{Start}
 use Rattle.window_merge.specs.Notes.{is_clean, no_notes, noted_by, seen_of, HasRoom}
 use Rattle.window_merge.specs.Start.{start_of, guess, begun_from, differs_from, ends_wanted, goes_by, goes_first, goes_on}
-use Rattle.window_merge.specs.Window.{is_port_of, clash, longest}
+use Rattle.window_merge.specs.Window.{is_port_of, clash}
 use Rattle.window_merge.specs.Merging.{wants_of, marks_in}
-use Rattle.window_merge.specs.Inward.{noted_in, noted_core0, noted_inward, same_marks, GoesAsAlone, GoneOver}
+use Rattle.window_merge.specs.Inward.{noted_in, noted_core0, noted_inward, same_marks, GoesAsAlone}
 use Rattle.window_merge.specs.Inward.{KeepsInward}
 use Rattle.window_merge.proofs.Agree.{itself}
 use Rattle.window_merge.proofs.Lanes.{tree, Each, every, on_each}
 use Rattle.window_merge.proofs.Later.{same_begun}
-use Rattle.window_merge.specs.Lanes.{is_launching}
-use Rattle.window_merge.proofs.Passing.{room_on, First, passes_none, passes_later}
+use Rattle.window_merge.proofs.Passing.{room_on, Passes}
 use Rattle.window_merge.proofs.Starting.{guess_is}
 use Rattle.window_merge.proofs.Resting.{IsReady, Rests, ready_awake, quiet_rests}
 
@@ -199,6 +198,11 @@ alike_first w s = every (λ S B l. all_asked _ _ _ (λ q. guess_is l.number s (s
 
 pub goes_first_on : (w : Setting) (s : State) → goes_on (start_of s) no_notes s ≡ goes_first s
 goes_first_on w s = goes_alike w (start_of s) no_notes s (alike_first w s)
+
+pub same_first : {w : Setting} {s : State} {k : ℕ} {now : State} {start : Start} {notes : Notes} {marks : List Mark}
+    → Passes w s k now start notes marks → k ≡ 0 → differs_from start notes now ≡ false
+unfolding states
+same_first {w} {s} p none = rw (p.follows.is_start, p.first none, p.stands.is_states, none) (differs_none w (start_of s) no_notes s (alike_first w s))
 
 -- where core 0 sees SRAM as it is, core 1 asks for no more than its lines, and the DMA engine reads nothing
 pub alike_by : (w : Setting) (notes : Notes) (s : State) (lines : ℕ) → is_clean 0 notes ≡ true → Rests lines s.core1 s.cycle → next_request s.dma.block ≡ None
@@ -475,61 +479,3 @@ is_onward w m s seen most done sees h le inward keeps =
       keeps = keeps;
       limit = omega arith;
     }
-
--- ---- the first cycle, where it is not one of these
-
--- at the start of a window core 0 sees SRAM as it is, and there is room
-pub sees_first : (notes : Notes) → notes ≡ no_notes → is_clean 0 notes ≡ true
-sees_first notes e = rw e refl
-
--- where no cycle was gone over nothing has changed
-pub record IsBack (m : Notes) (s i : State) (marks : List Mark) (notes : Notes) (marks' : List Mark) : Type 0 where
-  pub state : i ≡ s
-  pub noted : notes ≡ m
-  pub marked : marks' ≡ marks
-
-pub is_back : {w : Setting} {start : Start} {m : Notes} {s i : State} {n : ℕ} {notes : Notes} {marks marks' : List Mark}
-    → GoneOver w start s m marks n i notes marks' → n ≡ 0 → IsBack m s i marks notes marks'
-unfolding states noted_in marks_in
-is_back {w} {start} {m} {s} {i} {n} {notes} {marks} {marks'} h none =
-    let gone : GoneOver w start s m marks 0 i notes marks' = rw none at h in
-    record { state = gone.state; noted = gone.noted; marked = gone.marked ∙ append-nil marks }
-
-pub room_none : (notes : Notes) (more : ℕ) → notes ≡ no_notes → more ≤ 1024 → HasRoom notes more
-room_none notes more e le =
-    subst (λ (n : Notes). HasRoom n more) (sym e) (record { originals = omega (arith, le); core0 = omega (arith, le); core1 = omega (arith, le); dma = omega (arith, le) })
-
-noted_one : (w : Setting) (s : State) → noted_by (wanted (begun s)) s.sram no_notes ≡ noted_in w (start_of s) no_notes s 1
-unfolding noted_in states
-noted_one w s = ap (λ (b : Begun). noted_by (wanted b) s.sram no_notes)
-    (sym (begun_alike w (start_of s) no_notes s (alike_first w s)))
-
-goes_one : (w : Setting) (s : State) → goes_first s ≡ true → GoesAsAlone w (start_of s) no_notes s 1
-unfolding noted_in states
-goes_one w s goes zero lt = goes_first_on w s ∙ goes
-goes_one w s goes (suc k) lt = absurd (omega arith)
-
--- and the first cycle goes
-pub begun_one : (w : Setting) (m : Notes) (s i : State) (notes : Notes) (marks before : List Mark) (b : Begun) (now' : State)
-    (notes' : Notes) (marks' : List Mark) → First s → IsBack m s i before notes marks → m ≡ no_notes → before ≡ []
-    → is_launching s.core1 ≡ false → 0 < longest w s → goes_first s ≡ true → b ≡ begun s → now' ≡ next_by w b (wanted b) i
-    → notes' ≡ noted_by (wanted b) i.sram notes → marks' ≡ marks ++ outer.marked w i.outer b.outer ∷ []
-    → GoneOver w (start_of s) s m before 1 now' notes' marks'
-begun_one w m s i notes marks before b now' notes' marks' first back none e_before calm lt goes e_begun e_now e_notes e_marks =
-    let start = start_of s in
-    let here : begun_from start no_notes s ≡ begun s = begun_alike w start no_notes s (alike_first w s) in
-    let is_now : now' ≡ next_by w (begun s) (wanted (begun s)) s = e_now ∙ rw (back.state, e_begun) refl in
-    let marked : marks' ≡ outer.marked w s.outer (begun s).outer ∷ [] =
-    e_marks ∙ rw (back.marked, back.state, e_before, e_begun) refl in
-    let noted : notes' ≡ noted_by (wanted (begun s)) s.sram no_notes =
-    e_notes ∙ rw (back.state, back.noted, none, e_begun) refl in
-    let p = passes_later w s 0 s start no_notes [] true now' notes' marks' (passes_none w s first) calm lt
-    (sym (goes_first_on w s ∙ goes)) refl (is_now ∙ ap (λ (x : Begun). next_by w x (wanted x) s) (sym here))
-    (marked ∙ ap (λ (x : Begun). outer.marked w s.outer x.outer ∷ []) (sym here))
-    (noted ∙ ap (λ (x : Begun). noted_by (wanted x) s.sram no_notes) (sym here)) in
-    rw (none, e_before) (record {
-      state = p.stands.is_states;
-      goes = goes_one w s goes;
-      noted = noted ∙ noted_one w s;
-      marked = p.stands.is_marks;
-    })

@@ -22,7 +22,7 @@ use Rattle.rp_machine.specs.declared.deed.Deed.{Deed}
 use Rattle.rp_machine.specs.declared.deed.Deed.TheVariants as deed
 use Rattle.rp_machine.specs.State.{State}
 use Rattle.rp_machine.specs.Answers.{answer_of}
-use Rattle.rp_machine.specs.Cycle.{begun, wanted, stored, next_by, mark}
+use Rattle.rp_machine.specs.Cycle.{wanted, stored, next_by, mark}
 use Rattle.rp_machine.specs.Run.{states}
 use Rattle.rp_machine.proofs.Joining.{runs_follow}
 use Rattle.window_merge.specs.Lanes.{core_lane, dma_lane, pio_lane, peripheral_lane, around, is_launching, core1_bound, runs_of}
@@ -45,7 +45,7 @@ use Rattle.window_merge.proofs.Noting.{Restores, undoes_on, own_on, still, sight
 use Rattle.window_merge.proofs.Reading.{read_only}
 use Rattle.window_merge.proofs.Starting.{guess_is, around_over, stored_sram}
 use Rattle.window_merge.proofs.Windows.{AreOn, Stands, AreTold, Tries, all_told, stands_first, fitted, stands_next, ends_tried}
-use Rattle.window_merge.proofs.Windows.{ends_run, ends_full, they_end, short}
+use Rattle.window_merge.proofs.Windows.{ends_run, ends_full, is_window, they_end, short}
 
 -- ---- one lane
 
@@ -194,15 +194,15 @@ never_by false true c e = absurd (cc e)
 never_by false false c e = refl
 
 -- where it is not, the window closes there
-closed : (w : Setting) (s : State) (k : ℕ) (now : State) (rests : Rests) (marks : List Mark) (b : Begun) (d goes : Bool)
+closed : (w : Setting) (s : State) (k : ℕ) (now : State) (rests : Rests) (marks : List Mark) (b : Begun) (d : Bool)
     → Stands w s k now rests marks → Begins w s k now b → (AreTold w s k now rests → differs_by rests now ≡ d)
-    → is_launching s.core1 ≡ false → k < longest w s → goes ≡ not (d || not (goes_by b)) → goes ≡ false → k ≡ window_length w s
-closed w s k now rests marks b d goes t h differ calm lt e is_false = elim (cases_Bool (ends_wanted (wanted b))) [
+    → is_launching s.core1 ≡ false → k < longest w s → not (d || not (goes_by b)) ≡ false → k ≡ window_length w s
+closed w s k now rests marks b d t h differ calm lt e = elim (cases_Bool (ends_wanted (wanted b))) [
   | inl ends ↦ ends_run w s k now rests marks t lt (run_ends w s k now rests marks b t h ends)
   | inr none ↦
       let r = tried w s k now rests marks b d t h differ calm lt none in
-      ends_tried w s k now rests marks goes r.goes
-      (e ∙ kept_by d (ends_wanted (wanted b)) (clash (wants_of b)) none ∙ sym r.fitting) is_false
+      ends_tried w s k now rests marks r.goes
+      (r.fitting ∙ sym (kept_by d (ends_wanted (wanted b)) (clash (wants_of b)) none) ∙ e)
 ]
 
 -- where it is, the machine goes on
@@ -210,27 +210,23 @@ record GoneOn (w : Setting) (s : State) (k : ℕ) (now : State) (b : Begun) (now
   rests : Rests
   stands : Stands w s (k + 1) now' rests marks'
   calm : IsCalm b now
-  is_next : now' ≡ next_by w b (wanted b) now
 
-gone_on : (w : Setting) (s : State) (k : ℕ) (now : State) (rests : Rests) (marks : List Mark) (b : Begun) (d goes : Bool) (now' : State) (marks' : List Mark)
-    → Stands w s k now rests marks → Begins w s k now b
+gone_on : (w : Setting) (s : State) (k : ℕ) (now : State) (rests : Rests) (marks : List Mark) (b : Begun) (d : Bool) (now' : State)
+    (marks' : List Mark) → Stands w s k now rests marks → Begins w s k now b
     → (AreTold w s k now rests → differs_by rests now ≡ d) → is_launching s.core1 ≡ false → k < longest w s
-    → goes ≡ not (d || not (goes_by b)) → goes ≡ true
-    → now' ≡ (if goes then next_by w b (wanted b) now else now)
-    → marks' ≡ marks ++ (if goes then outer.marked w now.outer b.outer ∷ [] else [])
-    → GoneOn w s k now b now' marks'
-gone_on w s k now rests marks b d goes now' marks' t h differ calm lt e is_true e_now e_marks =
-    let none = never_by d (ends_wanted (wanted b)) (clash (wants_of b)) (sym e ∙ is_true) in
+    → not (d || not (goes_by b)) ≡ true → now' ≡ next_by w b (wanted b) now
+    → marks' ≡ marks ++ outer.marked w now.outer b.outer ∷ [] → GoneOn w s k now b now' marks'
+gone_on w s k now rests marks b d now' marks' t h differ calm lt e e_now e_marks =
+    let none = never_by d (ends_wanted (wanted b)) (clash (wants_of b)) e in
     let r = tried w s k now rests marks b d t h differ calm lt none in
-    let fitting : goes ≡ fits rests now = e ∙ kept_by d (ends_wanted (wanted b)) (clash (wants_of b)) none ∙ sym r.fitting in
-    let f = fitted w s k now rests marks r.goes (sym fitting ∙ is_true) in
+    let fitting : fits rests now ≡ true = r.fitting ∙ sym (kept_by d (ends_wanted (wanted b)) (clash (wants_of b)) none) ∙ e in
+    let f = fitted w s k now rests marks r.goes fitting in
     record {
       rests = left_by rests now;
-      stands = stands_next w s k now rests marks goes now' (left_by rests now) marks' r.goes fitting is_true
-          (subst (λ (x : Begun). now' ≡ (if goes then next_by w x (wanted x) now else now)) (sym r.same) e_now) refl
-          (subst (λ (x : Begun). marks' ≡ marks ++ (if goes then outer.marked w now.outer x.outer ∷ [] else [])) (sym r.same) e_marks);
+      stands = stands_next w s k now rests marks now' (left_by rests now) marks' r.goes fitting
+          (subst (λ (x : Begun). now' ≡ next_by w x (wanted x) now) (sym r.same) e_now) refl
+          (subst (λ (x : Begun). marks' ≡ marks ++ outer.marked w now.outer x.outer ∷ []) (sym r.same) e_marks);
       calm = subst (λ (x : Begun). IsCalm x now) (sym f.same ∙ r.same) f.calm;
-      is_next = e_now ∙ ap (λ (c : Bool). if c then next_by w b (wanted b) now else now) is_true;
     }
 
 -- ---- what is kept of the start
@@ -492,11 +488,13 @@ whole_talks w s = record {
   outer = whole_talk (peripheral_lane w) 5 s.outer s (longest w s);
 }
 
--- where the pass stands after k cycles
+-- where the pass stands after k cycles, which takes no word of a launcher
 pub record Passes (w : Setting) (s : State) (k : ℕ) (now : State) (start : Start) (notes : Notes) (marks : List Mark) : Type 0 where
   pub rests : Rests
   pub stands : Stands w s k now rests marks
   pub follows : Follows s k now start notes
+  pub launching : is_launching s.core1 ≡ false
+  pub first : k ≡ 0 → notes ≡ no_notes
 
 -- what is known at the window's start
 pub record First (s : State) : Type 0 where
@@ -504,17 +502,22 @@ pub record First (s : State) : Type 0 where
   pub knows : KnowsSio s
   pub long : length s.sram ≡ 67584
 
-pub passes_none : (w : Setting) (s : State) → First s → Passes w s 0 s (start_of s) no_notes []
-passes_none w s h = record {
+stands_none : (w : Setting) (s : State) → First s → Stands w s 0 s (whole_talks w s) []
+stands_none w s h = stands_first w s (whole_talks w s) [] h.free h.knows
+    (record { core0 = refl; core1 = refl; dma = refl; pio0 = refl; pio1 = refl; outer = refl }) refl
+
+pub passes_none : (w : Setting) (s : State) → First s → is_launching s.core1 ≡ false → Passes w s 0 s (start_of s) no_notes []
+passes_none w s h launching = record {
   rests = whole_talks w s;
-  stands = stands_first w s (whole_talks w s) [] h.free h.knows
-      (record { core0 = refl; core1 = refl; dma = refl; pio0 = refl; pio1 = refl; outer = refl }) refl;
+  stands = stands_none w s h;
   follows = follows_first s h.long;
+  launching = launching;
+  first = λ e. refl;
 }
 
 -- it stands at the limit
 pub closed_at_once : (w : Setting) (s : State) → First s → longest w s ≡ 0 → 0 ≡ window_length w s
-closed_at_once w s h e = let p = passes_none w s h in ends_full w s 0 s p.rests [] p.stands (sym e)
+closed_at_once w s h e = ends_full w s 0 s _ [] (stands_none w s h) (sym e)
 
 -- core 1 has a word of its launcher to take
 pub closed_launching : (w : Setting) (s : State) → First s → 0 < longest w s → is_launching s.core1 ≡ true → 0 ≡ window_length w s
@@ -522,27 +525,27 @@ closed_launching w s h lt e =
     let none : alone_length core_lane (around 1) tt s.core1 s.cycle s (core1_bound s (longest w s)) ≡ 0 =
     ap (λ (c : Bool). alone_length core_lane (around 1) tt s.core1 s.cycle s (if c then 0 else longest w s)) e
     ∙ no_cycles core_lane 1 s.core1 s in
-    let p = passes_none w s h in
-    ends_run w s 0 s p.rests [] p.stands lt (subst (λ j. ends_in (runs_of w s (longest w s)) j ≡ true) none (they_end w s).core1)
+    ends_run w s 0 s _ [] (stands_none w s h) lt
+    (subst (λ j. ends_in (runs_of w s (longest w s)) j ≡ true) none (they_end w s).core1)
 
-pub passes_later : (w : Setting) (s : State) (k : ℕ) (now : State) (start : Start) (notes : Notes) (marks : List Mark) (goes : Bool) (now' : State) (notes' : Notes) (marks' : List Mark)
-    → Passes w s k now start notes marks → is_launching s.core1 ≡ false → k < longest w s
-    → goes ≡ goes_on start notes now → goes ≡ true
-    → now' ≡ (if goes then next_by w (begun_from start notes now) (wanted (begun_from start notes now)) now else now)
-    → marks' ≡ marks ++ (if goes then outer.marked w now.outer (begun_from start notes now).outer ∷ [] else [])
-    → notes' ≡ (if goes then noted_by (wanted (begun_from start notes now)) now.sram notes else notes)
+pub passes_later : (w : Setting) (s : State) (k : ℕ) (now : State) (start : Start) (notes : Notes) (marks : List Mark) (now' : State)
+    (notes' : Notes) (marks' : List Mark) → Passes w s k now start notes marks → k < longest w s → goes_on start notes now ≡ true
+    → now' ≡ next_by w (begun_from start notes now) (wanted (begun_from start notes now)) now
+    → marks' ≡ marks ++ outer.marked w now.outer (begun_from start notes now).outer ∷ []
+    → notes' ≡ noted_by (wanted (begun_from start notes now)) now.sram notes
     → Passes w s (k + 1) now' start notes' marks'
-passes_later w s k now start notes marks goes now' notes' marks' p calm lt e_goes is_true e_now e_marks e_notes =
+passes_later w s k now start notes marks now' notes' marks' p lt goes e_now e_marks e_notes =
     let a = all_alone w s k now start notes p.follows in
     let b = begun_from start notes now in
     let h = begins_later w s k now start notes a in
-    let g = gone_on w s k now p.rests marks b (differs_from start notes now) goes now' marks' p.stands h (differs_later w s k now p.rests start notes a) calm lt e_goes is_true e_now e_marks in
-    let f = follows_by w s k now p.rests marks start notes b now' p.stands h p.follows g.calm g.is_next in
-    let e : notes' ≡ noted_by (wanted b) now.sram notes = e_notes ∙ ap (λ (c : Bool). if c then noted_by (wanted b) now.sram notes else notes) is_true in
+    let g = gone_on w s k now p.rests marks b (differs_from start notes now) now' marks' p.stands h (differs_later w s k now p.rests start notes a) p.launching lt goes e_now e_marks in
+    let f = follows_by w s k now p.rests marks start notes b now' p.stands h p.follows g.calm e_now in
     record {
       rests = g.rests;
       stands = g.stands;
-      follows = subst (λ (x : Notes). Follows s (k + 1) now' start x) (sym (e ∙ noted_all b now.sram notes)) f;
+      follows = subst (λ (x : Notes). Follows s (k + 1) now' start x) (sym (e_notes ∙ noted_all b now.sram notes)) f;
+      launching = p.launching;
+      first = λ e. absurd (omega (arith, e));
     }
 
 passes_at : (w : Setting) (s : State) (k k' : ℕ) (now now' : State) (start : Start) (notes : Notes) (marks marks' : List Mark) → Passes w s k now start notes marks → k ≡ k' → now ≡ now' → marks ≡ marks'
@@ -566,20 +569,19 @@ marks_follow w s now k (suc n) marks e e_marks =
 
 -- as far as each of them goes as the lanes go alone
 passes_along : (w : Setting) (s : State) (k : ℕ) (now : State) (start : Start) (notes : Notes) (marks : List Mark) (n j : ℕ)
-    → Passes w s k now start notes marks → is_launching s.core1 ≡ false → k + n ≤ longest w s → GoesAsAlone w start notes now n
-    → j ≤ n
+    → Passes w s k now start notes marks → k + n ≤ longest w s → GoesAsAlone w start notes now n → j ≤ n
     → Passes w s (k + j) (states w now j) start (noted_in w start notes now j) (marks ++ marks_in w now j)
 unfolding states noted_in marks_in
-passes_along w s k now start notes marks n zero h calm within goes le =
+passes_along w s k now start notes marks n zero h within goes le =
     let none : k ≡ k + 0 = omega arith in passes_at w s k (k + 0) now now start notes marks _ h none refl (sym (append-nil marks))
-passes_along w s k now start notes marks n (suc j) h calm within goes le =
-    let p = passes_along w s k now start notes marks n j h calm within goes (omega arith) in
+passes_along w s k now start notes marks n (suc j) h within goes le =
+    let p = passes_along w s k now start notes marks n j h within goes (omega arith) in
     let here = states w now j in
     let before = noted_in w start notes now j in
     let b = begun_from start before here in
-    let q = passes_later w s (k + j) here start before (marks ++ marks_in w now j) true (next_by w b (wanted b) here)
-    (noted_by (wanted b) here.sram before) ((marks ++ marks_in w now j) ++ outer.marked w here.outer b.outer ∷ []) p calm
-    (omega (arith, le, within)) (sym (goes j (omega arith))) refl refl refl refl in
+    let q = passes_later w s (k + j) here start before (marks ++ marks_in w now j) (next_by w b (wanted b) here)
+    (noted_by (wanted b) here.sram before) ((marks ++ marks_in w now j) ++ outer.marked w here.outer b.outer ∷ []) p
+    (omega (arith, le, within)) (goes j (omega arith)) refl refl refl in
     let more : k + j + 1 ≡ k + suc j = omega arith in
     passes_at w s (k + j + 1) (k + suc j) _ (states w now (suc j)) start (noted_by (wanted b) here.sram before) _ (marks ++ marks_in w now (suc j)) q more
     (q.stands.is_states ∙ ap (states w s) more ∙ states_follow w s now k (suc j) h.stands.is_states)
@@ -589,51 +591,44 @@ passes_along w s k now start notes marks n (suc j) h calm within goes le =
 pub along : {w : Setting} {s : State} {k : ℕ} {now : State} {start : Start} {notes : Notes} {marks : List Mark} {n : ℕ}
     {now' : State}
     {notes' : Notes} {marks' : List Mark} → Passes w s k now start notes marks
-    → GoneOver w start now notes marks n now' notes' marks' → is_launching s.core1 ≡ false → k + n ≤ longest w s
+    → GoneOver w start now notes marks n now' notes' marks' → k + n ≤ longest w s
     → Passes w s (k + n) now' start notes' marks'
-along {w} {s} {k} {now} {start} {notes} {marks} {n} p h calm within =
-    rw (h.state, h.noted, h.marked) (passes_along w s k now start notes marks n n p calm within h.goes (omega arith))
+along {w} {s} {k} {now} {start} {notes} {marks} {n} p h within =
+    rw (h.state, h.noted, h.marked) (passes_along w s k now start notes marks n n p within h.goes (omega arith))
 
 -- of which there were none
 pub along_none : {w : Setting} {s : State} {k : ℕ} {now : State} {start : Start} {notes : Notes} {marks : List Mark} {n : ℕ}
     {now' : State}
     {notes' : Notes} {marks' : List Mark} → Passes w s k now start notes marks
-    → GoneOver w start now notes marks n now' notes' marks' → is_launching s.core1 ≡ false → k < longest w s → n ≡ 0
+    → GoneOver w start now notes marks n now' notes' marks' → k < longest w s → n ≡ 0
     → Passes w s k now' start notes' marks'
-along_none {w} {s} {k} {now} {start} {notes} {marks} {n} {now'} {notes'} {marks'} p h calm lt none =
+along_none {w} {s} {k} {now} {start} {notes} {marks} {n} {now'} {notes'} {marks'} p h lt none =
     let same : k + n ≡ k = omega (arith, none) in
-    subst (λ (j : ℕ). Passes w s j now' start notes' marks') same (along p h calm (omega (arith, none, lt)))
+    subst (λ (j : ℕ). Passes w s j now' start notes' marks') same (along p h (omega (arith, none, lt)))
 
 -- from the window's start
-pub along_first : {w : Setting} {s : State} {start : Start} {none : Notes} {before : List Mark} {n : ℕ} {now : State}
-    {notes : Notes}
-    {marks : List Mark} → First s → GoneOver w (start_of s) s none before n now notes marks → is_launching s.core1 ≡ false
-    → n ≤ longest w s → start ≡ start_of s → none ≡ no_notes → before ≡ [] → Passes w s n now start notes marks
-along_first {w} {s} {start} {none} {before} {n} {now} {notes} {marks} first h calm le e_start e_none e_before =
-    let gone : GoneOver w (start_of s) s no_notes [] n now notes marks = rw (e_none, e_before) at h in
+pub along_first : {w : Setting} {s : State} {n : ℕ} {now : State} {notes : Notes} {marks : List Mark} → First s
+    → GoneOver w (start_of s) s no_notes [] n now notes marks → is_launching s.core1 ≡ false → n ≤ longest w s
+    → Passes w s n now (start_of s) notes marks
+along_first {w} {s} {n} {now} {notes} {marks} first gone launching le =
     let all : 0 + n ≡ n = omega arith in
-    rw e_start (subst (λ (k : ℕ). Passes w s k now (start_of s) notes marks) all
-    (along (passes_none w s first) gone calm (omega (arith, le))))
+    subst (λ (k : ℕ). Passes w s k now (start_of s) notes marks) all
+    (along (passes_none w s first launching) gone (omega (arith, le)))
 
 -- what is left of a window ends at the limit at the latest
-pub within_limit : (w : Setting) (s : State) (cycle k left : ℕ) → s.cycle ≤ w.limit → cycle ≡ s.cycle + k → k + left ≤ longest w s → cycle + left ≤ w.limit
-within_limit w s cycle k left limit at le = let fits = short w s in omega (arith, fits, limit, at, le)
+pub within_limit : (w : Setting) (s : State) (cycle k left : ℕ) → cycle ≡ s.cycle + k → k + left ≤ longest w s → 0 < left
+    → cycle + left ≤ w.limit
+within_limit w s cycle k left at le some = let fits = short w s in omega (arith, fits, at, le, some)
 
-pub closed_later : (w : Setting) (s : State) (k : ℕ) (now : State) (start : Start) (notes : Notes) (marks : List Mark) (goes : Bool)
-    → Passes w s k now start notes marks → is_launching s.core1 ≡ false → k < longest w s
-    → goes ≡ goes_on start notes now → goes ≡ false → k ≡ window_length w s
-closed_later w s k now start notes marks goes p calm lt e_goes is_false =
+pub closed_later : (w : Setting) (s : State) (k : ℕ) (now : State) (start : Start) (notes : Notes) (marks : List Mark)
+    → Passes w s k now start notes marks → k < longest w s → goes_on start notes now ≡ false → k ≡ window_length w s
+closed_later w s k now start notes marks p lt e =
     let a = all_alone w s k now start notes p.follows in
-    closed w s k now p.rests marks (begun_from start notes now) (differs_from start notes now) goes p.stands (begins_later w s k now start notes a) (differs_later w s k now p.rests start notes a) calm lt e_goes is_false
+    closed w s k now p.rests marks (begun_from start notes now) (differs_from start notes now) p.stands (begins_later w s k now start notes a) (differs_later w s k now p.rests start notes a) p.launching lt e
 
 pub closed_full : {w : Setting} {s : State} {k : ℕ} {now : State} {start : Start} {notes : Notes} {marks : List Mark}
     → Passes w s k now start notes marks → k ≡ longest w s → IsWindow w s k now marks
-closed_full {w} {s} {k} {now} {start} {notes} {marks} p e = record {
-  length = ends_full w s k now p.rests marks p.stands e;
-  state = p.stands.is_states;
-  number = p.stands.at;
-  marked = p.stands.is_marks;
-}
+closed_full {w} {s} {k} {now} {start} {notes} {marks} p e = is_window p.stands (ends_full w s k now p.rests marks p.stands e)
 
 -- there is room for the notes of so many more cycles
 pub has_room : (s : State) (k : ℕ) (now : State) (start : Start) (notes : Notes) (n more : ℕ) → Follows s k now start notes → k + n ≤ 256 → more ≤ 3 * n → HasRoom notes more

@@ -163,7 +163,7 @@ quiet_window w s n i h long le =
     let goes : GoesAsAlone w (start_of t) no_notes t 256 = subst (λ (x : Start). GoesAsAlone w x no_notes t 256) (sym start) (waits_as_alone w no_notes s n i 256 h le) in
     let gone : GoneOver w (start_of t) t no_notes [] 256 (states w t 256) (noted_in w (start_of t) no_notes t 256) (marks_in w t 256) =
     record { state = refl; goes = goes; noted = refl; marked = refl } in
-    sym (closed_full (along_first first gone calm (omega (arith, whole)) refl refl refl) (sym whole)).length
+    sym (closed_full (along_first first gone calm (omega (arith, whole))) (sym whole)).length
 
 pub no_window : (w : Setting) (s : State) → AreQuietWindows w s 0
 no_window w s = record { quiet = quiet_none w s; free = λ k lt. absurd (omega (arith, lt)); whole = λ k lt. absurd (omega (arith, lt)) }

@@ -30,6 +30,7 @@ use Rattle.window_merge.specs.Window.{longest, ends_in, differs_in, clash, clash
 use Rattle.window_merge.specs.declared.runs.Runs.{Runs}
 use Rattle.rp_machine.specs.Laws.{KnowsSio}
 use Rattle.window_merge.specs.Merging.{Rests, begun_by, left_by, differs_by, wants_of, fits, marks_in, AreRunsAlone, IsWithin, rests_at, end_at}
+use Rattle.window_merge.specs.Inward.{IsWindow}
 use Rattle.window_merge.proofs.Agree.{six_false, itself}
 use Rattle.window_merge.proofs.Calm.{AreCalm, IsCalm, IsStepped, calm_next}
 use Rattle.window_merge.proofs.Comparing.{clash_four}
@@ -298,18 +299,14 @@ fitted w s k now rests marks t e =
       runs = runs_on w now ne calm.calm;
     }
 
-pub stands_next : (w : Setting) (s : State) (k : ℕ) (now : State) (rests : Rests) (marks : List Mark) (fitting : Bool)
-    (now' : State) (rests' : Rests) (marks' : List Mark) → Tries w s k now rests marks → fitting ≡ fits rests now → fitting ≡ true
-    → now' ≡ (if fitting then next_by w (begun_by rests now) (wanted (begun_by rests now)) now else now)
-    → rests' ≡ left_by rests now
-    → marks' ≡ marks ++ (if fitting then outer.marked w now.outer (begun_by rests now).outer ∷ [] else [])
-    → Stands w s (k + 1) now' rests' marks'
+pub stands_next : (w : Setting) (s : State) (k : ℕ) (now : State) (rests : Rests) (marks : List Mark) (now' : State) (rests' : Rests)
+    (marks' : List Mark) → Tries w s k now rests marks → fits rests now ≡ true
+    → now' ≡ next_by w (begun_by rests now) (wanted (begun_by rests now)) now → rests' ≡ left_by rests now
+    → marks' ≡ marks ++ outer.marked w now.outer (begun_by rests now).outer ∷ [] → Stands w s (k + 1) now' rests' marks'
 unfolding next mark
-stands_next w s k now rests marks fitting now' rests' marks' t is_fitting is_true e_if e_rests e_marks_if =
+stands_next w s k now rests marks now' rests' marks' t fitting e_now e_rests e_marks =
     let b = begun_by rests now in
-    let f = fitted w s k now rests marks t (sym is_fitting ∙ is_true) in
-    let e_now : now' ≡ next_by w b (wanted b) now = rw is_true at e_if in
-    let e_marks : marks' ≡ marks ++ outer.marked w now.outer b.outer ∷ [] = rw is_true at e_marks_if in
+    let f = fitted w s k now rests marks t fitting in
     let stepped = subst (IsStepped w b now) (sym e_now) (calm_next w b now (subst (λ b. IsCalm b now) (sym f.same) f.calm)) in
     let steps : Each w (λ S B l. l.of now' ≡ after_begun l.m tt (l.of now) (told (l.log rests) (tree l now))) = record {
       core0 = stepped.core0;
@@ -325,7 +322,7 @@ stands_next w s k now rests marks fitting now' rests' marks' t is_fitting is_tru
     let count = t.stands.few in
     let cycle = stepped.cycle in
     let runs_here : stop w (states w s k) ≡ None = ap (stop w) (sym t.stands.is_states) ∙ f.runs in
-    let goes_on : closes w s k ≡ false = closes_tried w s k now rests marks t ∙ ap not (sym is_fitting ∙ is_true) in
+    let goes_on : closes w s k ≡ false = closes_tried w s k now rests marks t ∙ ap not fitting in
     record {
       is_states = e_now ∙ ap (λ b. next_by w b (wanted b) now) f.same ∙ ap (next w) t.stands.is_states
           ∙ sym (states_next w s k runs_here);
@@ -345,12 +342,12 @@ stands_next w s k now rests marks fitting now' rests' marks' t is_fitting is_tru
 
 -- ---- the ways out of the loop
 
-pub ends_tried : (w : Setting) (s : State) (k : ℕ) (now : State) (rests : Rests) (marks : List Mark) (fitting : Bool)
-    → Tries w s k now rests marks → fitting ≡ fits rests now → fitting ≡ false → k ≡ window_length w s
+pub ends_tried : (w : Setting) (s : State) (k : ℕ) (now : State) (rests : Rests) (marks : List Mark) → Tries w s k now rests marks
+    → fits rests now ≡ false → k ≡ window_length w s
 unfolding window_length
-ends_tried w s k now rests marks fitting t is_fitting is_false =
+ends_tried w s k now rests marks t fitting =
     let below = t.below in
-    let ends : closes w s k ≡ true = closes_tried w s k now rests marks t ∙ ap not (sym is_fitting ∙ is_false) in
+    let ends : closes w s k ≡ true = closes_tried w s k now rests marks t ∙ ap not fitting in
     sym (is_least (closes w s) (longest w s) k (omega (arith, below)) t.stands.goes (λ lt. ends))
 
 pub ends_run : (w : Setting) (s : State) (k : ℕ) (now : State) (rests : Rests) (marks : List Mark) → Stands w s k now rests marks
@@ -364,6 +361,11 @@ pub ends_full : (w : Setting) (s : State) (k : ℕ) (now : State) (rests : Rests
 unfolding window_length
 ends_full w s k now rests marks t e =
     sym (is_least (closes w s) (longest w s) k (omega (arith, e)) t.goes (λ lt. absurd (omega (arith, e, lt))))
+
+-- where it ends it is the window
+pub is_window : {w : Setting} {s : State} {k : ℕ} {now : State} {rests : Rests} {marks : List Mark} → Stands w s k now rests marks
+    → k ≡ window_length w s → IsWindow w s k now marks
+is_window h e = record { length = e; state = h.is_states; number = h.at; marked = h.is_marks }
 
 -- ---- six reports
 
@@ -388,17 +390,14 @@ ends_as : (w : Setting) (s : State) (runs : Runs) (k : ℕ) → AreRunsAlone w s
 ends_as w s runs k h =
     rw (← h.core0.same_length, ← h.core1.same_length, ← h.dma.same_length, ← h.pio0.same_length, ← h.pio1.same_length, ← h.outer.same_length) refl
 
-pub ends_at_run : (w : Setting) (s : State) (runs : Runs) (k : ℕ) (now : State) (rests : Rests) (marks : List Mark) (ended : Bool)
-    → AreRunsAlone w s runs → Stands w s k now rests marks → k < longest w s → ended ≡ end_at runs k → ended ≡ true
-    → k ≡ window_length w s
-ends_at_run w s runs k now rests marks ended h t below e is_true =
-    ends_run w s k now rests marks t below (ends_as w s runs k h ∙ sym e ∙ is_true)
+pub ends_at_run : (w : Setting) (s : State) (runs : Runs) (k : ℕ) (now : State) (rests : Rests) (marks : List Mark)
+    → AreRunsAlone w s runs → Stands w s k now rests marks → k < longest w s → end_at runs k ≡ true → k ≡ window_length w s
+ends_at_run w s runs k now rests marks h t below e = ends_run w s k now rests marks t below (ends_as w s runs k h ∙ e)
 
-pub tries_at : (w : Setting) (s : State) (runs : Runs) (k : ℕ) (now : State) (rests : Rests) (marks : List Mark) (ended : Bool)
-    → AreRunsAlone w s runs → Stands w s k now rests marks → k < longest w s → ended ≡ end_at runs k → ended ≡ false
-    → Tries w s k now rests marks
-tries_at w s runs k now rests marks ended h t below e is_false =
-    record { stands = t; on = on_of w s k (ends_as w s runs k h ∙ sym e ∙ is_false); below = below }
+pub tries_at : (w : Setting) (s : State) (runs : Runs) (k : ℕ) (now : State) (rests : Rests) (marks : List Mark)
+    → AreRunsAlone w s runs → Stands w s k now rests marks → k < longest w s → end_at runs k ≡ false → Tries w s k now rests marks
+tries_at w s runs k now rests marks h t below e =
+    record { stands = t; on = on_of w s k (ends_as w s runs k h ∙ e); below = below }
 
 -- ---- at the length of each run alone a run ends
 

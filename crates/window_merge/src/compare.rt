@@ -1,16 +1,18 @@
 //! The lanes begin a cycle by their logs, and the answers are compared with the machine's.
 
-ghost use Rattle.std.specs.Prelude.{◌≡◌, ◌≤◌, not, length, drop};
+ghost use Rattle.std.specs.Prelude.{◌≡◌, ◌≤◌, ◌&&◌, not, length, drop};
 ghost use Rattle.lane_look.specs.Replay.{first_answer, told, left, talk};
 ghost use Rattle.lane_look.specs.Alone.{differs};
 ghost use Rattle.rp_machine.specs.Answers.{answer_of};
-ghost use Rattle.window_merge.specs.Merging.{next_index, begun_by, left_by, differs_by, rests_at, IsWithin};
+ghost use Rattle.window_merge.specs.Merging.{next_index, begun_by, left_by, differs_by, fits, rests_at, IsWithin};
 
+use crate::merge::clash;
 use crate::runs::{Indices, Runs};
 use lane_look::{Ask, Device, Lane, Log, Look};
 use outer_lane::World;
 use rp_machine::Machine;
 use rp_machine::begun::Begun;
+use rp_machine::wanted::all_wanted;
 
 /// The answer of a log's next entry, 0 past the last, and the index behind it.
 #[inline(always)]
@@ -27,6 +29,7 @@ fn next_entry(log: &Log, index: u16) -> (u128, u16)
 }
 
 /// Answers a lane by a log, and keeps whether each answer is what the machine answers.
+#[derive(Drop)]
 struct Comparer<'a, 'b> {
     log: &'a Log,
     /// How many entries of the log are used.
@@ -59,17 +62,8 @@ impl<'a, 'b> Look for Comparer<'a, 'b> {
     }
 }
 
-/// What a lane has begun by a log.
-#[derive(Drop)]
-struct Compared<B> {
-    begun: B,
-    /// How many entries of the log are used.
-    index: u16,
-    /// Whether each answer is what the machine answers.
-    same: bool,
-}
-
-/// Begins a lane's cycle by the entries of a log from an index on, and compares the answers with the machine's.
+/// Begins a lane's cycle by the entries of a log from an index on, and compares the answers with the machine's: `same` stays where each is
+/// the same. The index is left behind the entries that were used.
 #[inline(always)]
 fn begin_compared<E, S: Lane<E>>(
     lane: &S,
@@ -77,124 +71,79 @@ fn begin_compared<E, S: Lane<E>>(
     number: u8,
     machine: &Machine,
     log: &Log,
-    index: u16,
-) -> Compared<S::Begun>
-    requires { index ≤ length log.now }
-    ensures begun { result.begun ≡ told (drop index log.now)
+    index: &mut u16,
+    same: &mut bool,
+) -> S::Begun
+    requires { index.old ≤ length log.now }
+    ensures begun { result ≡ told (drop index.old log.now)
         (S.asks env.now lane.now machine.now.cycle) }
-    ensures within { result.index ≤ length log.now }
-    ensures index { drop result.index log.now ≡ left (drop index log.now)
+    ensures within { index.new ≤ length log.now }
+    ensures index { drop index.new log.now ≡ left (drop index.old log.now)
         (S.asks env.now lane.now machine.now.cycle) }
-    ensures same { result.same ≡ not (differs
-        (answer_of number machine.now)
-        (talk (drop index log.now) (S.asks env.now lane.now machine.now.cycle))) }
+    ensures same { same.new ≡ (same.old && not (differs (answer_of number machine.now)
+        (talk (drop index.old log.now) (S.asks env.now lane.now machine.now.cycle)))) }
 {
     let mut look = Comparer {
         log,
-        index,
+        index: *index,
         machine,
         lane: number,
-        same: true,
+        same: *same,
     };
     let begun = lane.begin(env, machine.at, &mut look);
-    let Comparer {
-        log: _log,
-        index,
-        machine: _machine,
-        lane: _lane,
-        same,
-    } = look;
-    Compared { begun, index, same }
+    *index = look.index;
+    *same = look.same;
+    begun
 }
 
-/// What the six lanes have begun by their logs.
-#[derive(Drop)]
-pub(crate) struct Comparison {
-    pub(crate) begun: Begun,
-    pub(crate) indices: Indices,
-    /// Whether each answer is what the machine answers.
-    pub(crate) same: bool,
-}
-
-/// Begins the cycle of all lanes by their logs, and compares each answer with the machine's.
-pub(crate) fn compare<X: Device>(
+/// Begins the cycle of all lanes by their logs, in the place of what they began before, and says whether each answer is the machine's.
+#[inline(always)]
+fn compare<X: Device>(
     machine: &Machine,
     world: &World<'_, X>,
     runs: &Runs<'_>,
-    indices: &Indices,
-) -> Comparison
-    requires { IsWithin runs.now indices.now }
-    ensures begun { result.begun ≡ begun_by (rests_at runs.now indices.now) machine.now }
-    ensures within { IsWithin runs.now result.indices }
-    ensures indices { rests_at runs.now result.indices ≡ left_by (rests_at runs.now indices.now)
-        machine.now }
-    ensures same { result.same ≡ not (differs_by (rests_at runs.now indices.now) machine.now) }
+    at: &mut Indices,
+    lanes: &mut Begun,
+) -> bool
+    requires { IsWithin runs.now at.old }
+    ensures begun { lanes.new ≡ begun_by (rests_at runs.now at.old) machine.now }
+    ensures within { IsWithin runs.now at.new }
+    ensures indices { rests_at runs.now at.new ≡ left_by (rests_at runs.now at.old) machine.now }
+    ensures same { result ≡ not (differs_by (rests_at runs.now at.old) machine.now) }
 {
-    let core0 = begin_compared(
-        &machine.core0,
-        &(),
-        0,
-        machine,
-        &runs.core0.log,
-        indices.core0,
-    );
-    let core1 = begin_compared(
-        &machine.core1,
-        &(),
-        1,
-        machine,
-        &runs.core1.log,
-        indices.core1,
-    );
-    let dma = begin_compared(
-        &machine.dma.block,
-        &(),
-        2,
-        machine,
-        &runs.dma.log,
-        indices.dma,
-    );
-    let pio0 = begin_compared(
-        &machine.pio0.block,
-        &(),
-        3,
-        machine,
-        &runs.pio0.log,
-        indices.pio0,
-    );
-    let pio1 = begin_compared(
-        &machine.pio1.block,
-        &(),
-        4,
-        machine,
-        &runs.pio1.log,
-        indices.pio1,
-    );
-    let outer = begin_compared(
-        &machine.outer,
-        world,
-        5,
-        machine,
-        &runs.outer.log,
-        indices.outer,
-    );
-    Comparison {
-        same: core0.same && core1.same && dma.same && pio0.same && pio1.same && outer.same,
-        begun: Begun {
-            core0: core0.begun,
-            core1: core1.begun,
-            dma: dma.begun,
-            pio0: pio0.begun,
-            pio1: pio1.begun,
-            outer: outer.begun,
-        },
-        indices: Indices {
-            core0: core0.index,
-            core1: core1.index,
-            dma: dma.index,
-            pio0: pio0.index,
-            pio1: pio1.index,
-            outer: outer.index,
-        },
-    }
+    let m = machine;
+    let mut same = true;
+    let log = &runs.core0.log;
+    lanes.core0 = begin_compared(&m.core0, &(), 0, m, log, &mut at.core0, &mut same);
+    let log = &runs.core1.log;
+    lanes.core1 = begin_compared(&m.core1, &(), 1, m, log, &mut at.core1, &mut same);
+    let log = &runs.dma.log;
+    lanes.dma = begin_compared(&m.dma.block, &(), 2, m, log, &mut at.dma, &mut same);
+    let log = &runs.pio0.log;
+    lanes.pio0 = begin_compared(&m.pio0.block, &(), 3, m, log, &mut at.pio0, &mut same);
+    let log = &runs.pio1.log;
+    lanes.pio1 = begin_compared(&m.pio1.block, &(), 4, m, log, &mut at.pio1, &mut same);
+    let log = &runs.outer.log;
+    lanes.outer = begin_compared(&m.outer, world, 5, m, log, &mut at.outer, &mut same);
+    same
+}
+
+/// Begins so the cycle of all lanes, and says whether it is one of the window: each answer is the machine's, and no two accesses name one
+/// port.
+pub(crate) fn begin_logged<X: Device>(
+    machine: &Machine,
+    world: &World<'_, X>,
+    runs: &Runs<'_>,
+    at: &mut Indices,
+    lanes: &mut Begun,
+) -> bool
+    requires { IsWithin runs.now at.old }
+    ensures begun { lanes.new ≡ begun_by (rests_at runs.now at.old) machine.now }
+    ensures within { IsWithin runs.now at.new }
+    ensures indices { rests_at runs.now at.new ≡ left_by (rests_at runs.now at.old) machine.now }
+    ensures fits { result ≡ fits (rests_at runs.now at.old) machine.now }
+{
+    let same = compare(machine, world, runs, at, lanes);
+    let wants = all_wanted(lanes);
+    same && !clash(lanes, &wants)
 }

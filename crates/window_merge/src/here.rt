@@ -1,21 +1,19 @@
 //! A window on one thread: one pass of the machine's own cycles, in which each lane is answered as the start answers it.
 
-ghost use Rattle.std.specs.Prelude.{◌≡◌, ◌+◌, ◌^◌, ◌<◌, ◌≤◌, [], false, true};
+ghost use Rattle.std.specs.Prelude.{◌≡◌, ◌+◌, ◌^◌, ◌<◌, ◌≤◌, [], false};
 ghost use Rattle.outer_lane.specs.Setting.{setting};
 ghost use Rattle.bus_fabric.specs.State.{has_hold};
 ghost use Rattle.rp_machine.specs.Cycle.{begun};
 ghost use Rattle.rp_machine.specs.Run.{states};
 ghost use Rattle.window_merge.specs.Lanes.{is_launching};
-ghost use Rattle.window_merge.specs.Notes.{no_notes};
-ghost use Rattle.window_merge.specs.Start.{start_of, goes_first};
-ghost use Rattle.window_merge.specs.Inward.{GoneOver, IsWindow};
+ghost use Rattle.window_merge.specs.Inward.{IsWindow};
 ghost use Rattle.window_merge.specs.Window.{longest, window_length};
 ghost use Rattle.window_merge.specs.Merging.{marks_in};
 
-use crate::inward::{go_inward, go_inward_later};
+use crate::inward::go_inward_later;
 use crate::merge::{fact_copies_are_known, longest};
 use crate::notes::Notes;
-use crate::pass::{goes_by, is_launching, step_noted, try_later};
+use crate::pass::{goes_by, is_launching, try_later};
 use crate::start::Start;
 use lane_look::{Device, Marks};
 use outer_lane::World;
@@ -25,47 +23,8 @@ use rp_machine::wanted::all_wanted;
 use rp_machine::{Machine, Steps};
 use std::sync::ledger::Ledger;
 
-/// Begins a window of at most so many cycles, the first of which goes: it goes over them as long as nobody has anything to do, or core 0
-/// alone is at work in SRAM beside lanes that are quiet, and else does one. Gives how many it has gone over. `lanes` has what the lanes
-/// begin in the first one.
-#[inline(never)]
-fn begin<X: Device, L: Ledger>(
-    machine: &mut Machine,
-    world: &World<'_, X>,
-    notes: &mut Notes,
-    lanes: &Begun,
-    most: u16,
-    marks: &mut Marks,
-    steps: &mut Steps<L>,
-) -> u16
-    requires some { 0 < most }
-    requires most { most ≡ longest (setting X.meaning world.now) machine.old }
-    requires limit { machine.old.cycle ≤ world.now.limit }
-    requires number { machine.old.cycle + most < 2 ^ 64 }
-    requires none { notes.old ≡ no_notes }
-    requires marks { marks.old ≡ [] }
-    requires free { has_hold machine.old.fabric ≡ false }
-    requires launching { is_launching machine.old.core1 ≡ false }
-    requires begun { lanes.now ≡ begun machine.old }
-    requires goes { goes_first machine.old ≡ true }
-    ensures some { 0 < result }
-    ensures most { result ≤ most }
-    ensures gone { GoneOver (setting X.meaning world.now) (start_of machine.old) machine.old
-        notes.old marks.old result machine.new notes.new marks.new }
-    ensures steps { steps.new ≡ steps.old + result }
-{
-    fact_copies_are_known(machine);
-    let done = go_inward(machine, world, notes, most, marks, steps);
-    if done > 0 {
-        return done;
-    }
-    step_noted(machine, world, notes, lanes, &all_wanted(lanes), marks);
-    steps.tick();
-    1
-}
-
-/// Moves the machine by a window of at most so many cycles, the first of which goes. Gives how many it has. `lanes` has what the
-/// lanes begin in the next cycle, before and after.
+/// Moves the machine by a window of at most so many cycles. Gives how many it has. `lanes` has what the lanes begin in the next cycle, before
+/// and after.
 #[inline(never)]
 fn go<X: Device, L: Ledger>(
     machine: &mut Machine,
@@ -77,14 +36,11 @@ fn go<X: Device, L: Ledger>(
     steps: &mut Steps<L>,
 ) -> u16
     requires number { machine.old.cycle + most < 2 ^ 64 }
-    requires limit { machine.old.cycle ≤ world.now.limit }
-    requires some { 0 < most }
     requires most { most ≡ longest (setting X.meaning world.now) machine.old }
     requires marks { marks.old ≡ [] }
     requires free { has_hold machine.old.fabric ≡ false }
     requires launching { is_launching machine.old.core1 ≡ false }
     requires begun { lanes.old ≡ begun machine.old }
-    requires goes { goes_first machine.old ≡ true }
     ensures window { IsWindow (setting X.meaning world.now) machine.old result machine.new
         marks.new }
     ensures steps { steps.new ≡ steps.old + result }
@@ -94,8 +50,7 @@ fn go<X: Device, L: Ledger>(
     let start = Start::of(machine);
     let mut pace = Pace::default();
     notes.clear();
-    let mut k = begin(machine, world, notes, lanes, most, marks, steps);
-    pace.note(machine.number(), 0);
+    let mut k = 0;
     'cycles: while k < most {
         let left = most - k;
         let more = go_inward_later(machine, world, &start, notes, &mut pace, left, marks, steps);
@@ -103,7 +58,7 @@ fn go<X: Device, L: Ledger>(
             k += more;
             continue 'cycles;
         }
-        if !try_later(machine, world, &start, notes, lanes, marks) {
+        if !try_later(machine, world, &start, notes, k, lanes, marks) {
             return k;
         }
         steps.tick();

@@ -1,21 +1,20 @@
 //! A window: six runs alone, kept as far as they go the machine's way.
 
-ghost use Rattle.std.specs.Prelude.{◌≡◌, ◌+◌, ◌-◌, ◌^◌, ◌<◌, ◌≤◌, ◌++◌, ◌∷◌, ◌||◌, [], false, if◌then◌else◌, length};
+ghost use Rattle.std.specs.Prelude.{◌≡◌, ◌+◌, ◌-◌, ◌^◌, ◌<◌, ◌≤◌, ◌||◌, false, length};
 ghost use Rattle.outer_lane.specs.Setting.{setting};
-ghost use Rattle.outer_lane.specs.Step.{marked};
 ghost use Rattle.bus_fabric.specs.State.{has_hold};
-ghost use Rattle.rp_machine.specs.Cycle.{wanted, next_by};
+ghost use Rattle.rp_machine.specs.Cycle.{wanted};
 ghost use Rattle.rp_machine.specs.Laws.{KnowsSio};
 ghost use Rattle.rp_machine.specs.Run.{states};
 ghost use Rattle.window_merge.specs.Window.{is_port_of, clash, longest, window_length};
-ghost use Rattle.window_merge.specs.Merging.{AreRunsAlone, IsWithin, rests_at, begun_by, left_by, wants_of, fits, marks_in};
+ghost use Rattle.window_merge.specs.Merging.{AreRunsAlone, wants_of, marks_in};
 
-use crate::compare::{Comparison, compare};
+use crate::compare::begin_logged;
 use crate::runs::{Indices, Runs};
 use lane_look::{Device, Marks};
 use outer_lane::World;
 use rp_machine::begun::Begun;
-use rp_machine::wanted::{Wanted, all_wanted};
+use rp_machine::wanted::Wanted;
 use rp_machine::{Machine, Steps, asked_of};
 use std::sync::ledger::Ledger;
 
@@ -62,42 +61,6 @@ pub(crate) fn clash(begun: &Begun, wants: &[Wanted; 4]) -> bool
     any_shared(core0, core1, read, write)
 }
 
-/// One cycle of a window, where each logged answer is what the machine answers and no two accesses name one port. Otherwise
-/// the machine and the marks stay.
-fn try_cycle<X: Device>(
-    machine: &mut Machine,
-    world: &World<'_, X>,
-    runs: &Runs<'_>,
-    indices: &mut Indices,
-    marks: &mut Marks,
-) -> bool
-    requires number { machine.old.cycle < 2 ^ 64 - 1 }
-    requires marks { length marks.old < 256 }
-    requires within { IsWithin runs.now indices.old }
-    ensures fits { result ≡ fits (rests_at runs.now indices.old) machine.old }
-    ensures within { IsWithin runs.now indices.new }
-    ensures indices { rests_at runs.now indices.new ≡ left_by (rests_at runs.now indices.old)
-        machine.old }
-    ensures state { machine.new ≡ (if result then next_by (setting X.meaning world.now) (begun_by
-        (rests_at runs.now indices.old) machine.old) (wanted (begun_by (rests_at runs.now
-        indices.old) machine.old)) machine.old else machine.old) }
-    ensures marks { marks.new ≡ marks.old ++ (if result then marked (setting X.meaning world.now)
-        machine.old.outer (begun_by (rests_at runs.now indices.old) machine.old).outer ∷ [] else []) }
-{
-    let Comparison {
-        begun,
-        indices: used,
-        same,
-    } = compare(machine, world, runs, indices);
-    *indices = used;
-    let wants = all_wanted(&begun);
-    let fits = same && !clash(&begun, &wants);
-    if fits {
-        machine.step(world, &begun, marks);
-    }
-    fits
-}
-
 /// How many cycles a window may have.
 pub(crate) fn longest<X: Device>(machine: &Machine, world: &World<'_, X>) -> u16
     requires { machine.now.cycle ≤ world.now.limit }
@@ -139,13 +102,15 @@ pub fn merge_runs<X: Device, L: Ledger>(
     marks.clear();
     let longest = longest(machine, world);
     let mut indices = Indices::first();
+    let mut lanes = Begun::nothing();
     for k in 0..longest {
         if runs.end_at(k) {
             return k;
         }
-        if !try_cycle(machine, world, runs, &mut indices, marks) {
+        if !begin_logged(machine, world, runs, &mut indices, &mut lanes) {
             return k;
         }
+        machine.step(world, &lanes, marks);
         steps.tick();
     }
     longest

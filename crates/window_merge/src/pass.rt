@@ -1,13 +1,13 @@
 //! The cycles of a window on one thread: each is the machine's own, and is kept where it goes as the lanes would go alone.
 
-ghost use Rattle.std.specs.Prelude.{◌≡◌, ◌-◌, ◌^◌, ◌<◌, ◌++◌, ◌∷◌, [], if◌then◌else◌, length};
+ghost use Rattle.std.specs.Prelude.{◌≡◌, ◌-◌, ◌^◌, ◌<◌, ◌++◌, ◌∷◌, [], false, if◌then◌else◌, length};
 ghost use Rattle.outer_lane.specs.Setting.{setting};
 ghost use Rattle.outer_lane.specs.Step.{marked};
 ghost use Rattle.rp_machine.specs.Alone.{is_first_alone};
 ghost use Rattle.rp_machine.specs.Cycle.{begun, wanted, next_by};
 ghost use Rattle.window_merge.specs.Lanes.{is_launching};
 ghost use Rattle.window_merge.specs.Notes.{noted_by, HasRoom};
-ghost use Rattle.window_merge.specs.Start.{begun_from, ends_wanted, goes_by, goes_on};
+ghost use Rattle.window_merge.specs.Start.{begun_from, differs_from, ends_wanted, goes_by, goes_on};
 
 use crate::merge::clash;
 use crate::notes::Notes;
@@ -62,7 +62,7 @@ pub(crate) fn goes_by(lanes: &Begun, wants: &[Wanted; 4]) -> bool
 
 /// Does a cycle in which the lanes begin this and want that, and notes first what the masters write.
 #[inline(always)]
-pub(crate) fn step_noted<X: Device>(
+fn step_noted<X: Device>(
     machine: &mut Machine,
     world: &World<'_, X>,
     notes: &mut Notes,
@@ -84,17 +84,21 @@ pub(crate) fn step_noted<X: Device>(
     machine.step(world, lanes, marks);
 }
 
-/// A later cycle of a window, where each answer of the start is what the machine answers, no run alone ends and no two accesses
-/// name one port. Otherwise the machine, the notes and the marks stay. What the lanes begin is left in `lanes`.
+/// A cycle of a window of which so many are over, where each answer of the start is what the machine answers, no run alone ends and no two
+/// accesses name one port. Otherwise the machine, the notes and the marks stay. What the lanes begin is left in `lanes`, where it stands
+/// already in the first one.
 #[inline(never)]
 pub(crate) fn try_later<X: Device>(
     machine: &mut Machine,
     world: &World<'_, X>,
     start: &Start,
     notes: &mut Notes,
+    k: u16,
     lanes: &mut Begun,
     marks: &mut Marks,
 ) -> bool
+    requires first { k ≡ 0 → lanes.old ≡ begun machine.old }
+    requires same { k ≡ 0 → differs_from start.now notes.old machine.old ≡ false }
     requires number { machine.old.cycle < 2 ^ 64 - 1 }
     requires marks { length marks.old < 256 }
     requires room { HasRoom notes.old 3 }
@@ -109,9 +113,7 @@ pub(crate) fn try_later<X: Device>(
         else notes.old) }
     ensures begun { lanes.new ≡ begun machine.old }
 {
-    let mut same = true;
-    begin_later(machine, world, start, notes, lanes, &mut same);
-    if !same {
+    if !begin_later(machine, world, start, notes, k, lanes) {
         return false;
     }
     let wants = all_wanted(lanes);

@@ -1,6 +1,6 @@
 //! What the start of a window answers each lane, while the machine goes on; and looks that compare it with what the machine answers.
 
-ghost use Rattle.std.specs.Prelude.{◌≡◌, ◌&&◌, not};
+ghost use Rattle.std.specs.Prelude.{◌≡◌, ◌&&◌, false, not};
 ghost use Rattle.lane_look.specs.Asking.{Runs};
 ghost use Rattle.lane_look.specs.Replay.{asked};
 ghost use Rattle.lane_look.specs.Alone.{differs};
@@ -289,8 +289,8 @@ fn begin_outer<X: Device>(
     *same = look.same;
 }
 
-/// Begins the cycle of all lanes, in the place of what they began before, and compares each answer with that of the start: `same`
-/// stays where each is.
+/// Begins the cycle of all lanes, in the place of what they began before, and says whether each answer is that of the start. In the first
+/// cycle of a window this is so, and they have begun.
 #[inline(always)]
 #[tactic(auto, unfolding(rp_machine::specs::Cycle::begun))]
 pub(crate) fn begin_later<X: Device>(
@@ -298,17 +298,40 @@ pub(crate) fn begin_later<X: Device>(
     world: &World<'_, X>,
     start: &Start,
     notes: &Notes,
+    k: u16,
     lanes: &mut Begun,
-    same: &mut bool,
-)
+) -> bool
+    requires first { k ≡ 0 → lanes.old ≡ begun machine.now }
+    requires same { k ≡ 0 → differs_from start.now notes.now machine.now ≡ false }
     ensures begun { lanes.new ≡ begun machine.now }
-    ensures same { same.new ≡ (same.old && not (differs_from start.now notes.now machine.now)) }
+    ensures same { result ≡ not (differs_from start.now notes.now machine.now) }
 {
+    if k == 0 {
+        return true;
+    }
+    let mut same = true;
     let core0 = &mut lanes.core0;
-    begin_core(&machine.core0, 0, machine, start, notes, core0, same);
-    begin_core1(machine, start, notes, &mut lanes.core1, same);
-    begin_dma(machine, start, notes, &mut lanes.dma, same);
-    lanes.pio0 = begin_by(&machine.pio0.block, &(), 3, machine, start, notes, same);
-    lanes.pio1 = begin_by(&machine.pio1.block, &(), 4, machine, start, notes, same);
-    begin_outer(machine, world, start, notes, &mut lanes.outer, same);
+    begin_core(&machine.core0, 0, machine, start, notes, core0, &mut same);
+    begin_core1(machine, start, notes, &mut lanes.core1, &mut same);
+    begin_dma(machine, start, notes, &mut lanes.dma, &mut same);
+    lanes.pio0 = begin_by(
+        &machine.pio0.block,
+        &(),
+        3,
+        machine,
+        start,
+        notes,
+        &mut same,
+    );
+    lanes.pio1 = begin_by(
+        &machine.pio1.block,
+        &(),
+        4,
+        machine,
+        start,
+        notes,
+        &mut same,
+    );
+    begin_outer(machine, world, start, notes, &mut lanes.outer, &mut same);
+    same
 }

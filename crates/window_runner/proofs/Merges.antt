@@ -1,6 +1,6 @@
 -- The merge of six runs alone is a window.
 use Rattle.std.proofs.Common.{◌≡◌, ◌≢◌, ℕ, zero, suc, ◌<◌, ◌≤◌, ◌||◌, Bool, true, false, not, inl, inr, List, [], ◌∷◌, ◌++◌, refl}
-use Rattle.std.proofs.Common.{ap, sym, ◌∙◌, add-one, arith}
+use Rattle.std.proofs.Common.{ap, ◌∙◌, add-one, arith}
 use Rattle.std.proofs.lemmas.Bool.Decides.{eqb_tells}
 use Rattle.std.proofs.lemmas.Bool.{not-false, not-true, or_parts}
 use Rattle.lane_look.specs.declared.marks.Mark.{Mark}
@@ -59,8 +59,8 @@ next_stands : (w : Setting) (s : State) (six : SixReports) (k : ℕ) (now : Stat
     → Stands w s (suc k) (next_by w (begun_by rests now) (wanted (begun_by rests now)) now) (left_by rests now)
     (marks ++ outer.marked w now.outer (begun_by rests now).outer ∷ [])
 next_stands w s six k now rests marks t e =
-    rw (← add-one) (stands_next w s k now rests marks true (next_by w (begun_by rests now) (wanted (begun_by rests now)) now)
-    (left_by rests now) (marks ++ outer.marked w now.outer (begun_by rests now).outer ∷ []) t (sym e) refl refl refl refl)
+    rw (← add-one) (stands_next w s k now rests marks (next_by w (begun_by rests now) (wanted (begun_by rests now)) now)
+    (left_by rests now) (marks ++ outer.marked w now.outer (begun_by rests now).outer ∷ []) t e refl refl refl)
 
 next_at : (w : Setting) (s : State) (six : SixReports) (k : ℕ) → AreRunsAlone w s six → AtCycle w s six k → merge_ends w six s k ≡ false
     → k < longest w s → AtCycle w s six (suc k)
@@ -88,8 +88,7 @@ ends_by : (w : Setting) (s : State) (six : SixReports) (k : ℕ) (now : State) (
 ends_by w s six k now rests marks true h stands lt e either =
     ends_run w s k now rests marks stands lt (ends_as w s six k h ∙ e)
 ends_by w s six k now rests marks false h stands lt e either =
-    ends_tried w s k now rests marks (fits rests now) (tries_at w s six k now rests marks h stands e lt) refl
-    (not-true (fits rests now) either)
+    ends_tried w s k now rests marks (tries_at w s six k now rests marks h stands e lt) (not-true (fits rests now) either)
 
 ends_here : (w : Setting) (s : State) (six : SixReports) (k : ℕ) → AreRunsAlone w s six → AtCycle w s six k → k < longest w s
     → merge_ends w six s k ≡ true → k ≡ window_length w s

@@ -1,25 +1,24 @@
-use Rattle.std.proofs.Common.{◌≡◌, ◌-◌, ◌*◌, ap, ◌∙◌, subst, arith}
+use Rattle.std.proofs.Common.{◌≡◌, ◌-◌, ◌*◌, ap, sym, ◌∙◌, subst, arith}
 use Rattle.std.proofs.lemmas.List.{append-nil}
 use Rattle.outer_lane.specs.Setting.{setting}
 use Rattle.rp_machine.specs.State.{State}
+use Rattle.rp_machine.specs.Cycle.{begun}
 use Rattle.window_merge.specs.Inward.{IsWindow}
 use Rattle.window_merge.proofs.Windows.{at_most}
-use Rattle.window_merge.proofs.Passing.{First, along_first, along, along_none, within_limit, closed_later, closed_full}
-use Rattle.window_merge.proofs.Passing.{passes_later, has_room}
+use Rattle.window_merge.proofs.Passing.{passes_none, along, along_none, within_limit, closed_later, closed_full, passes_later, has_room}
+use Rattle.window_merge.proofs.InwardCycles.{same_first}
 use Rattle.window_merge.proofs.here.go.Goals as goal
 
 pub cycles-init : goal.cycles-init
 cycles-init g c =
     let known = c.fact_copies_are_known.ensures in
-    let first : First c.args.machine.now = record { free = c.requires.free; knows = known.knows; long = known.sram } in
-    let few = c.begin-k.ensures.most in
-    let most = c.requires.most in
     record {
-      passes = along_first first c.begin-k.ensures.gone c.requires.launching (omega (arith, few, most)) c.of-start.ensures
-          c.clear.ensures
-          c.requires.marks;
-      within = few;
-      counted = c.begin-k.ensures.steps;
+      passes = rw (c.of-start.ensures, c.clear.ensures, c.requires.marks)
+          (passes_none (setting g.X.Device.meaning c.args.world.now) c.args.machine.now
+          (record { free = c.requires.free; knows = known.knows; long = known.sram }) c.requires.launching);
+      within = omega arith;
+      first = λ zero. c.requires.begun;
+      counted = omega arith;
     }
 
 pub go_inward_later-more-requires-clause-number : goal.go_inward_later-more-requires-clause-number
@@ -27,8 +26,7 @@ go_inward_later-more-requires-clause-number g c κs within =
     let below = c.cycles-test.true in
     let most = c.requires.most in
     within_limit (setting g.X.Device.meaning c.args.world.now) c.args.machine.now c.cycles.machine.cycle c.cycles.k
-    (c.args.most - c.cycles.k)
-    c.requires.limit c.cycles.invariant.passes.stands.at (omega (arith, below, most))
+    (c.args.most - c.cycles.k) c.cycles.invariant.passes.stands.at (omega (arith, below, most)) (omega (arith, below))
 
 pub go_inward_later-more-requires-clause-few : goal.go_inward_later-more-requires-clause-few
 go_inward_later-more-requires-clause-few g c κs within =
@@ -49,22 +47,39 @@ go_inward_later-more-requires-clause-room g c κs within =
 pub cycles-preserved-then-more-gt0 : goal.cycles-preserved-then-more-gt0
 cycles-preserved-then-more-gt0 g c =
     let m = c.go_inward_later-more.ensures in
+    let some = c.if-more-gt0.true in
     let few = m.most in
     let below = c.cycles-test.true in
     let most = c.requires.most in
     record {
-      passes = along c.cycles.invariant.passes m.gone c.requires.launching (omega (arith, few, below, most));
+      passes = along c.cycles.invariant.passes m.gone (omega (arith, few, below, most));
       within = omega (arith, few, below);
+      first = λ zero. absurd (omega (arith, zero, some));
       counted = let before = c.cycles.invariant.counted in let more = m.steps in omega (arith, before, more);
     }
+
+pub try_later-requires-clause-first : goal.try_later-requires-clause-first
+try_later-requires-clause-first g c κs within = λ zero.
+    let none = c.if-more-gt0.false in
+    let below = c.cycles-test.true in
+    let most = c.requires.most in
+    let p = along_none c.cycles.invariant.passes c.go_inward_later-more.ensures.gone (omega (arith, below, most)) (omega (arith, none)) in
+    c.cycles.invariant.first zero ∙ ap begun (c.cycles.invariant.passes.stands.is_states ∙ sym p.stands.is_states)
+
+pub try_later-requires-clause-same : goal.try_later-requires-clause-same
+try_later-requires-clause-same g c κs within = λ zero.
+    let none = c.if-more-gt0.false in
+    let below = c.cycles-test.true in
+    let most = c.requires.most in
+    let p = along_none c.cycles.invariant.passes c.go_inward_later-more.ensures.gone (omega (arith, below, most)) (omega (arith, none)) in
+    same_first p zero
 
 pub try_later-requires-clause-number : goal.try_later-requires-clause-number
 try_later-requires-clause-number g c κs within =
     let none = c.if-more-gt0.false in
     let below = c.cycles-test.true in
     let most = c.requires.most in
-    let p = along_none c.cycles.invariant.passes c.go_inward_later-more.ensures.gone c.requires.launching
-    (omega (arith, below, most)) (omega (arith, none)) in
+    let p = along_none c.cycles.invariant.passes c.go_inward_later-more.ensures.gone (omega (arith, below, most)) (omega (arith, none)) in
     let at = p.stands.at in
     let top = c.requires.number in
     omega (arith, at, below, top)
@@ -74,8 +89,7 @@ try_later-requires-clause-marks g c κs within =
     let none = c.if-more-gt0.false in
     let below = c.cycles-test.true in
     let most = c.requires.most in
-    let p = along_none c.cycles.invariant.passes c.go_inward_later-more.ensures.gone c.requires.launching
-    (omega (arith, below, most)) (omega (arith, none)) in
+    let p = along_none c.cycles.invariant.passes c.go_inward_later-more.ensures.gone (omega (arith, below, most)) (omega (arith, none)) in
     let few = at_most (setting g.X.Device.meaning c.args.world.now) c.args.machine.now in
     let count = p.stands.few in
     omega (arith, below, most, few, count)
@@ -85,8 +99,7 @@ try_later-requires-clause-room g c κs within =
     let none = c.if-more-gt0.false in
     let below = c.cycles-test.true in
     let most = c.requires.most in
-    let p = along_none c.cycles.invariant.passes c.go_inward_later-more.ensures.gone c.requires.launching
-    (omega (arith, below, most)) (omega (arith, none)) in
+    let p = along_none c.cycles.invariant.passes c.go_inward_later-more.ensures.gone (omega (arith, below, most)) (omega (arith, none)) in
     let few = at_most (setting g.X.Device.meaning c.args.world.now) c.args.machine.now in
     has_room _ _ _ _ _ 1 3 p.follows (omega (arith, below, most, few)) (omega arith)
 
@@ -95,13 +108,11 @@ returns-then-not-try_later-clause-window g c =
     let none = c.if-more-gt0.false in
     let below = c.cycles-test.true in
     let most = c.requires.most in
-    let p = along_none c.cycles.invariant.passes c.go_inward_later-more.ensures.gone c.requires.launching
-    (omega (arith, below, most)) (omega (arith, none)) in
+    let p = along_none c.cycles.invariant.passes c.go_inward_later-more.ensures.gone (omega (arith, below, most)) (omega (arith, none)) in
     let stays = c.if-not-try_later.ensures in
     record {
-      length = closed_later _ _ c.cycles.k _ _ _ _ c.try_later.result p c.requires.launching (omega (arith, below, most))
-          c.try_later.ensures.goes
-          c.if-not-try_later.true;
+      length = closed_later _ _ c.cycles.k _ _ _ _ p (omega (arith, below, most))
+          (sym c.try_later.ensures.goes ∙ c.if-not-try_later.true);
       state = stays.state ∙ p.stands.is_states;
       number = ap (λ (x : State). x.cycle) stays.state ∙ p.stands.at;
       marked = stays.marks ∙ append-nil c.go_inward_later-more.new.marks ∙ p.stands.is_marks;
@@ -112,14 +123,14 @@ cycles-preserved g c =
     let none = c.if-more-gt0.false in
     let below = c.cycles-test.true in
     let most = c.requires.most in
-    let p = along_none c.cycles.invariant.passes c.go_inward_later-more.ensures.gone c.requires.launching
-    (omega (arith, below, most)) (omega (arith, none)) in
+    let p = along_none c.cycles.invariant.passes c.go_inward_later-more.ensures.gone (omega (arith, below, most)) (omega (arith, none)) in
     let t = c.try_later.ensures in
+    let goes = c.if-not-try_later.false in
     record {
-      passes = passes_later _ _ c.cycles.k _ _ _ _ c.try_later.result _ _ _ p c.requires.launching (omega (arith, below, most))
-          t.goes
-          c.if-not-try_later.false t.state t.marks t.notes;
+      passes = passes_later _ _ c.cycles.k _ _ _ _ _ _ _ p (omega (arith, below, most)) (sym t.goes ∙ goes) (rw goes at t.state)
+          (rw goes at t.marks) (rw goes at t.notes);
       within = omega (arith, below);
+      first = λ zero. absurd (omega (arith, zero));
       counted = let before = c.cycles.invariant.counted in let tick = c.tick.ensures in let
           more = c.go_inward_later-more.ensures.steps in omega (arith, before, tick, more, none);
     }

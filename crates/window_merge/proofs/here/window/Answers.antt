@@ -32,16 +32,11 @@ returns-then-not-goes_by-clause-length g c =
     let some = c.if-most-eq0.false in
     let most = c.longest-most.ensures.value in
     let family : State → Type 0 = λ s. c.is_launching.result ≡ is_launching s.core1 in
-    closed_later w s 0 s _ _ _ c.goes_by.result (passes_none w s
-    (record { free = c.requires.free; knows = known.knows; long = known.sram }))
-    (sym (subst family c.machine.view_is c.is_launching.ensures) ∙ c.if-is_launching.false) (omega (arith, some, most))
-    (c.goes_by.ensures ∙ ap goes_by c.requires.begun ∙ sym (goes_first_on w s)) c.if-not-goes_by.true
+    closed_later w s 0 s _ _ _ (passes_none w s (record { free = c.requires.free; knows = known.knows; long = known.sram })
+    (sym (subst family c.machine.view_is c.is_launching.ensures) ∙ c.if-is_launching.false)) (omega (arith, some, most))
+    (goes_first_on w s ∙ sym (c.goes_by.ensures ∙ ap goes_by c.requires.begun) ∙ c.if-not-goes_by.true)
 
 pub go-requires-clause-launching : goal.go-requires-clause-launching
 go-requires-clause-launching g c κs within =
     let family : State → Type 0 = λ s. c.is_launching.result ≡ is_launching s.core1 in
     sym (subst family c.machine.view_is c.is_launching.ensures) ∙ c.if-is_launching.false
-
-pub go-requires-clause-goes : goal.go-requires-clause-goes
-go-requires-clause-goes g c κs within =
-    sym (c.goes_by.ensures ∙ ap goes_by c.requires.begun) ∙ c.if-not-goes_by.false

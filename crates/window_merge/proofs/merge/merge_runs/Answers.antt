@@ -19,34 +19,37 @@ pub returns-then-end_at-clause-length : goal.returns-then-end_at-clause-length
 returns-then-end_at-clause-length g c =
     let w = setting_of c.args.world.now.script.now (g.X.Device.meaning c.args.world.now.device.now) c.args.world.now.limit in
     let below : c.loop-k.k < longest w c.args.machine.now = subst (λ n. c.loop-k.k < n) c.longest-longest.ensures.value c.loop-k-test.true in
-    ends_at_run w c.args.machine.now c.args.runs.now c.loop-k.k c.loop-k.machine (rests_at c.args.runs.now c.loop-k.indices) c.loop-k.marks c.end_at.result c.requires.runs c.loop-k.invariant.stands below c.end_at.ensures c.if-end_at.true
+    ends_at_run w c.args.machine.now c.args.runs.now c.loop-k.k c.loop-k.machine (rests_at c.args.runs.now c.loop-k.indices)
+    c.loop-k.marks c.requires.runs c.loop-k.invariant.stands below (sym c.end_at.ensures ∙ c.if-end_at.true)
 
-pub try_cycle-requires-clause-number : goal.try_cycle-requires-clause-number
-try_cycle-requires-clause-number g c κs within =
+pub returns-then-not-begin_logged-clause-length : goal.returns-then-not-begin_logged-clause-length
+returns-then-not-begin_logged-clause-length g c =
+    let w = setting_of c.args.world.now.script.now (g.X.Device.meaning c.args.world.now.device.now) c.args.world.now.limit in
+    let below : c.loop-k.k < longest w c.args.machine.now = subst (λ n. c.loop-k.k < n) c.longest-longest.ensures.value c.loop-k-test.true in
+    let tries = tries_at w c.args.machine.now c.args.runs.now c.loop-k.k c.loop-k.machine (rests_at c.args.runs.now c.loop-k.indices)
+    c.loop-k.marks c.requires.runs c.loop-k.invariant.stands below (sym c.end_at.ensures ∙ c.if-end_at.false) in
+    ends_tried w c.args.machine.now c.loop-k.k c.loop-k.machine (rests_at c.args.runs.now c.loop-k.indices) c.loop-k.marks tries
+    (sym c.begin_logged.ensures.fits ∙ c.if-not-begin_logged.true)
+
+pub step-requires-clause-number : goal.step-requires-clause-number
+step-requires-clause-number g c κs within =
     let at = c.loop-k.invariant.stands.at in
     let below = c.loop-k-test.true in
     let top = c.longest-longest.ensures.number in
     omega arith
 
-pub returns-then-not-try_cycle-clause-length : goal.returns-then-not-try_cycle-clause-length
-returns-then-not-try_cycle-clause-length g c =
-    let w = setting_of c.args.world.now.script.now (g.X.Device.meaning c.args.world.now.device.now) c.args.world.now.limit in
-    let below : c.loop-k.k < longest w c.args.machine.now = subst (λ n. c.loop-k.k < n) c.longest-longest.ensures.value c.loop-k-test.true in
-    let tries = tries_at w c.args.machine.now c.args.runs.now c.loop-k.k c.loop-k.machine (rests_at c.args.runs.now c.loop-k.indices) c.loop-k.marks c.end_at.result c.requires.runs c.loop-k.invariant.stands below c.end_at.ensures c.if-end_at.false in
-    ends_tried w c.args.machine.now c.loop-k.k c.loop-k.machine (rests_at c.args.runs.now c.loop-k.indices) c.loop-k.marks
-    c.try_cycle.result tries c.try_cycle.ensures.fits c.if-not-try_cycle.true
-
 pub loop-k-preserved : goal.loop-k-preserved
 loop-k-preserved g c =
     let w = setting_of c.args.world.now.script.now (g.X.Device.meaning c.args.world.now.device.now) c.args.world.now.limit in
     let below : c.loop-k.k < longest w c.args.machine.now = subst (λ n. c.loop-k.k < n) c.longest-longest.ensures.value c.loop-k-test.true in
-    let tries = tries_at w c.args.machine.now c.args.runs.now c.loop-k.k c.loop-k.machine (rests_at c.args.runs.now c.loop-k.indices) c.loop-k.marks c.end_at.result c.requires.runs c.loop-k.invariant.stands below c.end_at.ensures c.if-end_at.false in
+    let tries = tries_at w c.args.machine.now c.args.runs.now c.loop-k.k c.loop-k.machine (rests_at c.args.runs.now c.loop-k.indices)
+    c.loop-k.marks c.requires.runs c.loop-k.invariant.stands below (sym c.end_at.ensures ∙ c.if-end_at.false) in
+    let b = c.begin_logged.ensures in
     record {
       stands = stands_next w c.args.machine.now c.loop-k.k c.loop-k.machine (rests_at c.args.runs.now c.loop-k.indices)
-          c.loop-k.marks c.try_cycle.result c.try_cycle.new.machine (rests_at c.args.runs.now c.try_cycle.new.indices)
-          c.try_cycle.new.marks tries c.try_cycle.ensures.fits c.if-not-try_cycle.false c.try_cycle.ensures.state
-          c.try_cycle.ensures.indices c.try_cycle.ensures.marks;
-      within = c.try_cycle.ensures.within;
+          c.loop-k.marks _ _ _ tries (sym b.fits ∙ c.if-not-begin_logged.false) (rw b.begun at c.step.ensures.state) b.indices
+          (rw b.begun at c.step.ensures.marks);
+      within = b.within;
       counted = let before = c.loop-k.invariant.counted in let tick = c.tick.ensures in omega arith;
     }
 
