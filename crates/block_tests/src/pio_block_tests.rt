@@ -3,7 +3,7 @@
 ghost use Rattle.std.specs.Prelude.{◌≡◌, ◌+◌, ◌*◌, ◌^◌};
 
 use lane_look::{Ask, Lane, Look, Marks, Turn};
-use pio_block::PioBlock;
+use pio_block::{Inputs, PioBlock};
 use rp_base::Reset;
 use test_deeds::{Bench, byte, first_wrong, half};
 
