@@ -14,7 +14,7 @@ use Rattle.pio_machine.specs.declared.machine.Seen.{Seen}
 use Rattle.pio_machine.specs.declared.machine.Done.{Done}
 use Rattle.pio_machine.specs.Start.{nothing_done}
 use Rattle.pio_machine.specs.Cycle as machine
-use Rattle.pio_machine.specs.Quiet.{waited_once, waited, LeavesPins}
+use Rattle.pio_machine.specs.Quiet.{waited, LeavesPins}
 use Rattle.pio_machine.specs.Quiet as machine_quiet
 use Rattle.pio_machine.proofs.Waits.{once_off, waited_off, off, keeps, LooksOutside}
 use Rattle.pio_block.specs.declared.inputs.Inputs.{Inputs}

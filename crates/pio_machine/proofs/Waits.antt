@@ -1,5 +1,5 @@
 -- A machine that only waits: what is left of its divider and its delay after so many cycles, and for how long it does.
-use Rattle.std.proofs.Common.{◌≡◌, ◌∙◌, ap, sym, subst, refl, ℕ, zero, suc, ◌+◌, ◌-◌, ◌*◌, ◌/◌, ◌%◌, ◌^◌, ◌<◌, ◌≤◌, Bool, true, false, ◌&&◌, ◌||◌, ◌==◌, nat_lt, if◌then◌else◌, List, [], ◌∷◌, Option, Some, None, slice_index, bit_and, arith}
+use Rattle.std.proofs.Common.{◌≡◌, ◌∙◌, ap, sym, subst, refl, ℕ, zero, suc, ◌+◌, ◌-◌, ◌*◌, ◌/◌, ◌%◌, ◌^◌, ◌<◌, ◌≤◌, Bool, true, false, ◌&&◌, ◌==◌, nat_lt, if◌then◌else◌, Option, Some, None, slice_index, bit_and, arith}
 use Rattle.std.specs.Int.{bit_at, bit_not, w32}
 use Rattle.std.proofs.lemmas.Bool.{ltb-true, ltb-false}
 use Rattle.std.proofs.lemmas.Nat.Bits.{same_from_bits_below}
@@ -15,8 +15,7 @@ use Rattle.pio_machine.specs.declared.machine.Waiting.{Waiting}
 use Rattle.pio_machine.specs.Start.{nothing_done}
 use Rattle.pio_machine.specs.Fields.{divider, side_pindir}
 use Rattle.pio_machine.specs.Pins.{overlaid}
-use Rattle.pio_machine.specs.Queue.{refilled}
-use Rattle.pio_machine.specs.Operation.{written, with_autopull, tried, has_side, with_side, delay_of, ended}
+use Rattle.pio_machine.specs.Operation.{written, with_autopull, has_side, with_side, delay_of, ended}
 use Rattle.pio_machine.specs.Cycle.{ticks, advanced, word_of, word_tried, after_word, worked, after_try, after_cycle, written_by_word, written_by_try, written_in_cycle}
 use Rattle.pio_machine.specs.Quiet.{waited_once, waited, LeavesPins, IsQuiet, is_forced, loads, IsStuck}
 use Rattle.pio_machine.proofs.Clock.{at_least, one_more}

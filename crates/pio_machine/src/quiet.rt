@@ -1,11 +1,6 @@
 //! For how long a machine only waits, and many cycles of it at once.
 
-ghost use Rattle.std.specs.Prelude.{◌≡◌, ◌+◌, ◌*◌, ◌<◌, ◌≤◌, ◌^◌, true};
-ghost use Rattle.pio_words.specs.Operation.{operation_of};
-ghost use Rattle.pio_machine.specs.Operation.{with_side};
-ghost use Rattle.pio_machine.specs.Quiet.{waited, LeavesPins, IsQuiet, is_forced, loads, IsStuck};
-ghost use Rattle.pio_machine.specs.Ready.{settings_of};
-ghost use Rattle.pio_machine.specs.Start.{nothing_done};
+ghost use Rattle.std.specs.Prelude.{◌≡◌, ◌+◌, ◌*◌, ◌<◌, ◌≤◌};
 
 use crate::flags::{flag_of, has_flag};
 use crate::machine::{Done, Machine1, Seen};
