@@ -77,23 +77,21 @@ not_farther w p q now after h =
 
 -- ---- the call
 
-pub passes_none : (w : Setting) (p : Position) (steps : ℕ) → p.state.cycle ≤ w.limit → PassesTo w p p steps steps
-passes_none w p steps le = record {
+pub passes_none : (w : Setting) (p : Position) (steps : ℕ) → PassesTo w p p steps steps
+passes_none w p steps = record {
   windows = 0;
   quiet = no_window w p.state;
   tried = λ some. absurd (omega (arith, some));
-  within = omega (arith, le);
   position = behind_none w p;
   steps = omega arith;
 }
 
-pub passes_some : (w : Setting) (s t : State) (old new : Counts) (n steps steps' : ℕ) → old.after_empty ≡ false → AreQuietWindows w s n → s.cycle + 256 * n ≤ w.limit → t ≡ states w s (256 * n)
+pub passes_some : (w : Setting) (s t : State) (old new : Counts) (n steps steps' : ℕ) → old.after_empty ≡ false → AreQuietWindows w s n → t ≡ states w s (256 * n)
     → new.windows ≡ old.windows + n → new.cycles ≡ old.cycles + n * 256 → new.after_empty ≡ old.after_empty → steps' ≡ steps + 256 * n → PassesTo w (position_at s old) (position_at t new) steps steps'
-passes_some w s t old new n steps steps' here quiet within state windows cycles after counted = record {
+passes_some w s t old new n steps steps' here quiet state windows cycles after counted = record {
   windows = n;
   quiet = quiet;
   tried = λ some. here;
-  within = within;
   position = rw after (position_is (position_at s old) t (states w s (256 * n)) new.windows (old.windows + n) new.cycles (old.cycles + 256 * n) old.after_empty state windows (omega (arith, cycles)) refl);
   steps = counted;
 }

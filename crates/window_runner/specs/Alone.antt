@@ -66,6 +66,5 @@ pub record PassesTo (w : Setting) (p q : Position) (before after : ℕ) : Type 0
   pub windows : ℕ
   pub quiet : AreQuietWindows w p.state windows
   pub tried : 0 < windows → p.after_empty ≡ false
-  pub within : p.state.cycle + 256 * windows ≤ w.limit
   pub position : q ≡ behind_quiet w windows p
   pub steps : after ≡ before + 256 * windows
