@@ -52,7 +52,7 @@ fn is_nothing(want: &Want) -> bool
 /// No master behind core 0 wants anything in a cycle in which this was begun.
 #[inline(always)]
 #[tactic(auto, unfolding(crate::specs::Cycle::wanted))]
-pub(crate) fn is_core0_first(begun: &Begun) -> bool
+pub fn is_core0_first(begun: &Begun) -> bool
     ensures { result ≡ is_first_alone (wanted begun.now) }
 {
     let [read, write] = <Dma as Lane<()>>::wants(&begun.dma);

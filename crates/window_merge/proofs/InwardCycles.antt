@@ -249,9 +249,9 @@ apart_alone b e =
     ∙ ap (λ (x : Want). clash (wants_with v want.Nothing want.Nothing x)) (nothing write writes.0)
     ∙ clash_none v
 
-pub goes_first_alone : (b : Begun) (xs : List Wanted) (ends alone : Bool) → xs ≡ wanted b → ends ≡ ends_wanted xs → ends ≡ false → alone ≡ is_first_alone xs → alone ≡ true → alone ≡ goes_by b
+pub goes_first_alone : (b : Begun) (xs : List Wanted) (ends alone : Bool) → xs ≡ wanted b → ends ≡ ends_wanted xs → ends ≡ false → alone ≡ is_first_alone (wanted b) → alone ≡ true → alone ≡ goes_by b
 goes_first_alone b xs ends alone e e_ends none e_alone first =
-    first ∙ sym (ap (λ (c : Bool). not (c || clash (wants_of b))) (ap ends_wanted (sym e) ∙ sym e_ends ∙ none) ∙ ap not (apart_alone b (ap is_first_alone (sym e) ∙ sym e_alone ∙ first)))
+    first ∙ sym (ap (λ (c : Bool). not (c || clash (wants_of b))) (ap ends_wanted (sym e) ∙ sym e_ends ∙ none) ∙ ap not (apart_alone b (sym e_alone ∙ first)))
 
 goes_by_alone : (s : State) (p : Blocks) (c : Core) → IsCore0Alone s p c → ends_want (core.want_of (begun s).core0) ≡ false → goes_by (begun s) ≡ true
 goes_by_alone s p c h keeps =

@@ -3,7 +3,6 @@
 ghost use Rattle.std.specs.Prelude.{◌≡◌, ◌-◌, ◌^◌, ◌<◌, ◌++◌, ◌∷◌, [], false, if◌then◌else◌, length};
 ghost use Rattle.outer_lane.specs.Setting.{setting};
 ghost use Rattle.outer_lane.specs.Step.{marked};
-ghost use Rattle.rp_machine.specs.Alone.{is_first_alone};
 ghost use Rattle.rp_machine.specs.Cycle.{begun, wanted, next_by};
 ghost use Rattle.window_merge.specs.Lanes.{is_launching};
 ghost use Rattle.window_merge.specs.Notes.{noted_by, HasRoom};
@@ -13,12 +12,12 @@ use crate::merge::clash;
 use crate::notes::Notes;
 use crate::start::{Start, begin_later};
 use crate::walk::ends_want;
-use lane_look::{Device, Marks, Want};
+use lane_look::{Device, Marks};
 use m0_core::Core;
 use outer_lane::World;
 use rp_machine::Machine;
 use rp_machine::begun::Begun;
-use rp_machine::wanted::{Wanted, all_wanted};
+use rp_machine::wanted::{Wanted, all_wanted, is_core0_first};
 
 /// Core 1 has a word of its launcher to take.
 pub(crate) fn is_launching(core: &Core) -> bool
@@ -39,25 +38,13 @@ fn ends_wanted(wants: &[Wanted; 4]) -> bool
         || ends_want(&write.want)
 }
 
-/// No master behind core 0 wants anything.
-#[inline(always)]
-fn is_first_alone(wants: &[Wanted; 4]) -> bool
-    ensures { result ≡ is_first_alone wants.now }
-{
-    let [_, core1, read, write] = wants;
-    matches!(
-        (&core1.want, &read.want, &write.want),
-        (Want::Nothing, Want::Nothing, Want::Nothing)
-    )
-}
-
 /// No run alone ends before a cycle in which the lanes have begun this and want that, and no two of its accesses name one port.
 #[inline(always)]
 pub(crate) fn goes_by(lanes: &Begun, wants: &[Wanted; 4]) -> bool
     requires { wants.now ≡ wanted lanes.now }
     ensures { result ≡ goes_by lanes.now }
 {
-    !ends_wanted(wants) && (is_first_alone(wants) || !clash(lanes, wants))
+    !ends_wanted(wants) && (is_core0_first(lanes) || !clash(lanes, wants))
 }
 
 /// Does a cycle in which the lanes begin this and want that, and notes first what the masters write.
