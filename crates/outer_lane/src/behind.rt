@@ -155,13 +155,13 @@ impl Behind {
     /// A read at this offset of one of them is known to change nothing.
     #[inline(always)]
     #[tactic(auto, using(crate::proofs::BroughtUp::timer_still))]
-    pub(crate) fn is_still(&self, block: Block, offset: u16) -> bool
+    pub(crate) fn is_pure_read(&self, block: Block, offset: u16) -> bool
         ensures { result ≡ true → blocks_accessed block offset None self.now.blocks ≡ self.now.blocks }
     {
         match block {
-            Block::Uart0 => self.blocks.uart0.block.is_still(offset),
-            Block::Uart1 => self.blocks.uart1.block.is_still(offset),
-            Block::Timer => Timer::is_still(offset),
+            Block::Uart0 => self.blocks.uart0.block.is_pure_read(offset),
+            Block::Uart1 => self.blocks.uart1.block.is_pure_read(offset),
+            Block::Timer => Timer::is_pure_read(offset),
             _ => false,
         }
     }

@@ -117,7 +117,7 @@ impl Outer {
     fn access_blocks(&mut self, block: Block, offset: u16, write: Option<u32>)
         ensures { self.new ≡ with_blocks (blocks_accessed block offset write (blocks_of self.old)) self.old }
     {
-        if write.is_none() && self.blocks.is_still(block, offset) {
+        if write.is_none() && self.blocks.is_pure_read(block, offset) {
             return;
         }
         self.access_changing(block, offset, write);

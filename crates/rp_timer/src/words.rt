@@ -84,7 +84,7 @@ impl Timer {
 
     /// A read of the word at this offset changes nothing.
     #[inline(always)]
-    pub fn is_still(offset: u16) -> bool
+    pub fn is_pure_read(offset: u16) -> bool
         ensures { result ≡ true → (t : State) → effect_of offset None t ≡ t }
     {
         offset != TIMELR

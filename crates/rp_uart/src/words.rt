@@ -67,8 +67,8 @@ impl Uart {
 
     /// A read of the word at this offset is known to change nothing, also where only time has passed.
     #[inline(always)]
-    #[tactic(auto, using(crate::proofs::Still::still_later))]
-    pub fn is_still(&self, offset: u16) -> bool
+    #[tactic(auto, using(crate::proofs::PureReads::still_later))]
+    pub fn is_pure_read(&self, offset: u16) -> bool
         ensures { result ≡ true → (t : State) → IsLater self.now t → effect_of offset None t ≡ t }
     {
         offset != DR && self.settled() == self.raw
