@@ -159,9 +159,13 @@ const FORCED: &str = "\
     counter 2 1f; write 108 2080; cycle 0 0; reads 0fc 8001f000; inputs 1; cycle 0 0; reads 0fc 1f000;\
     has 2 1f 0 0 0 0; idle 1; write 0dc 14000380; write 0d8 e01f; idle 0; cycle 30000001 0; reads 03c 30000001;";
 
+/// pull block stalls on an empty FIFO, and the machine only waits until a word comes.
+const STALL: &str = "\
+    write 048 80a0; write 000 1; idle 0; cycle 0 0; idle 1; write 010 5; idle 0; cycle 0 0; has 0 1 0 0 0 5; idle 0;";
+
 #[test]
 fn words_and_cycles(rt: HostRuntime) {
-    for text in [WORDS, REFUSED, FIFOS, BLINK, FORCED] {
+    for text in [WORDS, REFUSED, FIFOS, BLINK, FORCED, STALL] {
         assert_eq!(rt; first_wrong(&mut at_reset(), text), None);
     }
 }
