@@ -20,6 +20,24 @@ STOP = re.compile(r"stop (limit|bkpt core[01]|lockup core[01]|outside (?:core0|c
 CORE = re.compile(r"core([01]) (asleep|[0-9a-f]{8}(?: [0-9a-f]{8}){16})")
 LAST = re.compile(r"probe \d+ pin \d+ .*|windows \d+ cycles \d+")
 NAMES = [f"r{n}" for n in range(13)] + ["sp", "lr", "pc", "xpsr"]
+# what a file can be instead of what is wanted: how it is told, by its first bytes or by a line of a text, its name, and what to do with it
+FILES = [
+    (rb"\x7fELF", "an ELF file", "run and debug take it"),
+    (rb"UF2\n", "a UF2 file", "run and debug take it"),
+    (rb":[0-9A-Fa-f]{8}", "an Intel HEX file", "give the ELF file in its place"),
+    (rb"PK\x03\x04|\x1f\x8b", "an archive", "unpack it"),
+    (rb"\xff\xfe|\xfe\xff", "a text of UTF-16", "save it as UTF-8"),
+    (rb"\xef\xbb\xbf", "a text with a byte order mark", "save it without the mark"),
+]
+TEXTS = [
+    (rb"\Aprogram \S+ \d+ origin ", "the listing of a PIO source", "give the source"),
+    (rb"^[ \t]*\.program[ \t]", "a PIO source", "asm and --pio take it"),
+    (rb"^#(include|define|ifdef|ifndef|pragma)\b|^\w[\w \t*]*\([^;{}\n]*\)\s*\{", "a C source", "docs/FIRMWARE.md tells how to compile it"),
+    (rb"\A([ \t]*(#.*)?\r?\n)*(version \d|send \d|\d+[ \t]+\d+[ \t]+[01z])", "a script", "--script takes it"),
+    (rb"\A(end|regs|pins|quit|((step|back|goto|next|prev|mem|peek|until\w*|last\w+)( \w+)*))\r?$", "commands of a session", "debug reads them by < FILE"),
+    (rb"^[ \t]*(\w+:)?[ \t]*(\.(syntax|thumb|align|global)\b|(movs|adds|subs|cmp|ldr|str|bl|bx|bkpt)[ \t])", "a Thumb source",
+     "thumb makes an image of it"),
+]
 NOT_BUILT = "the program is not built, or is older than a source: ./pico run examples/five.uf2 --cycles 10 builds it"
 
 
@@ -148,6 +166,12 @@ def read_bytes(path):
     if not data:
         raise Refused(f"{path} is empty")
     return data
+
+
+def kinds_of(data):
+    """What the bytes of a file look like, each with what to do with it; nothing where that is not known."""
+    texts = TEXTS if b"\0" not in data else []
+    return [more for form, *more in FILES if re.match(form, data)] or [more for form, *more in texts if re.search(form, data, re.M)]
 
 
 def need_apart(source, target):

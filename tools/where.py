@@ -7,7 +7,7 @@ Each line is copied as it comes; below a line of registers stand the places of P
 of the program, or the block of the RP2040's address map), and below the words of `mem` and `lastwrite` the variable. Lines of the source are
 there where the program was compiled with -g and addr2line (arm-none-eabi-addr2line, llvm-addr2line or addr2line) is installed; without it the
 function and the distance from its begin are told. In the place of the ELF file its listing can stand (arm-none-eabi-objdump -dlS), which needs
-no addr2line and has no variables.
+no addr2line and has no variables. The status is 1 where the last line is an error of the program, as of a run that was refused.
 """
 import os
 import re
@@ -17,14 +17,15 @@ import sys
 
 sys.path.insert(0, os.path.dirname(os.path.abspath(__file__)))
 from elf32 import MAGIC, Elf  # noqa: E402
-from runs import CORE, STOP, Refused, main, parser, read_bytes, read_lines, say  # noqa: E402
+from runs import CORE, STOP, Refused, kinds_of, main, parser, read_bytes, read_lines, say  # noqa: E402
 
 TOOLS = ("arm-none-eabi-addr2line", "llvm-addr2line", "llvm-addr2line-14", "llvm-symbolizer", "addr2line")
 # RP2040 Datasheet, 2.2: the blocks from 40000000 on, each with 4000 bytes
 BLOCKS = """SYSINFO SYSCFG CLOCKS RESETS PSM IO_BANK0 IO_QSPI PADS_BANK0 PADS_QSPI XOSC PLL_SYS PLL_USB BUSCTRL UART0 UART1 SPI0 SPI1 I2C0 I2C1 ADC
 PWM TIMER WATCHDOG RTC ROSC VREG_AND_CHIP_RESET - TBMAN""".split()
 AREAS = [
-    (0x00000000, 0x00004000, "the boot ROM"), (0x10000000, 0x19000000, "flash"), (0x20000000, 0x22000000, "the area of SRAM"),
+    (0x00000000, 0x00004000, "the boot ROM"), (0x10000000, 0x19000000, "flash"),
+    (0x20000000, 0x22000000, "the area of SRAM, behind its end (20041fff, 2103ffff without striping)"),
     (0x50000000, 0x50100000, "DMA"), (0x50100000, 0x50200000, "USB"), (0x50200000, 0x50300000, "PIO0"), (0x50300000, 0x50400000, "PIO1"),
     (0xD0000000, 0xD0001000, "SIO"), (0xE0000000, 0xE0100000, "the processor's own registers"),
 ]
@@ -128,7 +129,8 @@ def places_in(path):
     data = read_bytes(path)
     if data[:4] != MAGIC:
         if b"\0" in data:
-            raise Refused(f"{path} is no ELF file")
+            looks = "".join(f" but looks like {kind}" for kind, _ in kinds_of(data))
+            raise Refused(f"{path} is no ELF file{looks}: give the one that the linker wrote, or its listing")
         return listed(path, data.decode(errors="replace")), lambda _: None
     elf = Elf(path, data)
     if not elf.functions():
@@ -145,12 +147,13 @@ def tool():
     if sys.stdout is None:
         raise Refused("standard output is closed")
     sys.stdout.reconfigure(encoding="utf-8")
-    is_empty = True
-    for line in read_lines(given.run):
-        print(line, *notes_of(line, place, variable), sep="\n", flush=not line[:1].isdigit())
-        is_empty = False
-    if is_empty:
+    last = None
+    for last in read_lines(given.run):
+        print(last, *notes_of(last, place, variable), sep="\n", flush=not last[:1].isdigit())
+    if last is None:
         raise Refused("there are no lines of a run; does the command before the pipe print them?")
+    if last.startswith("error "):
+        raise Refused(f"the program ended with: {last}")
 
 
 if __name__ == "__main__":
