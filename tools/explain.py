@@ -3,9 +3,11 @@
 
 ./pico runs the program through this. What the program prints and its status are handed on as they are. Where the status is 2 to 12,
 standard error gets what docs/USAGE.md says of that line: for words the first that is not understood and the usage of the command; for
-a file why it cannot be read; for a fault in a source the line that has it. Of a run that stopped outside it gets what is there. An ELF
-file in the place of an image is packed by tools/uf2.py into an image for this run alone.
+a file why it cannot be read, or what it looks like; for a fault in a source the line that has it. Of a run that stopped outside or by a
+lockup it gets what is there. An ELF file in the place of an image is packed by tools/uf2.py into an image for this run alone; one that
+cannot be packed is handed in as it is, and why is told beside the program's refusal.
 """
+import codecs
 import difflib
 import os
 import re
@@ -16,7 +18,7 @@ import tempfile
 
 sys.path.insert(0, os.path.dirname(os.path.abspath(__file__)))
 from elf32 import MAGIC  # noqa: E402
-from runs import STOP, Refused, read_bytes, write  # noqa: E402
+from runs import STOP, Refused, kinds_of, read_bytes, write  # noqa: E402
 from uf2 import image, parts_of  # noqa: E402
 from where import area_of, vector_of  # noqa: E402
 
@@ -28,6 +30,11 @@ ENTRY = {
     "--part": (r"[0-2]=([0-9]|[12][0-9])(\+([0-9]|[12][0-9]))*", r"[0-2]",
                "I=PINS, with I the part (0 Button, 1 Shift, 2 Loop) and PINS pins 0 to 29 joined by +"),
 }
+ENDINGS = {".uf2": "run", ".elf": "run", ".bin": "run", ".pio": "asm", ".s": "thumb"}  # the commands for files by their names
+MADE = {"asm": "a PIO source", "thumb": "a Thumb source"}  # what a command takes that writes what it makes of it
+# characters of other assemblers that a Thumb source does not have
+CHARS = {"@": "a comment begins with ;", "/": "a comment begins with ;", "=": "a word is put behind the code, name: .word k, and loaded by ldr t, name",
+         "(": "a number is written out, without expressions but name+k", '"': "characters are written as numbers, by .word and .half"}
 PINS = {"0": (1, "Button: its pin"), "1": (3, "Shift: clock+data+out"), "2": (2, "Loop: from+to")}
 
 
@@ -67,13 +74,13 @@ class Page:
         for line in part.splitlines():
             cells = [cell.strip() for cell in re.split(r"(?<!\\)\|", line)[1:-1]]
             if cells and re.match(rf"`{name}\b", cells[0]):
-                return [cell.replace("`", "") for cell in cells[1:] if cell]
+                return [plain(cell) for cell in cells[1:] if cell]
         return []
 
     def thumb_fault(self, number):
         """What docs/THUMB.md says to do about a fault."""
         found = re.search(rf"^\| {number} \| \w+ \| (.*?) *\|$", self.thumb, re.M)
-        return found[1].replace("`", "") if found else None
+        return plain(found[1]) if found else None
 
     def thumb_forms(self):
         """The forms of docs/THUMB.md, each as its mnemonic or directive, its operands and what is said of their numbers."""
@@ -82,7 +89,7 @@ class Page:
             if line.startswith("| `"):
                 cell, numbers = (it.strip() for it in line.split("|")[1:3])
                 for piece in cell.split(";"):
-                    yield from ((*form, numbers.replace("`", "")) for form in forms_in(piece))
+                    yield from ((*form, plain(numbers)) for form in forms_in(piece))
 
     def commands(self):
         """The commands of a session, with their words."""
@@ -92,7 +99,12 @@ class Page:
     def todo(self, status):
         """What the table of statuses says of one."""
         rows = re.findall(rf"^\| {status} \| .* \| (.*?) *\|$", self.text, re.M)
-        return rows[0] if rows else ""
+        return plain(rows[0]) if rows else ""
+
+
+def plain(cell):
+    """The words of a cell without marks and links."""
+    return re.sub(r"\[([^]]*)\]\([^)]*\)", r"\1", cell).replace("`", "")
 
 
 def forms_in(cell):
@@ -172,11 +184,13 @@ def split(page, words):
         if name not in options:
             others = [it for it in page.forms if name in page.options(it)]
             what = f", but of {' and '.join(others)}" if others else near(name, options)
+            if command in MADE and name in ("-o", "--output"):
+                what = f": what {command} makes goes to standard output, > FILE"
             return arguments, given, f"{name} is no option of {command}{what}"
         if name in given:
             return arguments, given, f"{name} is there twice"
         if options[name][0] and not is_joined:
-            if not rest or rest[0].startswith("-"):
+            if not rest or rest[0].startswith("-") and not (name in NUMBERS and rest[0][1:].isdigit()):
                 return arguments, given, f"{name} needs a value behind it"
             value = rest.pop(0)
         elif is_joined and not options[name][0]:
@@ -187,14 +201,23 @@ def split(page, words):
     return arguments, given, None
 
 
+def meant(command, word, given):
+    """What is meant by a word too many, where that can be told."""
+    if command in MADE:
+        return f"; what it makes goes to standard output, > {word}"
+    if command == "dis":
+        return ", whose words stand without spaces"
+    return f"; did you mean --cycles {word}?" if word.isdigit() and "--cycles" not in given else ""
+
+
 def words_fault(page, words):
     """The first thing that is wrong with the words."""
     command = words[0] if words else ""
     if command not in page.forms:
         if command.startswith("-"):
             return f"the first word is the command, and {command} is none"
-        if command.endswith((".uf2", ".elf", ".bin")):
-            return f"the command comes first: pico run {command} --cycles N"
+        if meant_command := ENDINGS.get(os.path.splitext(command)[1].lower()):
+            return f"the command comes first: pico {meant_command} {command}{' --cycles N' * (meant_command == 'run')}"
         return f"there is no command {command}".strip() + near(command, page.forms)
     if "--help" in words or "-h" in words:
         return f"this is the usage of {command}; ./pico help prints the whole page"
@@ -204,7 +227,7 @@ def words_fault(page, words):
     if not arguments:
         return f"{command} needs <{page.argument(command)}> behind it"
     if len(arguments) > 1:
-        return f"{arguments[1]} is one word too many: {command} takes one <{page.argument(command)}>"
+        return f"{arguments[1]} is one word too many: {command} takes one <{page.argument(command)}>{meant(command, arguments[1], given)}"
     if fault := argument_fault(command, arguments[0]):
         return fault
     for name, (_, is_needed) in page.options(command).items():
@@ -250,22 +273,37 @@ def told_large(name, length):
 
 def is_text(data):
     try:
-        return "\0" not in data.decode()
+        return "\0" not in codecs.getincrementaldecoder("utf-8")().decode(data)
     except UnicodeDecodeError:
         return False
 
 
+def first_bytes(path):
+    """The first bytes of a file; none where it is no file, or cannot be read."""
+    try:
+        with open(path if os.path.isfile(path) else os.devnull, "rb") as file:
+            return file.read(1 << 16)
+    except OSError:
+        return b""
+
+
+def told_kind(path, taken):
+    """Says that a file looks like another one than is taken there, and whether it does."""
+    kinds = kinds_of(first_bytes(path or ""))
+    if not kinds or any(kind in taken for kind, _ in kinds):
+        return False
+    say(f"{path} is refused: it looks like {kinds[0][0]}, in the place of {taken}: {kinds[0][1]}")
+    return True
+
+
 def told_image(page, words, number, name):
     path = image_of(page, words)
+    if told_kind(path, "a UF2 file or an ELF file"):
+        return
     said = page.fault("an image", f"{number} {name}")
     say(f"{path or 'the image'} is refused: " + (": ".join(said) or f"fault {number} {name}"))
-    try:
-        data = read_bytes(path) if path and os.path.isfile(path) else b""
-    except (OSError, Refused):
-        return
-    if data[:1] == b":":
-        say(f"{path} looks like an Intel HEX file: give the ELF file in its place")
-    elif data[:6] == b"error ":
+    data = first_bytes(path or "")
+    if data[:6] == b"error ":
         say(f"{path} has the line of a refusal: {data.splitlines()[0].decode(errors='replace')[:120]}")
     elif number in ("2", "3") and is_text(data):
         say(f"{path} is a text: run takes a UF2 or an ELF file, which docs/FIRMWARE.md tells to make; of a Thumb source ./pico thumb makes one")
@@ -278,8 +316,8 @@ def line_in(path, number):
     try:
         if number < 1 or not os.path.isfile(path):
             return None
-        with open(path, encoding="utf-8", errors="replace") as file:
-            return file.read().split("\n")[number - 1]
+        with open(path, encoding="utf-8", errors="replace", newline="\n") as file:
+            return file.read().split("\n")[number - 1].rstrip("\r")
     except (OSError, IndexError):
         return None
 
@@ -322,6 +360,8 @@ def pio_file(program, words, line):
 def told_pio(page, program, words, line):
     _, _, number, name, *more = line.split()
     path = pio_file(program, words, line)
+    if told_kind(path, MADE["asm"]):
+        return
     said = page.fault("a PIO source", f"{number} {name}")
     say(f"{path or 'a file of --pio'} is refused: " + (": ".join(said) or f"fault {number} {name}"))
     if path and more and name != "NoRoom":
@@ -329,11 +369,18 @@ def told_pio(page, program, words, line):
 
 
 def told_forms(page, line):
-    """Tells the forms of a line's mnemonic or directive, and those with an `s` behind it."""
-    found = re.match(r"(?:\s*\w+:)?\s*([\w.]+)", line.partition(";")[0])
-    if not found:
+    """Tells a word that is no name, and the forms of a line's mnemonic or directive and those with an `s` behind it."""
+    label, word, rest = re.match(r"\s*(?:([\w.]+)\s*:)?\s*([\w.]*)\s*(.*?)\s*$", line.partition(";")[0]).groups()
+    forms = list(page.thumb_forms())
+    taken = {name for name, *_ in forms} | {f"r{n}" for n in range(16)} | {"sp", "lr", "pc"}
+    is_named = any(name == word and re.search(r"\bL$|^name", form) for name, form, _ in forms)
+    for name in filter(None, (label, re.split(r"[\s,+]+", rest)[-1] if is_named else None)):
+        if name in taken:
+            say(f"{name} is a mnemonic, a directive or a register, and no name: rename it")
+        elif name == label and not re.fullmatch(r"[A-Za-z_]\w*", name):
+            say(f"{name} is no name: a name is letters, digits and _, and does not begin with a digit")
+    if not word:
         return
-    word, forms = found[1], list(page.thumb_forms())
     names = {"bhs": ["bcs"], "blo": ["bcc"]}.get(word, [word.lower(), word.lower() + "s"])
     said = [f"{name} {operands}".strip() + (f" ({numbers})" if numbers else "") for name, operands, numbers in forms if name in names]
     if said:
@@ -346,32 +393,41 @@ def told_forms(page, line):
 
 def told_thumb(page, words, number, name, line="0"):
     path = split(page, words)[0][0]
+    if told_kind(path, MADE["thumb"]):
+        return
     say(f"{path} is refused: {name}: {page.thumb_fault(number) or f'fault {number}'} (docs/THUMB.md)")
     text, column = line_in(path, int(line)), None
     if name == "Char" and (found := re.search(r"[^A-Za-z0-9 \t\r_.,:#\[\]{}!+;-]", text or "")):
         column = found.start() + 1
     shown_line(path, int(line), column)
+    if column and (said := CHARS.get(found[0])):
+        say(said)
     if name in ("Syntax", "Range", "Register"):
         told_forms(page, text or "")
 
 
 def told_start(page, words, address):
-    say(f"{image_of(page, words) or 'the image'} loads the byte at {address}: {page.todo(12)}".replace("`", ""))
+    say(f"{image_of(page, words) or 'the image'} loads the byte at {address}: {page.todo(12)}")
 
 
 def told_script(page, words, number, name, line):
     lists = [word.removeprefix("--script=") for before, word in zip(words, words[1:]) if before == "--script" or word.startswith("--script=")]
     path = lists[0] if lists else "the script"
+    if told_kind(path, "a script"):
+        return
     said = page.fault("a script", f"{number} {name}")
     say(f"{path} is refused: " + (": ".join(said) or f"fault {number} {name}"))
-    shown_line(path, int(line))
+    wrong = re.search(r"^ |[^\w ]|  | $", line_in(path, int(line)) or "") if name == "Form" else None
+    shown_line(path, int(line), wrong.start() + 1 if wrong else None)
 
 
-def explain(page, program, words, status, line):
-    """Says on standard error what to do about a status and the line that was printed for it."""
+def explain(page, program, words, status, line, refused=None):
+    """Says on standard error what to do about a status and the line that was printed for it. Refused is why an ELF file was not packed."""
     parts = line.split()
     if status == 2:
         told_words(page, words)
+    elif refused and status in (3, 4):
+        say(refused)
     elif line.startswith("error file "):
         told_file(words, line.removeprefix("error file "))
     elif line.startswith("error large "):
@@ -399,6 +455,10 @@ def told_outside(words, address):
         "and tools/where.py names the line of the program")
     if int(address, 16) == 0 and "--table" not in words:
         say("a pointer that was never set is 0; an image that takes memset and memcpy from the table runs with --table")
+    elif int(address, 16) == 0xC:
+        say("a HardFault comes of an access that is not aligned, a branch to an even address by bx, blx or pop, or an instruction that is not there")
+    elif int(address, 16) >= 0xFFFF0000:
+        say("a stack pointer or a pointer that is 0 goes there by what is pushed or counted down")
 
 
 def image_of(page, words):
@@ -410,17 +470,19 @@ def image_of(page, words):
 
 
 def packed(page, words, folder):
-    """The words with an image in the place of an ELF file."""
+    """The words with an image in the place of an ELF file, or as they are and why it is not packed."""
     path = image_of(page, words)
-    if path is None or not os.path.isfile(path):
-        return words
-    with open(path, "rb") as file:
-        if file.read(4) != MAGIC:
-            return words
-    made = f"{folder}/{os.path.splitext(os.path.basename(path))[0]}.uf2"
-    write(made, image(parts_of(path, read_bytes(path))))
+    try:
+        if path is None or first_bytes(path)[:4] != MAGIC:
+            return words, None
+        made = f"{folder}/{os.path.splitext(os.path.basename(path))[0]}.uf2"
+        write(made, image(parts_of(path, read_bytes(path))))
+    except Refused as refused:
+        return words, refused
+    except OSError:
+        return words, None
     at = words.index(path, 1)
-    return [*words[:at], made, *words[at + 1:]]
+    return [*words[:at], made, *words[at + 1:]], None
 
 
 def handed_on(page, pipe, is_session):
@@ -430,7 +492,7 @@ def handed_on(page, pipe, is_session):
     while data := os.read(pipe.fileno(), 1 << 16):
         last = (last + data)[-1 << 13:]
         if is_session and re.search(rb"^bad command\n", last, re.M):
-            say(f"commands are {page.commands()}; numbers are decimal, addresses eight hexadecimal digits (docs/USAGE.md)")
+            say(f"commands are {page.commands()}; numbers are decimal, addresses eight hexadecimal digits, of a word a multiple of 4 (docs/USAGE.md)")
             is_session = False
         while data:
             try:
@@ -441,7 +503,7 @@ def handed_on(page, pipe, is_session):
     return last, None
 
 
-def run(page, program, given, words):
+def run(page, program, given, words, refused=None):
     """Runs the program with words, those given with an image in the place of an ELF file, and answers its status."""
     # a word may name an open pipe, as /dev/fd/63
     process = subprocess.Popen([program, *words], stdout=subprocess.PIPE, close_fds=False)
@@ -458,11 +520,14 @@ def run(page, program, given, words):
     lines = last.decode(errors="replace").splitlines()
     if 2 <= status <= 12:
         errors = [line for line in lines if line.startswith("error ")]
-        explain(page, program, given, status, errors[-1] if errors else "")
+        explain(page, program, given, status, errors[-1] if errors else "", refused)
     elif given[:1] == ["run"]:
         for found in filter(None, map(STOP.fullmatch, lines)):
             if found[2]:
                 told_outside(given, found[2])
+            elif found[1].startswith("lockup"):
+                say(f"{found[1][7:]} met a fault in the handler of HardFault or NMI, or on the way into it; debug with these words, and there end, "
+                    "regs and prev, shows where, and tools/where.py names the line")
     return status
 
 
@@ -474,10 +539,7 @@ def main():
     sys.argv[0] = "pico"  # what the tools say is said in this name
     with tempfile.TemporaryDirectory(prefix="pico-") as folder:
         try:
-            return run(page, program, words, packed(page, words, folder))
-        except Refused as refused:
-            say(refused)
-            return 4
+            return run(page, program, words, *packed(page, words, folder))
         except OSError as error:
             say(f"{error.filename or program}: {error.strerror}")
             return 125
