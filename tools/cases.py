@@ -59,7 +59,8 @@ def difference(wanted, got):
     sides = [text.decode(errors="backslashreplace").splitlines() for text in (wanted, got)]
     lines = list(difflib.unified_diff(*sides, "wanted", "got", n=1, lineterm=""))
     more = [f".. {len(lines) - SHOWN} lines more"] if len(lines) > SHOWN else []
-    return "\n".join(lines[:SHOWN] + more) or "they differ in how the last line ends"
+    ends = "the lines that are wanted end with CR and LF" if b"\r\n" in wanted else "they differ in how the last line ends"
+    return "\n".join(lines[:SHOWN] + more) or ends
 
 
 def tried(case, program, seconds, is_writing):

@@ -12,7 +12,7 @@ import sys
 
 sys.path.insert(0, os.path.dirname(os.path.abspath(__file__)))
 from elf32 import MAGIC, Elf  # noqa: E402
-from runs import Refused, main, need_apart, parser, read_bytes, say, write  # noqa: E402
+from runs import Refused, kinds_of, main, need_apart, parser, read_bytes, say, write  # noqa: E402
 
 PAYLOAD, FAMILY = 256, 0xE48BFF56
 SRAM = range(0x20000000, 0x20042000)
@@ -44,7 +44,7 @@ def need_sram(what, begin, size):
     """Refuses what does not lie in SRAM as a whole."""
     last = begin + size - 1
     if begin not in SRAM:
-        raise Refused(f"{what} at {begin:08x} is {place_of(begin)}: link the program for SRAM, 20000000 to 20041fff")
+        raise Refused(f"{what} at {begin:08x} is {place_of(begin)}: link the program for SRAM, 20000000 to 20041fff (docs/FIRMWARE.md)")
     if last not in SRAM:
         raise Refused(f"{what} from {begin:08x} to {last:08x} goes {last + 1 - SRAM.stop} bytes beyond the end of SRAM (20041fff)")
 
@@ -79,8 +79,8 @@ def parts_of(name, data, address=None):
         return parts_of_elf(name, data)
     if data[:8] == UF2_MAGIC:
         raise Refused(f"{name} is a UF2 file already: run it as it is")
-    if data[:1] == b":" and data[1:9].isalnum():
-        raise Refused(f"{name} is an Intel HEX file: give the ELF file itself")
+    for kind, todo in kinds_of(data):
+        raise Refused(f"{name} looks like {kind}, which is neither an ELF file nor a raw binary: {todo}")
     begin = SRAM.start if address is None else address
     need_sram(f"the binary {name}", begin, len(data))
     return [(begin, data)]
