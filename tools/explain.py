@@ -33,8 +33,11 @@ ENTRY = {
 ENDINGS = {".uf2": "run", ".elf": "run", ".bin": "run", ".pio": "asm", ".s": "thumb"}  # the commands for files by their names
 MADE = {"asm": "a PIO source", "thumb": "a Thumb source"}  # what a command takes that writes what it makes of it
 # characters of other assemblers that a Thumb source does not have
-CHARS = {"@": "a comment begins with ;", "/": "a comment begins with ;", "=": "a word is put behind the code, name: .word k, and loaded by ldr t, name",
-         "(": "a number is written out, without expressions but name+k", '"': "characters are written as numbers, by .word and .half"}
+CHARS = {"@": "a comment begins with ;", "/": "a comment begins with ;",
+         "=": "a word is put behind the code, name: .word k or .word label, and loaded by ldr t, name",
+         "(": "a number is written out, without expressions but name+k", "'": "a character is written as its number",
+         '"': "characters are written as their numbers, by .word and .half"}
+OTHERS = {"bhs": "bcs", "blo": "bcc", "neg": "rsbs", "negs": "rsbs", "ldmia": "ldm", "stmia": "stm"}  # mnemonics that GNU as has beside these
 PINS = {"0": (1, "Button: its pin"), "1": (3, "Shift: clock+data+out"), "2": (2, "Loop: from+to")}
 
 
@@ -201,9 +204,12 @@ def split(page, words):
     return arguments, given, None
 
 
-def meant(command, word, given):
+def meant(page, command, word, given):
     """What is meant by a word too many, where that can be told."""
-    if command in MADE:
+    name = "--" + word.lstrip("-\u2013\u2014")  # a text editor makes one dash of two hyphens
+    if name in page.options(command):
+        return f"; did you mean {name}?"
+    if command in MADE and not os.path.exists(word):
         return f"; what it makes goes to standard output, > {word}"
     if command == "dis":
         return ", whose words stand without spaces"
@@ -227,7 +233,7 @@ def words_fault(page, words):
     if not arguments:
         return f"{command} needs <{page.argument(command)}> behind it"
     if len(arguments) > 1:
-        return f"{arguments[1]} is one word too many: {command} takes one <{page.argument(command)}>{meant(command, arguments[1], given)}"
+        return f"{arguments[1]} is one word too many: {command} takes one <{page.argument(command)}>{meant(page, command, arguments[1], given)}"
     if fault := argument_fault(command, arguments[0]):
         return fault
     for name, (_, is_needed) in page.options(command).items():
@@ -374,17 +380,22 @@ def told_forms(page, line):
     forms = list(page.thumb_forms())
     taken = {name for name, *_ in forms} | {f"r{n}" for n in range(16)} | {"sp", "lr", "pc"}
     is_named = any(name == word and re.search(r"\bL$|^name", form) for name, form, _ in forms)
-    for name in filter(None, (label, re.split(r"[\s,+]+", rest)[-1] if is_named else None)):
+    named = re.search(r"([A-Za-z_]\w*)\s*(?:\+.*)?$", rest) if is_named else None
+    for name in filter(None, (label, named and named[1])):
         if name in taken:
-            say(f"{name} is a mnemonic, a directive or a register, and no name: rename it")
-        elif name == label and not re.fullmatch(r"[A-Za-z_]\w*", name):
+            say(f"{name} is a mnemonic or a register, and no name: rename it")
+            return
+        if name == label and not re.fullmatch(r"[A-Za-z_]\w*", name):
             say(f"{name} is no name: a name is letters, digits and _, and does not begin with a digit")
+            return
     if not word:
         return
-    names = {"bhs": ["bcs"], "blo": ["bcc"]}.get(word, [word.lower(), word.lower() + "s"])
-    said = [f"{name} {operands}".strip() + (f" ({numbers})" if numbers else "") for name, operands, numbers in forms if name in names]
+    names = [OTHERS[word]] if word in OTHERS else [word.lower(), word.lower() + "s"]
+    said = [(f"{name} {operands}".strip(), f" ({numbers})" if numbers else "") for name, operands, numbers in forms if name in names]
     if said:
-        say("docs/THUMB.md has " + "; ".join(said))
+        # what is said of the numbers of several forms stands behind the last of them
+        nexts = [numbers for _, numbers in said[1:]] + [""]
+        say("docs/THUMB.md has " + "; ".join(form + numbers * (numbers != after) for (form, numbers), after in zip(said, nexts)))
     elif word[0] == ".":
         say(f"there is no directive {word}, but {', '.join(dict.fromkeys(name for name, *_ in forms if name[0] == '.'))}")
     else:

@@ -20,7 +20,7 @@ STOP = re.compile(r"stop (limit|bkpt core[01]|lockup core[01]|outside (?:core0|c
 CORE = re.compile(r"core([01]) (asleep|[0-9a-f]{8}(?: [0-9a-f]{8}){16})")
 LAST = re.compile(r"probe \d+ pin \d+ .*|windows \d+ cycles \d+")
 NAMES = [f"r{n}" for n in range(13)] + ["sp", "lr", "pc", "xpsr"]
-# what a file can be instead of what is wanted: how it is told, by its first bytes or by a line of a text, its name, and what to do with it
+# what a file can be: how that is told, by its first bytes or by a line of a text, its name, and what takes it
 FILES = [
     (rb"\x7fELF", "an ELF file", "run and debug take it"),
     (rb"UF2\n", "a UF2 file", "run and debug take it"),
@@ -30,11 +30,15 @@ FILES = [
     (rb"\xef\xbb\xbf", "a text with a byte order mark", "save it without the mark"),
 ]
 TEXTS = [
+    (rb"^stop (limit|bkpt core[01]|lockup core[01]|outside \w+ [0-9a-f]{8}) \d+\r?$", "the text of a run",
+     "vcd.py, uart.py, wave.py and where.py read it"),
     (rb"\Aprogram \S+ \d+ origin ", "the listing of a PIO source", "give the source"),
     (rb"^[ \t]*\.program[ \t]", "a PIO source", "asm and --pio take it"),
-    (rb"^#(include|define|ifdef|ifndef|pragma)\b|^\w[\w \t*]*\([^;{}\n]*\)\s*\{", "a C source", "docs/FIRMWARE.md tells how to compile it"),
+    (rb"^#(include|define|ifdef|ifndef|pragma)\b|^\w[\w \t*]*\([^;{}\n]*\)\s*\{", "a C source",
+     "docs/FIRMWARE.md tells how to compile it"),
     (rb"\A([ \t]*(#.*)?\r?\n)*(version \d|send \d|\d+[ \t]+\d+[ \t]+[01z])", "a script", "--script takes it"),
-    (rb"\A(end|regs|pins|quit|((step|back|goto|next|prev|mem|peek|until\w*|last\w+)( \w+)*))\r?$", "commands of a session", "debug reads them by < FILE"),
+    (rb"\A(end|regs|pins|quit|((step|back|goto|next|prev|mem|peek|until\w*|last\w+)( \w+)*))\r?$", "commands of a session",
+     "debug reads them by < FILE"),
     (rb"^[ \t]*(\w+:)?[ \t]*(\.(syntax|thumb|align|global)\b|(movs|adds|subs|cmp|ldr|str|bl|bx|bkpt)[ \t])", "a Thumb source",
      "thumb makes an image of it"),
 ]

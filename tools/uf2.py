@@ -83,6 +83,10 @@ def parts_of(name, data, address=None):
         raise Refused(f"{name} looks like {kind}, which is neither an ELF file nor a raw binary: {todo}")
     begin = SRAM.start if address is None else address
     need_sram(f"the binary {name}", begin, len(data))
+    stack, reset = struct.unpack("<II", data[:8].ljust(8, b"\0"))
+    if stack % 4 == 0 and stack - 4 in SRAM and reset % 2 == 1 and reset in SRAM:
+        say(f"note: {name} begins with what looks like a vector table, and core 0 begins at its first bytes, as code: "
+            "put the first instruction there, as examples/firmware/sram.ld does")
     return [(begin, data)]
 
 
