@@ -469,7 +469,7 @@ def told_outside(words, address):
     elif int(address, 16) == 0xC:
         say("a HardFault comes of an access that is not aligned, a branch to an even address by bx, blx or pop, or an instruction that is not there")
     elif int(address, 16) >= 0xFFFF0000:
-        say("a stack pointer or a pointer that is 0 goes there by what is pushed or counted down")
+        say("a stack pointer that is 0 goes there by the first push, and a pointer that is 0 where it is counted down")
 
 
 def image_of(page, words):
@@ -537,8 +537,8 @@ def run(page, program, given, words, refused=None):
             if found[2]:
                 told_outside(given, found[2])
             elif found[1].startswith("lockup"):
-                say(f"{found[1][7:]} met a fault in the handler of HardFault or NMI, or on the way into it; debug with these words, and there end, "
-                    "regs and prev, shows where, and tools/where.py names the line")
+                say(f"{found[1][7:]} met a fault in the handler of HardFault or NMI, as by a vector whose bit 0 is clear; debug with these words, "
+                    "and there end, regs and prev, shows where, and tools/where.py names the line")
     return status
 
 
