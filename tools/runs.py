@@ -36,10 +36,10 @@ TEXTS = [
     (rb"^[ \t]*\.program[ \t]", "a PIO source", "asm and --pio take it"),
     (rb"^#(include|define|ifdef|ifndef|pragma)\b|^\w[\w \t*]*\([^;{}\n]*\)\s*\{", "a C source",
      "docs/FIRMWARE.md tells how to compile it"),
-    (rb"\A([ \t]*(#.*)?\r?\n)*(version \d|send \d|\d+[ \t]+\d+[ \t]+[01z])", "a script", "--script takes it"),
+    (rb"\A([ \t]*(#[^\r\n]*)?\r?\n)*(version \d|send \d|\d+[ \t]+\d+[ \t]+[01z])", "a script", "--script takes it"),
     (rb"\A(end|regs|pins|quit|((step|back|goto|next|prev|mem|peek|until\w*|last\w+)( \w+)*))\r?$", "commands of a session",
      "debug reads them by < FILE"),
-    (rb"^[ \t]*(\w+:)?[ \t]*(\.(syntax|thumb|align|global)\b|(movs|adds|subs|cmp|ldr|str|bl|bx|bkpt)[ \t])", "a Thumb source",
+    (rb"^[ \t]*(\w+:[ \t]*)?(\.(syntax|thumb|align|global)\b|(movs|adds|subs|cmp|ldr|str|bl|bx|bkpt)[ \t])", "a Thumb source",
      "thumb makes an image of it"),
 ]
 NOT_BUILT = "the program is not built, or is older than a source: ./pico run examples/five.uf2 --cycles 10 builds it"
