@@ -371,7 +371,9 @@ def told_pio(page, program, words, line):
     said = page.fault("a PIO source", f"{number} {name}")
     say(f"{path or 'a file of --pio'} is refused: " + (": ".join(said) or f"fault {number} {name}"))
     if path and more and name != "NoRoom":
-        shown_line(path, int(more[0]), int(more[1]) if len(more) > 1 else None)
+        # the program counts columns by bytes
+        before = (line_in(path, int(more[0])) or "").encode()[:int(more[1]) - 1] if len(more) > 1 else None
+        shown_line(path, int(more[0]), None if before is None else len(before.decode(errors="ignore")) + 1)
 
 
 def told_forms(page, line):
