@@ -307,7 +307,7 @@ def told_image(page, words, number, name):
     if told_kind(path, "a UF2 file or an ELF file"):
         return
     said = page.fault("an image", f"{number} {name}")
-    say(f"{path or 'the image'} is refused: " + (": ".join(said) or f"fault {number} {name}"))
+    say(f"{path or 'the image'} is refused: " + ("; ".join(said) or f"fault {number} {name}"))
     data = first_bytes(path or "")
     if data[:6] == b"error ":
         say(f"{path} has the line of a refusal: {data.splitlines()[0].decode(errors='replace')[:120]}")
@@ -369,7 +369,7 @@ def told_pio(page, program, words, line):
     if told_kind(path, MADE["asm"]):
         return
     said = page.fault("a PIO source", f"{number} {name}")
-    say(f"{path or 'a file of --pio'} is refused: " + (": ".join(said) or f"fault {number} {name}"))
+    say(f"{path or 'a file of --pio'} is refused: " + ("; ".join(said) or f"fault {number} {name}"))
     if path and more and name != "NoRoom":
         # the program counts columns by bytes
         before = (line_in(path, int(more[0])) or "").encode()[:int(more[1]) - 1] if len(more) > 1 else None
@@ -429,7 +429,7 @@ def told_script(page, words, number, name, line):
     if told_kind(path, "a script"):
         return
     said = page.fault("a script", f"{number} {name}")
-    say(f"{path} is refused: " + (": ".join(said) or f"fault {number} {name}"))
+    say(f"{path} is refused: " + ("; ".join(said) or f"fault {number} {name}"))
     wrong = re.search(r"^ |[^\w ]|  | $", line_in(path, int(line)) or "") if name == "Form" else None
     shown_line(path, int(line), wrong.start() + 1 if wrong else None)
 
