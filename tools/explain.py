@@ -492,8 +492,8 @@ def packed(page, words, folder):
         write(made, image(parts_of(path, read_bytes(path))))
     except Refused as refused:
         return words, refused
-    except OSError:
-        return words, None
+    except OSError as error:
+        return words, f"{path} is not packed: {error.strerror}"
     at = words.index(path, 1)
     return [*words[:at], made, *words[at + 1:]], None
 
