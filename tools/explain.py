@@ -121,7 +121,7 @@ def forms_in(cell):
 
 
 def near(word, known):
-    found = difflib.get_close_matches(word, known, 1, 0.75 if word.startswith("--") else 0.6)
+    found = difflib.get_close_matches(word.lower(), known, 1, 0.75 if word.startswith("--") else 0.6)
     return f"; did you mean {found[0]}?" if found else ""
 
 
