@@ -1,6 +1,6 @@
 -- The timer and the UARTs, which lie behind: what they are after so many cycles, in which of these they are quiet, and what an access does.
 -- No public contract names it.
-use Rattle.std.specs.Prelude.{ℕ, Bool, true, false, List, [], Option, bit_or, ◌++◌}
+use Rattle.std.specs.Prelude.{ℕ, Bool, true, false, List, [], Option, bit_or}
 use Rattle.rp_base.specs.declared.map.Block.{Block}
 use Rattle.rp_base.specs.Resettable.{let_go, with_held}
 use Rattle.rp_base.specs.ResetBits.{TIMER, UART0, UART1}
@@ -9,11 +9,11 @@ use Rattle.lane_look.specs.Times.{times}
 use Rattle.io_bank.specs.Levels.{receive_level, uart_outputs}
 use Rattle.rp_uart.specs.State as uart
 use Rattle.rp_uart.specs.Interrupts.{is_line_high}
-use Rattle.rp_uart.specs.Step.{output_of, pacing_of}
+use Rattle.rp_uart.specs.Step.{output_of}
 use Rattle.rp_timer.specs.State as timer
 use Rattle.rp_timer.specs.State.{lines_of}
 use Rattle.outer_lane.specs.declared.blocks.Blocks.{Blocks}
-use Rattle.outer_lane.specs.Lines.{block_lines, packed_counts}
+use Rattle.outer_lane.specs.Lines.{block_lines}
 use Rattle.outer_lane.specs.Quiet.{uart_cycle, IsTimerQuiet, IsUartQuiet}
 use Rattle.outer_lane.specs.State.{State, outer_at_start}
 use Rattle.outer_lane.specs.Step.{timer_after, uart_after}
@@ -81,10 +81,6 @@ blocks_outs b = uart_outputs (output_of b.uart0.block) (output_of b.uart1.block)
 -- their interrupt lines
 abbrev pub blocks_lines : Blocks → ℕ
 blocks_lines b = bit_or (lines_of b.timer.block) (block_lines false (is_line_high b.uart0.block) (is_line_high b.uart1.block))
-
--- the counts of the UARTs that pace DMA channels
-abbrev pub blocks_counts : Blocks → ℕ
-blocks_counts b = packed_counts (pacing_of b.uart0.block ++ pacing_of b.uart1.block)
 
 -- what their words read as, and what a read or a write of one of these does, whatever the other peripherals are
 abbrev pub blocks_word : Block → ℕ → Blocks → Option ℕ

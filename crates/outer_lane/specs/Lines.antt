@@ -27,11 +27,6 @@ outer_lines core s =
 abbrev pub outer_pacing : State → List ℕ
 outer_pacing s = pacing_of s.uart0.block ++ pacing_of s.uart1.block
 
--- counts in one number, six bits each, the first one lowest
-abbrev pub packed_counts : List ℕ → ℕ
-packed_counts [] = 0
-packed_counts (count ∷ counts) = count + packed_counts counts * 2 ^ 6
-
 -- the input words, of the levels of the pads now and of the second ones
 abbrev pub outer_inputs : State → List ℕ
 outer_inputs s = inputs_of s.pads s.pads.current ∷ inputs_of s.pads s.pads.second ∷ []

@@ -18,19 +18,18 @@ pub struct Behind {
 }
 
 /// The number of the first cycle that they lie behind, how many cycles these are, for how many from the first one on they are
-/// quiet, their interrupt lines, and the counts of the UARTs that pace DMA channels.
+/// quiet, and their interrupt lines.
 #[derive(Clone, Copy)]
 pub struct Span {
     pub(crate) first: u64,
     pub(crate) count: u64,
     pub(crate) quiet: u64,
     pub(crate) lines: u32,
-    pub(crate) counts: u32,
 }
 
 impl Model for Behind {
     ghost use Rattle.std.specs.Prelude.{◌≡◌, ◌≤◌, ◌<◌, ◌+◌, ◌^◌};
-    ghost use Rattle.outer_lane.specs.BroughtUp.{Told, blocks_after, blocks_lines, blocks_counts, AreBlocksQuiet};
+    ghost use Rattle.outer_lane.specs.BroughtUp.{Told, blocks_after, blocks_lines, AreBlocksQuiet};
 
     ghost Value = { Told };
 
@@ -41,15 +40,15 @@ impl Model for Behind {
     } };
 
     ghost invariant = { λ b. (b.span.count ≤ b.span.quiet) × ((b.span.first + b.span.quiet < 2 ^ 64)
-        × (AreBlocksQuiet b.line0 b.line1 b.blocks b.span.first b.span.quiet
-        × ((b.span.lines ≡ blocks_lines b.blocks) × ((b.span.counts ≡ blocks_counts b.blocks) × (b.span.counts < 2 ^ 27))))) };
+        × (AreBlocksQuiet b.line0 b.line1 b.blocks b.span.first b.span.quiet × (b.span.lines ≡ blocks_lines b.blocks))) };
 }
 
 impl Behind {
     ghost use Rattle.std.specs.Prelude.{◌≡◌, ◌+◌, ◌<◌, ◌^◌, ◌∷◌, [], List, ℕ, true, false, None, Decides};
     ghost use Rattle.rp_base.specs.Held.{unless_held};
     ghost use Rattle.rp_timer.specs.Words.{word_of};
-    ghost use Rattle.outer_lane.specs.BroughtUp.{told_at_start, told_step, told_after, blocks_outs, blocks_lines, blocks_counts, blocks_word, blocks_accessed, blocks_reset, AreBlocksQuiet};
+    ghost use Rattle.rp_uart.specs.Step.{pacing_of};
+    ghost use Rattle.outer_lane.specs.BroughtUp.{told_at_start, told_step, told_after, blocks_outs, blocks_lines, blocks_word, blocks_accessed, blocks_reset, AreBlocksQuiet};
     ghost use Rattle.outer_lane.specs.Step.{byte_of};
 
     /// Before the first cycle: each is at reset and none is held, and the lines are high.
@@ -226,13 +225,15 @@ impl Behind {
         self.span.lines
     }
 
-    /// The counts that pace DMA channels in one number.
+    /// The counts that pace DMA channels, those of UART0 first.
     #[inline(always)]
-    pub(crate) fn packed_pacing(&self) -> u32
-        ensures value { result ≡ blocks_counts self.now.blocks }
-        ensures small { result < 2 ^ 27 }
+    pub(crate) fn pacing(&self) -> [u8; 4]
+        ensures { result ≡ pacing_of self.now.blocks.uart0.block
+            ++ pacing_of self.now.blocks.uart1.block }
     {
-        self.span.counts
+        let [free0, words0] = self.blocks.uart0.block.pacing();
+        let [free1, words1] = self.blocks.uart1.block.pacing();
+        [free0, words0, free1, words1]
     }
 
     /// What the UARTs put out, by pin: levels and enables.

@@ -1,11 +1,11 @@
 //! The timer and both UARTs, which have nothing to do with each other.
 
-ghost use Rattle.std.specs.Prelude.{◌≡◌, ◌+◌, ◌<◌, ◌^◌, ◌++◌, false};
+ghost use Rattle.std.specs.Prelude.{◌≡◌, ◌+◌, ◌<◌, ◌^◌, false};
 ghost use Rattle.rp_base.specs.Held.{unless_held};
 ghost use Rattle.rp_base.specs.Resettable.{unless_held_becomes};
 ghost use Rattle.lane_look.specs.Times.{times};
 ghost use Rattle.outer_lane.specs.Quiet.{IsTimerQuiet, IsUartQuiet, uart_cycle};
-ghost use Rattle.outer_lane.specs.Lines.{block_lines, packed_counts};
+ghost use Rattle.outer_lane.specs.Lines.{block_lines};
 ghost use Rattle.outer_lane.specs.Step.{byte_of, timer_after, uart_after};
 
 use crate::behind::Span;
@@ -26,7 +26,7 @@ pub struct Blocks {
 
 impl Blocks {
     ghost use Rattle.std.specs.Prelude.{◌≡◌, ◌+◌, ◌<◌, ◌^◌, ◌∷◌, [], Decides};
-    ghost use Rattle.outer_lane.specs.BroughtUp.{blocks_at_start, blocks_step, blocks_after, blocks_lines, blocks_counts, blocks_accessed, blocks_reset, AreBlocksQuiet};
+    ghost use Rattle.outer_lane.specs.BroughtUp.{blocks_at_start, blocks_step, blocks_after, blocks_lines, blocks_accessed, blocks_reset, AreBlocksQuiet};
     ghost use Rattle.outer_lane.specs.Step.{byte_of};
 
     /// Each is at reset and none is held.
@@ -63,29 +63,25 @@ impl Blocks {
     }
 
     /// As they are before this cycle: they lie none behind; for so many cycles from it on, which end before the last number of a
-    /// cycle, each of them is quiet, where the UARTs hear these levels; their interrupt lines, and their counts.
+    /// cycle, each of them is quiet, where the UARTs hear these levels; and their interrupt lines.
     pub(crate) fn span(&self, line0: bool, line1: bool, first: u64) -> Span
         ensures first { result.first ≡ first }
         ensures count { result.count ≡ 0 }
         ensures quiet { AreBlocksQuiet line0 line1 self.now first result.quiet }
         ensures within { first + result.quiet < 2 ^ 64 }
         ensures lines { result.lines ≡ blocks_lines self.now }
-        ensures counts { result.counts ≡ blocks_counts self.now }
-        ensures small { result.counts < 2 ^ 27 }
     {
         let timer = timer_quiet(&self.timer, first);
         let uart0 = uart_quiet(&self.uart0, line0, first);
         let uart1 = uart_quiet(&self.uart1, line1, first);
         let uarts = uart0.min(uart1);
         let all = timer.min(uarts);
-        let counts = packed_four(self.uart0.block.pacing(), self.uart1.block.pacing());
         let lines = uart_lines(self.uart0.block.line(), self.uart1.block.line());
         Span {
             first,
             count: 0,
             quiet: all.min(u64::MAX - first),
             lines: self.timer.block.lines() | lines,
-            counts,
         }
     }
 
@@ -146,17 +142,6 @@ fn uart_lines(first: bool, second: bool) -> u32
     ensures { result ≡ block_lines false first second }
 {
     u32::from(first) * 0x10_0000 + u32::from(second) * 0x20_0000
-}
-
-/// Four counts in one number, six bits each, the first one lowest.
-#[inline(always)]
-fn packed_four(first: [u8; 2], last: [u8; 2]) -> u32
-    ensures value { result ≡ packed_counts (first ++ last) }
-    ensures small { result < 2 ^ 27 }
-{
-    let [c0, c1] = first;
-    let [c2, c3] = last;
-    u32::from(c0) + u32::from(c1) * 0x40 + u32::from(c2) * 0x1000 + u32::from(c3) * 0x4_0000
 }
 
 /// A UART that hears this level steps unless it is held; the byte whose frame ended.

@@ -55,10 +55,10 @@ impl Model for Outer {
 }
 
 impl Outer {
-    ghost use Rattle.std.specs.Prelude.{◌≡◌, ◌<◌, ◌^◌, Decides};
+    ghost use Rattle.std.specs.Prelude.{◌≡◌, Decides};
     ghost use Rattle.io_bank.specs.Levels.{inputs_of};
     ghost use Rattle.outer_lane.specs.State.{outer_at_start, first_words, outer_reset};
-    ghost use Rattle.outer_lane.specs.Lines.{bank_line, outer_lines, outer_inputs, outer_pacing, packed_counts};
+    ghost use Rattle.outer_lane.specs.Lines.{bank_line, outer_lines, outer_inputs, outer_pacing};
 
     /// The state before the first cycle: each block is at reset and none is held, and the device has started.
     pub fn new<X: Device>(device: &X) -> Outer
@@ -141,14 +141,11 @@ impl Outer {
     }
 
     /// The counts that pace DMA channels: the free entries of the transmit FIFO and the words of the receive FIFO of UART0,
-    /// and the same of UART1, each 0 where UARTDMACR does not ask for it (RP2040 Datasheet, 4.2.3), in one number, six bits each,
-    /// the first one lowest.
-    #[inline(always)]
-    pub fn packed_pacing(&self) -> u32
-        ensures value { result ≡ packed_counts (outer_pacing self.now) }
-        ensures small { result < 2 ^ 27 }
+    /// and the same of UART1, each 0 where UARTDMACR does not ask for it (RP2040 Datasheet, 4.2.3).
+    pub fn pacing(&self) -> [u8; 4]
+        ensures { result ≡ outer_pacing self.now }
     {
-        self.blocks.packed_pacing()
+        self.blocks.pacing()
     }
 
     /// The inputs that SIO reads, by pin: the second levels of the pads.

@@ -1,6 +1,7 @@
 //! What the machine tells a lane of the others: interrupt lines, the counts that pace DMA channels, and pins.
 
 ghost use Rattle.std.specs.Prelude.{◌≡◌, ◌+◌, ◌*◌, ◌^◌, ◌≤◌, ◌<◌};
+ghost use Rattle.dma_engine.specs.Pace.{packed_counts};
 ghost use Rattle.dma_engine.specs.Words as dma;
 ghost use Rattle.pio_block.specs.Words as pio;
 ghost use Rattle.rp_machine.specs.Answers.{pair_number, packed_pair, sio_lines};
@@ -66,6 +67,16 @@ fn packed_pair(words: [u32; 2]) -> u128
     u128::from(first) + u128::from(second) * 0x1_0000_0000
 }
 
+/// Four counts of six bits each, the first one lowest.
+#[inline(always)]
+fn packed_four(counts: [u8; 4]) -> u64
+    ensures value { result ≡ packed_counts counts }
+    ensures small { result < 2 ^ 27 }
+{
+    let [c0, c1, c2, c3] = counts;
+    u64::from(c0) + u64::from(c1) * 0x40 + u64::from(c2) * 0x1000 + u64::from(c3) * 0x4_0000
+}
+
 impl Machine {
     ghost use Rattle.std.specs.Prelude.{◌≡◌, ◌<◌, ◌^◌, ◌∷◌, []};
     ghost use Rattle.rp_machine.specs.Answers.{shared_lines, lines_of, pacing_of, inputs_of, outs_of};
@@ -107,7 +118,7 @@ impl Machine {
     {
         u128::from(self.pio0.block.packed_pacing())
             + u128::from(self.pio1.block.packed_pacing()) * 0x1_0000_0000_0000
-            + u128::from(self.outer.packed_pacing()) * 0x1_0000_0000_0000_0000_0000_0000
+            + u128::from(packed_four(self.outer.pacing())) * 0x1_0000_0000_0000_0000_0000_0000
     }
 
     /// The input words of the pins, that of the levels now lowest.
