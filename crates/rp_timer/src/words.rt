@@ -1,9 +1,9 @@
 //! The registers, by their offsets.
 
-ghost use Rattle.std.specs.Prelude.{◌≡◌, ◌+◌, ◌^◌, ◌<◌, true, Some, None};
+ghost use Rattle.std.specs.Prelude.{◌≡◌, ◌+◌, ◌^◌, ◌<◌, ◌==◌, not, true, Some, None};
 ghost use Rattle.rp_timer.specs.State.{State};
 ghost use Rattle.rp_timer.specs.Step.{after_cycles};
-ghost use Rattle.rp_timer.specs.Words.{with_alarm, word_of, is_word, effect_of};
+ghost use Rattle.rp_timer.specs.Words.{with_alarm, word_of, is_word, offset_of, effect_of};
 
 use crate::registers::{
     ALARM0, ALARM1, ALARM2, ALARM3, ARMED, DBGPAUSE, INTE, INTF, INTR, INTS, PAUSE, TIMEHR, TIMEHW,
@@ -82,10 +82,11 @@ impl Timer {
         allowed
     }
 
-    /// A read of the word at this offset changes nothing.
+    /// A read at this offset changes nothing: it is none of TIMELR, which latches TIMEHR (RP2040 Datasheet, 4.6.2).
     #[inline(always)]
     pub fn is_pure_read(offset: u16) -> bool
-        ensures { result ≡ true → (t : State) → effect_of offset None t ≡ t }
+        ensures value { result ≡ not (offset == offset_of "TIMELR") }
+        ensures pure { result ≡ true → (t : State) → effect_of offset None t ≡ t }
     {
         offset != TIMELR
     }
