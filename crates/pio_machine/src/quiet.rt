@@ -103,7 +103,7 @@ impl Machine1 {
         }
     }
 
-    /// The machine stalls on the word at PC, to try it again changes nothing, and its side-set writes what the pins have.
+    /// The machine stalls on the word at PC, to try it again changes nothing, and its side-set writes what the pins have. False is right too.
     #[tactic(auto, using(crate::proofs::Waits::stuck))]
     pub fn stalls(
         &self,
@@ -130,7 +130,8 @@ impl Machine1 {
         done.leaves(levels, enables)
     }
 
-    /// For so many cycles from now on the machine tries no word: it is off, between two ticks, or within a delay.
+    /// For so many cycles from now on the machine tries no word: it is off, between two ticks, or within a delay. Any smaller number is
+    /// right too.
     #[tactic(auto, using(crate::proofs::Waits::none, crate::proofs::Waits::off, crate::proofs::Waits::between, crate::proofs::Waits::within_delay))]
     pub fn tries_none(&self, settings: &Settings) -> u64
         requires { settings.now ≡ settings_of self.now }
