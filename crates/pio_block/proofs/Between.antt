@@ -16,7 +16,7 @@ use Rattle.pio_machine.specs.Start.{nothing_done}
 use Rattle.pio_machine.specs.Cycle as machine
 use Rattle.pio_machine.specs.Quiet.{waited, LeavesPins}
 use Rattle.pio_machine.specs.Quiet as machine_quiet
-use Rattle.pio_machine.proofs.Waits.{once_off, waited_off, off, keeps, LooksOutside}
+use Rattle.pio_machine.proofs.Waits.{once_off, waited_off, none, off, keeps, LooksOutside}
 use Rattle.pio_block.specs.declared.inputs.Inputs.{Inputs}
 use Rattle.pio_block.specs.State.{State, is_running, is_busy, each_from, machine_of}
 use Rattle.pio_machine.specs.Quiet.{is_forced}
@@ -33,6 +33,10 @@ fewer_machine i seen level enable m n k h le = record { steps = λ j lt. h.steps
 pub fewer_machines : (i : ℕ) (seen : Seen) (level enable : ℕ) (ms : List Machine1) (n k : ℕ) → AreMachinesQuiet i seen level enable ms n → k ≤ n → AreMachinesQuiet i seen level enable ms k
 fewer_machines i seen level enable [] n k h le = h
 fewer_machines i seen level enable (m ∷ ms) n k h le = (fewer_machine i seen level enable m n k h.0 le, fewer_machines (i + 1) seen level enable ms n k h.1 le)
+
+pub none_machines : (i : ℕ) (seen : Seen) (level enable : ℕ) (ms : List Machine1) → AreMachinesQuiet i seen level enable ms 0
+none_machines i seen level enable [] = tt
+none_machines i seen level enable (m ∷ ms) = (none m i seen level enable, none_machines (i + 1) seen level enable ms)
 
 pub four_machines : (seen : Seen) (level enable : ℕ) (a b c d : Machine1) (p q r s n : ℕ) → machine_quiet.IsQuiet 0 seen level enable a p → machine_quiet.IsQuiet 1 seen level enable b q
     → machine_quiet.IsQuiet 2 seen level enable c r → machine_quiet.IsQuiet 3 seen level enable d s → n ≡ min (min p q) (min r s) → AreMachinesQuiet 0 seen level enable (a ∷ b ∷ c ∷ d ∷ []) n

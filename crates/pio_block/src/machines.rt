@@ -95,12 +95,16 @@ impl Machines {
         low.min(high)
     }
 
-    /// For so many cycles from now on all machines only wait, where they see this and the pins have these levels and enables.
-    #[tactic(auto, using(crate::proofs::Between::fewer_machine))]
+    /// For so many cycles from now on all machines only wait, where they see this and the pins have these levels and enables. Where the first
+    /// one does not, the others are not asked.
+    #[tactic(auto, using(crate::proofs::Between::fewer_machine, crate::proofs::Between::none_machines))]
     pub(crate) fn quiet(&self, seen: &Seen, levels: u32, enables: u32) -> u64
         ensures { AreMachinesQuiet 0 seen.now levels enables self.now result }
     {
         let first = self.first.quiet(0, seen, levels, enables);
+        if first == 0 {
+            return 0;
+        }
         let second = self.second.quiet(1, seen, levels, enables);
         let third = self.third.quiet(2, seen, levels, enables);
         let fourth = self.fourth.quiet(3, seen, levels, enables);
