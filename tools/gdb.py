@@ -5,14 +5,13 @@
     tools/gdb.py firmware.elf --cycles 200000 --listen 3333        for an editor, which connects to localhost:3333
 
 The image is an ELF or a UF2 file. Both cores are threads. What works: registers, SRAM, breakpoints, write watchpoints, step, next,
-stepi, continue, finish, and their reverse forms; Ctrl-C. The run is replayed, so nothing can be written; SRAM and the registers of blocks can be read.
-`monitor help` lists the commands of the session that can be asked, as `monitor pins`. GDB waits for a reply for two seconds, unless
-`set remotetimeout 60` tells it to wait longer.
+stepi, continue, finish, and their reverse forms; Ctrl-C. The run is replayed, so nothing can be written; SRAM can be read, and the
+registers of blocks, as core 0 would read them but without what a read does. `monitor help` lists the commands of the session that
+can be asked, as `monitor pins`. GDB waits for a reply for two seconds, unless `set remotetimeout 60` tells it to wait longer.
 
 A stop of the run is a signal, and its line is shown: SIGTRAP for a BKPT, SIGSEGV outside of the machine, SIGABRT for a lockup; at the
 limit and at the start the history ends. A breakpoint or a watchpoint takes about the time of the run up to there. Ctrl-C while one is
-sought ends the search: the run stands where it did, and the session begins anew. Registers of blocks are read as core 0 would read
-them, without what a read does.
+sought ends the search: the run stands where it did, and the session begins anew.
 """
 from __future__ import annotations
 
