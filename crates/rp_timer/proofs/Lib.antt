@@ -2,3 +2,4 @@ mod Alarms
 mod Count
 mod Latched
 mod Passing
+pub mod PureReads

@@ -1,6 +1,6 @@
 -- The registers of the timer (RP2040 Datasheet, 4.6.5, List of Registers), by their offsets after 40054000.
 use Prim.Native.String.{String}
-use Rattle.std.specs.Prelude.{ℕ, ◌+◌, ◌*◌, ◌%◌, ◌^◌, Bool, List, [], ◌∷◌, Option, bit_or, slice_index, slice_set, ⊤}
+use Rattle.std.specs.Prelude.{ℕ, ◌+◌, ◌*◌, ◌%◌, ◌^◌, ◌==◌, Bool, not, List, [], ◌∷◌, Option, bit_or, slice_index, slice_set, ⊤}
 use Rattle.rp_base.specs.Rows.{Row, read_only, write_only, read_write, read_acts, repeated, word_at, has_row, effect_at, offset_in, IsListed, IsHeld}
 use Rattle.rp_base.specs.Word.{bit_number, has_bit, minus}
 use Rattle.rp_timer.specs.State.{State, low_of, high_of, lines_of}
@@ -42,6 +42,10 @@ effect_of offset write s = effect_at timer_rows offset write s
 -- the offset of a register by its name
 abbrev pub offset_of : String → ℕ
 offset_of name = offset_in timer_rows name
+
+-- a read at this offset changes nothing: it is none of TIMELR
+abbrev pub is_pure_read : ℕ → Bool
+is_pure_read offset = not (offset == offset_of "TIMELR")
 
 -- each register is what stands at its offset, and nothing stands at any other
 abbrev pub EachRegisterIsAtItsOffset : Type 0

@@ -1,9 +1,8 @@
 //! The registers, by their offsets.
 
-ghost use Rattle.std.specs.Prelude.{◌≡◌, ◌+◌, ◌^◌, ◌<◌, ◌==◌, not, true, Some, None};
-ghost use Rattle.rp_timer.specs.State.{State};
+ghost use Rattle.std.specs.Prelude.{◌≡◌, ◌+◌, ◌^◌, ◌<◌, Some, None};
 ghost use Rattle.rp_timer.specs.Step.{after_cycles};
-ghost use Rattle.rp_timer.specs.Words.{with_alarm, word_of, is_word, offset_of, effect_of};
+ghost use Rattle.rp_timer.specs.Words.{with_alarm, word_of, is_word, is_pure_read, effect_of};
 
 use crate::registers::{
     ALARM0, ALARM1, ALARM2, ALARM3, ARMED, DBGPAUSE, INTE, INTF, INTR, INTS, PAUSE, TIMEHR, TIMEHW,
@@ -85,8 +84,7 @@ impl Timer {
     /// A read at this offset changes nothing: it is none of TIMELR, which latches TIMEHR (RP2040 Datasheet, 4.6.2).
     #[inline(always)]
     pub fn is_pure_read(offset: u16) -> bool
-        ensures value { result ≡ not (offset == offset_of "TIMELR") }
-        ensures pure { result ≡ true → (t : State) → effect_of offset None t ≡ t }
+        ensures { result ≡ is_pure_read offset }
     {
         offset != TIMELR
     }

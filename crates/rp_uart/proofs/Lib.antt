@@ -5,4 +5,4 @@ pub mod Kept
 pub mod Loopback
 pub mod Timing
 pub mod Passing
-mod PureReads
+pub mod PureReads

@@ -1,7 +1,7 @@
 -- The registers by their offsets, what they read as and what an access does (RP2040 Datasheet, 4.2, list of registers;
 -- PrimeCell UART PL011 Technical Reference Manual, DDI 0183, 3.3, register descriptions).
-use Rattle.std.specs.Prelude.{ℕ, ◌+◌, ◌*◌, ◌/◌, ◌%◌, ◌^◌, ◌==◌, Bool, true, false, ◌||◌, nat_lt, nat_le, if◌then◌else◌, List, [], ◌∷◌, ◌++◌, length, drop, Option, Some, None, slice_get, bit_and, ⊤}
-use Rattle.rp_base.specs.Rows.{Row, read_only, write_only, read_write, register, word_at, has_row, effect_at, IsListed}
+use Rattle.std.specs.Prelude.{ℕ, ◌+◌, ◌*◌, ◌/◌, ◌%◌, ◌^◌, ◌==◌, Bool, true, false, not, ◌&&◌, ◌||◌, nat_lt, nat_le, if◌then◌else◌, List, [], ◌∷◌, ◌++◌, length, drop, Option, Some, None, slice_get, bit_and, ⊤}
+use Rattle.rp_base.specs.Rows.{Row, read_only, write_only, read_write, register, word_at, has_row, effect_at, offset_in, IsListed}
 use Rattle.rp_base.specs.Word.{has_bit, bit_number}
 use Rattle.rp_uart.specs.declared.control.Control.{Control}
 use Rattle.rp_uart.specs.declared.control.Divisor.{Divisor}
@@ -149,6 +149,10 @@ after_access offset write s = effect_at uart_rows offset write s
 -- what a read or a write does; nothing where there is no such word
 unfoldable pub effect_of : ℕ → Option ℕ → State → State
 effect_of offset write s = if is_word offset then settled (after_access offset write s) else s
+
+-- a read at this offset changes nothing: it is none of UARTDR, which takes a byte, and no interrupt goes by an access
+abbrev pub is_pure_read : ℕ → State → Bool
+is_pure_read offset s = not (offset == offset_in uart_rows "UARTDR") && (settled s).raw == s.raw
 
 -- each register is what stands at its offset, and nothing stands at any other
 abbrev pub EachRegisterIsAtItsOffset : Type 0

@@ -1,11 +1,7 @@
 //! The registers, by their offsets.
 
-ghost use Rattle.std.specs.Prelude.{◌≡◌, ◌≤◌, ◌==◌, ◌&&◌, not, true, Some, None, slice_get};
-ghost use Rattle.rp_base.specs.Rows.{offset_in};
-ghost use Rattle.rp_uart.specs.Interrupts.{settled};
-ghost use Rattle.rp_uart.specs.State.{State};
-ghost use Rattle.rp_uart.specs.Quiet.{IsLater};
-ghost use Rattle.rp_uart.specs.Words.{uart_rows, received_word, status_of, after_taking, after_giving, without_errors, is_busy, flags_of, code_of, width_of_code, line_control_of, line_control_from, control_of, control_from, dma_control_of, dma_control_from, word_of, is_word, after_access, effect_of};
+ghost use Rattle.std.specs.Prelude.{◌≡◌, ◌≤◌, Some, None, slice_get};
+ghost use Rattle.rp_uart.specs.Words.{received_word, status_of, after_taking, after_giving, without_errors, is_busy, flags_of, code_of, width_of_code, line_control_of, line_control_from, control_of, control_from, dma_control_of, dma_control_from, word_of, is_word, is_pure_read, after_access, effect_of};
 
 use crate::control::{Control, DmaControl};
 use crate::frame::{LineControl, WordLength};
@@ -70,10 +66,8 @@ impl Uart {
     /// A read at this offset changes nothing, also where only time has passed: it is none of UARTDR, which takes a byte, and no interrupt
     /// goes by an access.
     #[inline(always)]
-    #[tactic(auto, using(crate::proofs::PureReads::still_later))]
     pub fn is_pure_read(&self, offset: u16) -> bool
-        ensures value { result ≡ (not (offset == offset_in uart_rows "UARTDR") && (settled self.now).raw == self.now.raw) }
-        ensures pure { result ≡ true → (t : State) → IsLater self.now t → effect_of offset None t ≡ t }
+        ensures { result ≡ is_pure_read offset self.now }
     {
         offset != DR && self.settled() == self.raw
     }
