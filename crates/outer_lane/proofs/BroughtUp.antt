@@ -1,5 +1,6 @@
 -- The timer and the UARTs that lie behind.
 use Rattle.std.proofs.Common.{◌≡◌, ℕ, ◌+◌, ◌≤◌, Bool, true, false, None, refl, sym, ap, ◌∙◌, arith}
+use Rattle.rp_base.specs.declared.map.Block.{Block}
 use Rattle.rp_base.specs.declared.map.Block.TheVariants as block
 use Rattle.rp_base.specs.Held.{stays_if}
 use Rattle.rp_base.specs.declared.resettable.Resettable.{Resettable}
@@ -10,13 +11,16 @@ use Rattle.rp_uart.specs.State.{State as SerialPort}
 use Rattle.rp_uart.specs.Step.{output_of, pacing_of}
 use Rattle.rp_uart.specs.Interrupts.{is_line_high}
 use Rattle.rp_uart.specs.Quiet.{IsLater}
-use Rattle.rp_uart.specs.Words as uart_words
-use Rattle.rp_timer.specs.Words as timer_words
+use Rattle.rp_uart.proofs.PureReads.{pure_later, pure_still}
+use Rattle.rp_timer.proofs.PureReads.{read_still}
 use Rattle.outer_lane.specs.declared.blocks.Blocks.{Blocks}
-use Rattle.outer_lane.specs.BroughtUp.{blocks_step, blocks_after, blocks_accessed, AreBlocksQuiet}
-use Rattle.outer_lane.specs.Quiet.{uart_cycle, uart_word, IsTimerQuiet, IsUartQuiet}
+use Rattle.outer_lane.specs.BroughtUp.{blocks_step, blocks_after, blocks_accessed, blocks_pure, AreBlocksQuiet}
+use Rattle.outer_lane.specs.Quiet.{uart_cycle, uart_word, is_lasting_read, IsTimerQuiet, IsUartQuiet}
+use Rattle.outer_lane.specs.Setting.{Setting}
+use Rattle.outer_lane.specs.State.{State}
+use Rattle.outer_lane.specs.declared.world.SeenOutputs.{SeenOutputs}
 use Rattle.outer_lane.specs.Step.{timer_after, byte_of}
-use Rattle.outer_lane.specs.Words.{outer_accessed}
+use Rattle.outer_lane.specs.Words.{outer_accessed, outer_word, own_word}
 
 three : (a b : Resettable TimerState) (c d e f : Resettable SerialPort) → a ≡ b → c ≡ d → e ≡ f →
     ◌≡◌ {A = Blocks} (record { timer = a; uart0 = c; uart1 = e }) (record { timer = b; uart0 = d; uart1 = f })
@@ -76,29 +80,39 @@ still_by : {S : Type 0} (r : Resettable S) (held : Bool) (after : S) → after �
 still_by r true after e = refl
 still_by r false after e = ap (λ s. record r { block = s }) e
 
--- a read that does nothing to the timer, and none to a UART as it was some cycles ago
-pub timer_still : (line0 line1 : Bool) (b : Blocks) (first n offset : ℕ) → ((t : TimerState) → timer_words.effect_of offset None t ≡ t) →
-    blocks_accessed block.Timer offset None (blocks_after line0 line1 first n b) ≡ blocks_after line0 line1 first n b
-unfolding outer_accessed
-timer_still line0 line1 b first n offset still =
-    let c = blocks_after line0 line1 first n b in
-    three _ _ _ _ _ _ (still_by c.timer c.timer.held _ (still c.timer.block)) refl refl
+-- the same reads change nothing as long as they are quiet
+pub pure_after : (line0 line1 : Bool) (b : Blocks) (first n k : ℕ) (block : Block) (offset : ℕ) → AreBlocksQuiet line0 line1 b first n → k ≤ n →
+    blocks_pure block offset (blocks_after line0 line1 first k b) ≡ blocks_pure block offset b
+pure_after line0 line1 b first n k block.Uart0 offset q le = pure_later b.uart0.block _ offset (q.uart0.later k le)
+pure_after line0 line1 b first n k block.Uart1 offset q le = pure_later b.uart1.block _ offset (q.uart1.later k le)
+pure_after line0 line1 b first n k block.Timer offset q le = refl
+pure_after line0 line1 b first n k other offset q le = refl
 
-pub uart0_still : (line0 line1 : Bool) (b : Blocks) (first n k offset : ℕ) → AreBlocksQuiet line0 line1 b first n → k ≤ n →
-    ((t : SerialPort) → IsLater b.uart0.block t → uart_words.effect_of offset None t ≡ t) →
-    blocks_accessed block.Uart0 offset None (blocks_after line0 line1 first k b) ≡ blocks_after line0 line1 first k b
+-- such a read, by each of the blocks
+pub read_stays : (b : Blocks) (block : Block) (offset : ℕ) → blocks_pure block offset b ≡ true → blocks_accessed block offset None b ≡ b
 unfolding outer_accessed
-uart0_still line0 line1 b first n k offset q le still =
-    let c = blocks_after line0 line1 first k b in
-    three _ _ _ _ _ _ refl (still_by c.uart0 c.uart0.held _ (still c.uart0.block (q.uart0.later k le))) refl
+read_stays b block.IoBank0 offset e = cc e
+read_stays b block.PadsBank0 offset e = cc e
+read_stays b block.Uart0 offset e = three _ _ _ _ _ _ refl (still_by b.uart0 b.uart0.held _ (pure_still offset b.uart0.block e)) refl
+read_stays b block.Uart1 offset e = three _ _ _ _ _ _ refl refl (still_by b.uart1 b.uart1.held _ (pure_still offset b.uart1.block e))
+read_stays b block.Timer offset e = three _ _ _ _ _ _ (still_by b.timer b.timer.held _ (read_still offset b.timer.block e)) refl refl
+read_stays b other offset e = cc e
 
-pub uart1_still : (line0 line1 : Bool) (b : Blocks) (first n k offset : ℕ) → AreBlocksQuiet line0 line1 b first n → k ≤ n →
-    ((t : SerialPort) → IsLater b.uart1.block t → uart_words.effect_of offset None t ≡ t) →
-    blocks_accessed block.Uart1 offset None (blocks_after line0 line1 first k b) ≡ blocks_after line0 line1 first k b
+-- the same of the peripherals, where the read lasts; and what it is told
+pub lasting_stays : (block : Block) (offset : ℕ) (s : State) → is_lasting_read block offset s ≡ true → outer_accessed block offset None s ≡ s
 unfolding outer_accessed
-uart1_still line0 line1 b first n k offset q le still =
-    let c = blocks_after line0 line1 first k b in
-    three _ _ _ _ _ _ refl refl (still_by c.uart1 c.uart1.held _ (still c.uart1.block (q.uart1.later k le)))
+lasting_stays block.Uart0 offset s e = ap (λ (u : Resettable SerialPort). record s { uart0 = u }) (still_by s.uart0 s.uart0.held _ (pure_still offset s.uart0.block e))
+lasting_stays block.Uart1 offset s e = ap (λ (u : Resettable SerialPort). record s { uart1 = u }) (still_by s.uart1 s.uart1.held _ (pure_still offset s.uart1.block e))
+lasting_stays block.Timer offset s e = cc e
+lasting_stays block.IoBank0 offset s e = cc e
+lasting_stays block.PadsBank0 offset s e = cc e
+lasting_stays other offset s e = cc e
+
+pub lasting_word : (w : Setting) (seen : SeenOutputs) (block : Block) (offset : ℕ) (s o : State) → is_lasting_read block offset s ≡ true → outer_word block offset w seen o ≡ own_word block offset o
+unfolding outer_word
+lasting_word w seen block.IoBank0 offset s o e = cc e
+lasting_word w seen block.PadsBank0 offset s o e = cc e
+lasting_word w seen other offset s o e = refl
 
 pub quiet_later : (line0 line1 : Bool) (b : Blocks) (first n k m cycle : ℕ) → AreBlocksQuiet line0 line1 b first n → k + m ≤ n →
     cycle ≡ first + k → AreBlocksQuiet line0 line1 (blocks_after line0 line1 first k b) cycle m

@@ -3,6 +3,8 @@ use Rattle.std.proofs.Common.{◌≡◌, ℕ, zero, suc, ◌+◌, ◌-◌, ◌^�
 use Rattle.std.specs.Prelude.{◌≢◌}
 use Rattle.std.proofs.lemmas.Bool.Decides.{nat_tests}
 use Rattle.std.specs.List.{filter}
+use Rattle.rp_base.specs.declared.map.Block.{Block}
+use Rattle.rp_base.specs.declared.map.Block.TheVariants as block
 use Rattle.rp_base.specs.declared.resettable.Resettable.{Resettable}
 use Rattle.rp_base.specs.Held.{unless_held, stays_if}
 use Rattle.rp_base.specs.Resettable.{unless_held_becomes}
@@ -40,10 +42,12 @@ use Rattle.outer_lane.specs.State.{State}
 use Rattle.outer_lane.specs.Step.{either, outs_of, outside_of, levels_by, pads_by, next_by, next, marked_by, marked, timer_after, byte_of, wires_by, words_by, wires_of}
 use Rattle.outer_lane.specs.BroughtUp.{blocks_of, blocks_passed, AreBlocksQuiet}
 use Rattle.outer_lane.specs.Rest.{pads_driven}
-use Rattle.outer_lane.specs.Quiet.{seen_in, outer_step, outer_after, held_blocks, quiet_mark, IsQuiet, uart_cycle, uart_word, words_cycle, words_after, IsSettled, IsTimerQuiet, IsUartQuiet, AreWordsQuiet, IsScriptQuiet}
+use Rattle.outer_lane.specs.Quiet.{seen_in, outer_step, outer_after, held_blocks, quiet_mark, IsQuiet, is_lasting_read, uart_cycle, uart_word, words_cycle, words_after, IsSettled, IsTimerQuiet, IsUartQuiet, AreWordsQuiet, IsScriptQuiet}
 use Rattle.outer_lane.specs.declared.blocks.Blocks.{Blocks}
 use Rattle.outer_lane.proofs.BroughtUp.{quiet_less}
+use Rattle.outer_lane.specs.Words.{own_word}
 use Rattle.rp_uart.proofs.Passing.{quiet-none}
+use Rattle.rp_uart.proofs.PureReads.{pure_later}
 use Rattle.io_bank.proofs.Routed.{levels_same}
 
 -- ---- a block beside its bit of RESETS
@@ -337,6 +341,21 @@ passed_pacing w seen s n k p le =
 passed_held : (w : Setting) (seen : SeenOutputs) (s : State) (n k : ℕ) → ArePartsQuiet w seen s n → k ≤ n → held_blocks (passed w seen k s) ≡ held_blocks s
 passed_held w seen s n k p le = rw (p.timer_quiet.held k le, p.uart0_quiet.held k le, p.uart1_quiet.held k le) refl
 
+-- ---- what words read as
+
+passed_lasts : (w : Setting) (seen : SeenOutputs) (s : State) (n k : ℕ) → ArePartsQuiet w seen s n → k ≤ n → (block : Block) (offset : ℕ) → is_lasting_read block offset (passed w seen k s) ≡ is_lasting_read block offset s
+passed_lasts w seen s n k p le block.Uart0 offset = pure_later s.uart0.block _ offset (p.uart0_quiet.later k le)
+passed_lasts w seen s n k p le block.Uart1 offset = pure_later s.uart1.block _ offset (p.uart1_quiet.later k le)
+passed_lasts w seen s n k p le other offset = refl
+
+passed_reads : (w : Setting) (seen : SeenOutputs) (s : State) (n k : ℕ) → ArePartsQuiet w seen s n → k ≤ n → (block : Block) (offset : ℕ) → is_lasting_read block offset s ≡ true
+    → own_word block offset (passed w seen k s) ≡ own_word block offset s
+unfolding own_word
+passed_reads w seen s n k p le block.Uart0 offset e = p.uart0_quiet.words k le offset
+passed_reads w seen s n k p le block.Uart1 offset e = p.uart1_quiet.words k le offset
+passed_reads w seen s n k p le block.Timer offset e = cc e
+passed_reads w seen s n k p le other offset e = refl
+
 pub parts_quiet : (w : Setting) (seen : SeenOutputs) (s : State) (n : ℕ) → ArePartsQuiet w seen s n → IsQuiet w seen s n
 parts_quiet w seen s n p =
     let at = parts_closed w seen s n p in
@@ -349,6 +368,8 @@ parts_quiet w seen s n p =
       sio = λ k le. ap (λ (x : State). x.sio) (at k le);
       held = λ k le. ap held_blocks (at k le) ∙ passed_held w seen s n k p le;
       words = λ k le. ap (λ (x : State). length x.device) (at k le) ∙ p.words_quiet.count k le;
+      lasts = λ k le block offset. ap (is_lasting_read block offset) (at k le) ∙ passed_lasts w seen s n k p le block offset;
+      reads = λ k le block offset e. ap (own_word block offset) (at k le) ∙ passed_reads w seen s n k p le block offset e;
     }
 
 -- ---- for no cycle, and for fewer
@@ -365,6 +386,8 @@ quiet_zero w seen s =
       sio = λ k le. ap (λ (x : State). x.sio) (at k le);
       held = λ k le. ap held_blocks (at k le);
       words = λ k le. ap (λ (x : State). length x.device) (at k le);
+      lasts = λ k le block offset. ap (is_lasting_read block offset) (at k le);
+      reads = λ k le block offset e. ap (own_word block offset) (at k le);
     }
 
 -- by the number of cycles that each part is quiet for

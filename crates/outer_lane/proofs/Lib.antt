@@ -3,7 +3,7 @@ mod Rest
 mod Sets
 mod Stepped
 mod Staying
-mod BroughtUp
+pub mod BroughtUp
 mod Cycles
 pub mod Accesses
 mod WithBank

@@ -14,7 +14,7 @@ use Rattle.rp_timer.specs.State as timer
 use Rattle.rp_timer.specs.State.{lines_of}
 use Rattle.outer_lane.specs.declared.blocks.Blocks.{Blocks}
 use Rattle.outer_lane.specs.Lines.{block_lines}
-use Rattle.outer_lane.specs.Quiet.{uart_cycle, IsTimerQuiet, IsUartQuiet}
+use Rattle.outer_lane.specs.Quiet.{uart_cycle, is_pure_read, IsTimerQuiet, IsUartQuiet}
 use Rattle.outer_lane.specs.State.{State, outer_at_start}
 use Rattle.outer_lane.specs.Step.{timer_after, uart_after}
 use Rattle.outer_lane.specs.Words.{own_word, outer_accessed}
@@ -88,6 +88,10 @@ blocks_word block offset b = own_word block offset (with_blocks b (outer_at_star
 
 abbrev pub blocks_accessed : Block → ℕ → Option ℕ → Blocks → Blocks
 blocks_accessed block offset write b = blocks_of (outer_accessed block offset write (with_blocks b (outer_at_start [])))
+
+-- a read that changes nothing
+abbrev pub blocks_pure : Block → ℕ → Blocks → Bool
+blocks_pure block offset b = is_pure_read block offset (with_blocks b (outer_at_start []))
 
 -- what the bits of RESETS do
 abbrev pub blocks_reset : ℕ → Blocks → Blocks

@@ -1,6 +1,8 @@
 -- For how long the peripherals are quiet, and what they are after so many cycles.
-use Rattle.std.specs.Prelude.{◌≡◌, ℕ, ◌+◌, ◌<◌, ◌≤◌, Bool, if◌then◌else◌, List, [], ◌∷◌, length, Option, None}
+use Rattle.std.specs.Prelude.{◌≡◌, ℕ, ◌+◌, ◌<◌, ◌≤◌, Bool, true, false, if◌then◌else◌, List, [], ◌∷◌, length, Option, None}
 use Rattle.std.specs.List.{filter}
+use Rattle.rp_base.specs.declared.map.Block.{Block}
+use Rattle.rp_base.specs.declared.map.Block.TheVariants as block
 use Rattle.rp_base.specs.declared.resettable.Resettable.{Resettable}
 use Rattle.rp_base.specs.Held.{unless_held}
 use Rattle.rp_base.specs.ResetBits.{TIMER, UART0, UART1}
@@ -13,16 +15,19 @@ use Rattle.io_bank.specs.Step.{after_step}
 use Rattle.pin_script.specs.declared.entry.Entry.{Entry}
 use Rattle.pin_script.specs.Levels.{is_due}
 use Rattle.rp_timer.specs.State.{State as TimerState, lines_of}
+use Rattle.rp_timer.specs.Words as timer
 use Rattle.rp_uart.specs.State.{State as SerialPort}
 use Rattle.rp_uart.specs.Step.{output_of, pacing_of}
 use Rattle.rp_uart.specs.Interrupts.{is_line_high}
 use Rattle.rp_uart.specs.Quiet.{IsLater}
 use Rattle.rp_uart.specs.Words.{word_of}
+use Rattle.rp_uart.specs.Words as uart
 use Rattle.outer_lane.specs.declared.world.SeenOutputs.{SeenOutputs}
 use Rattle.outer_lane.specs.Setting.{Setting}
 use Rattle.outer_lane.specs.State.{State}
 use Rattle.outer_lane.specs.Lines.{outer_lines, outer_pacing}
 use Rattle.outer_lane.specs.Step.{is_fitting, next, marked, outs_of, outside_of, timer_after, uart_after, byte_of, wires_by, wires_of, words_by}
+use Rattle.outer_lane.specs.Words.{own_word}
 
 -- what is seen in another cycle, where the outputs of PIO stay
 abbrev pub seen_in : SeenOutputs → ℕ → SeenOutputs
@@ -47,9 +52,21 @@ held_by reset = has_bit reset TIMER ∷ has_bit reset UART0 ∷ has_bit reset UA
 abbrev pub quiet_mark : State → Mark
 quiet_mark s = record { uart = None ∷ None ∷ []; pads = s.pads.current }
 
+-- a read of a word of the timer or of a UART that changes nothing
+abbrev pub is_pure_read : Block → ℕ → State → Bool
+is_pure_read block.Uart0 offset s = uart.is_pure_read offset s.uart0.block
+is_pure_read block.Uart1 offset s = uart.is_pure_read offset s.uart1.block
+is_pure_read block.Timer offset s = timer.is_pure_read offset
+is_pure_read _ offset s = false
+
+-- one that also reads the same as long as they are quiet: of a UART, since time goes on in the timer
+abbrev pub is_lasting_read : Block → ℕ → State → Bool
+is_lasting_read block.Timer offset s = false
+is_lasting_read other offset s = is_pure_read other offset s
+
 -- in each of so many cycles, as long as the outputs of PIO are these, no frame ends and no level changes; after each the pads, the
 -- interrupt lines, the counts that pace DMA channels, what is kept of SIO and of RESETS, and the number of the device's words are
--- what they were
+-- what they were, and lasting reads last
 pub record IsQuiet (w : Setting) (seen : SeenOutputs) (s : State) (n : ℕ) : Type 0 where
   pub mark : (k : ℕ) → k < n → marked w (outer_after w seen k s) (seen_in seen (seen.cycle + k)) ≡ quiet_mark s
   pub pads : (k : ℕ) → k ≤ n → (outer_after w seen k s).pads ≡ s.pads
@@ -59,6 +76,9 @@ pub record IsQuiet (w : Setting) (seen : SeenOutputs) (s : State) (n : ℕ) : Ty
   pub sio : (k : ℕ) → k ≤ n → (outer_after w seen k s).sio ≡ s.sio
   pub held : (k : ℕ) → k ≤ n → held_blocks (outer_after w seen k s) ≡ held_blocks s
   pub words : (k : ℕ) → k ≤ n → length (outer_after w seen k s).device ≡ length s.device
+  pub lasts : (k : ℕ) → k ≤ n → (block : Block) (offset : ℕ) → is_lasting_read block offset (outer_after w seen k s) ≡ is_lasting_read block offset s
+  pub reads : (k : ℕ) → k ≤ n → (block : Block) (offset : ℕ) → is_lasting_read block offset s ≡ true
+      → own_word block offset (outer_after w seen k s) ≡ own_word block offset s
 
 -- a cycle in which this is seen leaves the pads as they are, and the lines of the device
 pub record IsSettled (w : Setting) (seen : SeenOutputs) (s : State) : Type 0 where

@@ -44,11 +44,11 @@ impl Model for Behind {
 }
 
 impl Behind {
-    ghost use Rattle.std.specs.Prelude.{◌≡◌, ◌+◌, ◌<◌, ◌^◌, ◌∷◌, [], List, ℕ, true, false, None, Decides};
+    ghost use Rattle.std.specs.Prelude.{◌≡◌, ◌+◌, ◌<◌, ◌^◌, ◌∷◌, ◌++◌, [], true, false, None, Decides};
     ghost use Rattle.rp_base.specs.Held.{unless_held};
     ghost use Rattle.rp_timer.specs.Words.{word_of};
     ghost use Rattle.rp_uart.specs.Step.{pacing_of};
-    ghost use Rattle.outer_lane.specs.BroughtUp.{told_at_start, told_step, told_after, blocks_outs, blocks_lines, blocks_word, blocks_accessed, blocks_reset, AreBlocksQuiet};
+    ghost use Rattle.outer_lane.specs.BroughtUp.{told_at_start, told_step, told_after, blocks_outs, blocks_lines, blocks_word, blocks_pure, blocks_accessed, blocks_reset, AreBlocksQuiet};
     ghost use Rattle.outer_lane.specs.Step.{byte_of};
 
     /// Before the first cycle: each is at reset and none is held, and the lines are high.
@@ -151,11 +151,10 @@ impl Behind {
         self.span = self.blocks.span(line0, line1, next);
     }
 
-    /// A read at this offset of one of them is known to change nothing.
+    /// A read at this offset of one of them changes nothing.
     #[inline(always)]
-    #[tactic(auto, using(crate::proofs::BroughtUp::timer_still))]
     pub(crate) fn is_pure_read(&self, block: Block, offset: u16) -> bool
-        ensures { result ≡ true → blocks_accessed block offset None self.now.blocks ≡ self.now.blocks }
+        ensures { result ≡ blocks_pure block offset self.now.blocks }
     {
         match block {
             Block::Uart0 => self.blocks.uart0.block.is_pure_read(offset),

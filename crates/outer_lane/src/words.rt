@@ -16,9 +16,10 @@ impl Outer {
     ghost use Rattle.std.specs.Prelude.{◌≡◌};
     ghost use Rattle.io_bank.specs.Words.{effect_of};
     ghost use Rattle.outer_lane.specs.BroughtUp.{blocks_of, with_blocks, blocks_accessed};
+    ghost use Rattle.outer_lane.specs.Quiet.{is_lasting_read};
     ghost use Rattle.outer_lane.specs.Setting.{setting};
     ghost use Rattle.outer_lane.specs.Step.{wires_of};
-    ghost use Rattle.outer_lane.specs.Words.{outs_now, pads_word, outer_word, outer_allowed, outer_accessed};
+    ghost use Rattle.outer_lane.specs.Words.{outs_now, pads_word, own_word, outer_word, outer_allowed, outer_accessed};
 
     /// The word at an offset in a register block as it reads in this cycle. None where the block has no such word, or is
     /// none of the peripherals.
@@ -38,6 +39,26 @@ impl Outer {
                 self.read_pads(world, seen, PADS_BANK0 + offset)
             }
             _ => self.blocks.read(block, offset),
+        }
+    }
+
+    /// The word at an offset of the timer or of a UART. None where the block has no such word, or is none of these.
+    #[inline(always)]
+    #[tactic(auto, unfolding(crate::specs::Words::own_word))]
+    pub fn read_own(&self, block: Block, offset: u16) -> Option<u32>
+        ensures { result ≡ own_word block offset self.now }
+    {
+        self.blocks.read(block, offset)
+    }
+
+    /// A read at this offset of a UART changes nothing and reads the same, as long as the peripherals are quiet. False of any other block.
+    #[inline(always)]
+    pub fn is_lasting_read(&self, block: Block, offset: u16) -> bool
+        ensures { result ≡ is_lasting_read block offset self.now }
+    {
+        match block {
+            Block::Timer => false,
+            _ => self.blocks.is_pure_read(block, offset),
         }
     }
 
@@ -114,6 +135,7 @@ impl Outer {
 
     /// Does what a read, or a write of this word, does to the timer or a UART.
     #[inline(always)]
+    #[tactic(auto, using(crate::proofs::BroughtUp::read_stays))]
     fn access_blocks(&mut self, block: Block, offset: u16, write: Option<u32>)
         ensures { self.new ≡ with_blocks (blocks_accessed block offset write (blocks_of self.old)) self.old }
     {
