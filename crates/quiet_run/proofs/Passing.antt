@@ -275,6 +275,8 @@ fewer w seen o n m q le = record {
   sio = λ k lt. q.sio k (omega arith);
   held = λ k lt. q.held k (omega arith);
   words = λ k lt. q.words k (omega arith);
+  lasts = λ k lt. q.lasts k (omega arith);
+  reads = λ k lt. q.reads k (omega arith);
 }
 
 pub fewer_parts : (w : Setting) (s : State) (n m : ℕ) → ArePartsQuiet w s n → m ≤ n → ArePartsQuiet w s m

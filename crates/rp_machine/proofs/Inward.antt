@@ -1,11 +1,13 @@
 -- Core 0 goes on alone beside lanes that lie behind: each cycle is the definition's.
 use Rattle.std.proofs.lemmas.Bool.Decides.{eqb_tells}
-use Rattle.std.proofs.Common.{◌≡◌, ◌+◌, ◌*◌, ◌%◌, ◌^◌, ◌<◌, ◌≤◌, zero, suc, inl, inr, arith, ℕ, true, false, Bool, if◌then◌else◌, List, [], ◌∷◌, Option, Some, None, ◌==◌, ◌&&◌, not, bit_or, refl, sym, ap, ◌∙◌}
+use Rattle.std.proofs.Common.{◌≡◌, ◌+◌, ◌*◌, ◌%◌, ◌^◌, ◌<◌, ◌≤◌, zero, suc, inl, inr, arith, ℕ, true, false, Bool, if◌then◌else◌, List, [], ◌∷◌, Option, Some, None, ◌==◌, ◌&&◌, bit_or, refl, sym, ap, ◌∙◌}
+use Rattle.std.specs.Prelude.{is_none, unwrap_or}
 use Rattle.rp_base.specs.declared.Master.{Master}
 use Rattle.rp_base.specs.declared.Master.TheVariants as master
 use Rattle.rp_base.specs.declared.Request.{Request}
 use Rattle.rp_base.specs.declared.Why.{Why}
 use Rattle.rp_base.specs.declared.Why.TheVariants as why
+use Rattle.rp_base.specs.declared.map.Block.{Block}
 use Rattle.rp_base.specs.declared.map.Spot.{Spot}
 use Rattle.rp_base.specs.declared.map.Spot.TheVariants as spot
 use Rattle.rp_base.specs.Map.{place_of}
@@ -14,6 +16,7 @@ use Rattle.lane_look.specs.declared.lane.Ask.TheVariants as ask
 use Rattle.lane_look.specs.declared.marks.Mark.{Mark}
 use Rattle.lane_look.specs.declared.lane.Want.{Want}
 use Rattle.lane_look.specs.declared.lane.Want.TheVariants as want
+use Rattle.lane_look.specs.declared.lane.Turn.{Turn}
 use Rattle.lane_look.specs.declared.lane.Turn.TheVariants as turn
 use Rattle.lane_look.specs.Asking.{Asking, answered}
 use Rattle.lane_look.specs.Asking.Asking.{Ready, Question}
@@ -45,17 +48,22 @@ use Rattle.outer_lane.specs.Lines.{outer_lines, outer_inputs, outer_pacing}
 use Rattle.outer_lane.specs.declared.world.SeenOutputs.{SeenOutputs}
 use Rattle.outer_lane.specs.Step as outer
 use Rattle.outer_lane.specs.Step.{marked}
-use Rattle.outer_lane.specs.Quiet.{IsQuiet, seen_in, outer_after}
+use Rattle.outer_lane.specs.Quiet.{IsQuiet, seen_in, outer_after, is_lasting_read}
+use Rattle.outer_lane.specs.Words.{outer_allowed, own_word}
+use Rattle.outer_lane.proofs.BroughtUp.{lasting_stays, lasting_word}
 use Rattle.lane_look.specs.Times.{times}
 use Rattle.rp_machine.specs.State.{State}
+use Rattle.rp_machine.specs.declared.deed.Deed.{Deed}
+use Rattle.rp_machine.specs.declared.deed.Deed.TheVariants as deed
+use Rattle.rp_machine.proofs.Wantless.{both}
 use Rattle.rp_machine.specs.Answers.{answer_of, pair_number, sio_lines, lines_of, block_lines, packed_pair, pacing_of, inputs_of, outs_of}
-use Rattle.rp_machine.specs.Deeds.{word_for, opens, is_open, asked_of, is_done_at, turn_of, deed_of, cause_of, stored_at}
-use Rattle.rp_machine.specs.Registers.{Part, part_of, part_word}
+use Rattle.rp_machine.specs.Deeds.{word_for, opens, is_open, asked_of, is_done_at, turn_at, turn_of, accessed_at, deed_of, cause_of, stored_at}
+use Rattle.rp_machine.specs.Registers.{Part, part_of, part_word, part_accessed, plain_write}
 use Rattle.rp_machine.specs.Registers.Part.{Resets, Fabric, Dma, Pio0, Pio1, Outer}
-use Rattle.rp_machine.specs.Cycle.{begun, wanted, wanted_by, cause_in, pins_of, with_sio, ended, after_deed, mark, stop, next}
+use Rattle.rp_machine.specs.Cycle.{begun, wanted, wanted_by, cause_in, pins_of, with_sio, found_by, ended, after_deed, mark, stop, next}
 use Rattle.rp_machine.specs.Wantless.{core1_launched}
 use Rattle.rp_machine.specs.Alone.{Blocks, AreBlocksQuiet, blocks_after, with_blocks, IsCore1Quiet, core1_after, IsCore0Alone, alone_next, granted_alone, with_grant, with_store}
-use Rattle.rp_machine.specs.Inward.{with_beside, is_theirs, is_peripheral, is_inward, core0_want, goes_inward, inward_turn, inward_deed, core0_stepped, inward_wantless, inward_next, TellsSame, AgreeWithSio, GoesAlone, GoesOn, inward_cycle, inward_after, StaysInward, onward_after, GoesOnward, Core0GoesOnAlone}
+use Rattle.rp_machine.specs.Inward.{with_beside, is_theirs, is_peripheral, lasts_at, is_lasting, read_at, read_there, is_inward, core0_want, goes_inward, inward_turn, inward_deed, core0_stepped, inward_wantless, inward_next, TellsSame, AgreeWithSio, GoesAlone, GoesOn, inward_cycle, inward_after, StaysInward, onward_after, GoesOnward, Core0GoesOnAlone}
 use Rattle.rp_machine.specs.Events.{events}
 use Rattle.rp_machine.specs.Run.{states}
 use Rattle.rp_machine.proofs.Quietly.{RunsThrough, states_through, fewer, no_events, seen_later, seen_number}
@@ -117,7 +125,7 @@ ends_beside p c o q told pins =
 
 -- what a cycle has come to before the launcher has its turn
 abbrev reached : Doing → Want → State → State
-reached b x s = core0_stepped b (inward_turn (granted_alone x s) x) (with_grant x s)
+reached b x s = core0_stepped b (inward_turn (granted_alone x s) x s.outer) (with_grant x s)
 
 abbrev closed : Want → ℕ → Bool → State → State
 closed x cycle granted q = record (ended (with_store (inward_deed granted x) q)) { cycle = cycle + 1 }
@@ -131,14 +139,14 @@ inward_end w p c o s b seen x h =
     ∙ ap (λ (q : State). record q { cycle = s.cycle + 1 })
     (ends_beside p c (outer.next w o seen) (with_store (inward_deed (granted_alone x s) x) (reached b x s)) h.told ((outer_next w o seen).sio ∙ h.pins))
 
--- an access to the peripherals that is not granted is not done
-waits : (at : Spot) (granted : Bool) → (not granted && is_peripheral at) ≡ true → is_done_at at granted ≡ false
-waits (spot.Reg block offset alias) false e = refl
-waits at true e = absurd (cc e)
-waits (spot.Ram index bank) false e = absurd (cc e)
-waits (spot.Sio offset) false e = absurd (cc e)
-waits (spot.Ppb offset) false e = absurd (cc e)
-waits spot.Outside false e = absurd (cc e)
+-- an access to the peripherals is done where it is granted
+done_there : (request : Request) (at : Spot) (granted : Bool) (o : OuterState) → (if granted then is_lasting request at o else is_peripheral at) ≡ true → is_done_at at granted ≡ granted
+done_there request (spot.Reg block offset alias) granted o e = refl
+done_there request (spot.Ram index bank) granted o e = refl
+done_there request (spot.Sio offset) true o e = refl
+done_there request (spot.Sio offset) false o e = absurd (cc e)
+done_there request (spot.Ppb offset) granted o e = refl
+done_there request spot.Outside granted o e = refl
 
 -- and they have its word
 theirs : (w : Setting) (seen : SeenOutputs) (r : Request) (p : Part) (offset alias : ℕ) (s : State) → is_theirs p offset ≡ true → opens p r offset alias (part_word p offset w seen s) ≡ true
@@ -150,56 +158,165 @@ theirs w seen r Dma offset alias s e = absurd (cc e)
 theirs w seen r Pio0 offset alias s e = absurd (cc e)
 theirs w seen r Pio1 offset alias s e = absurd (cc e)
 
-has_word : (w : Setting) (seen : SeenOutputs) (m : Master) (r : Request) (at : Spot) (granted : Bool) (s : State) → (not granted && is_peripheral at) ≡ true
+last_theirs : (p : Part) (offset : ℕ) (o : OuterState) → lasts_at p offset o ≡ true → is_theirs p offset ≡ true
+last_theirs (Outer block) offset o e = (both (outer_allowed block offset) _ e).0
+last_theirs Resets offset o e = cc e
+last_theirs Fabric offset o e = cc e
+last_theirs Dma offset o e = cc e
+last_theirs Pio0 offset o e = cc e
+last_theirs Pio1 offset o e = cc e
+
+reads_theirs : (granted : Bool) (r : Request) (p : Part) (offset : ℕ) (o : OuterState) → (if granted then is_none r.write && lasts_at p offset o else is_theirs p offset) ≡ true → is_theirs p offset ≡ true
+reads_theirs true r p offset o e = last_theirs p offset o (both (is_none r.write) _ e).1
+reads_theirs false r p offset o e = e
+
+nowhere : (granted : Bool) → (if granted then false else false) ≡ true → ⊥
+nowhere true e = cc e
+nowhere false e = cc e
+
+has_word : (w : Setting) (seen : SeenOutputs) (m : Master) (r : Request) (at : Spot) (granted : Bool) (s : State) (o : OuterState) → (if granted then is_lasting r at o else is_peripheral at) ≡ true
     → is_open r at (word_for w seen m r.address at s) ≡ true
 unfolding word_for
-has_word w seen m r at true s e = absurd (cc e)
-has_word w seen m r (spot.Reg block offset alias) false s e = theirs w seen r (part_of block) offset alias s e
-has_word w seen m r (spot.Ram index bank) false s e = absurd (cc e)
-has_word w seen m r (spot.Sio offset) false s e = absurd (cc e)
-has_word w seen m r (spot.Ppb offset) false s e = absurd (cc e)
-has_word w seen m r spot.Outside false s e = absurd (cc e)
+has_word w seen m r (spot.Reg block offset alias) granted s o e = theirs w seen r (part_of block) offset alias s (reads_theirs granted r (part_of block) offset o e)
+has_word w seen m r (spot.Ram index bank) granted s o e = absurd (nowhere granted e)
+has_word w seen m r (spot.Sio offset) granted s o e = absurd (nowhere granted e)
+has_word w seen m r (spot.Ppb offset) granted s o e = absurd (nowhere granted e)
+has_word w seen m r spot.Outside granted s o e = absurd (nowhere granted e)
 
-inward_same : (w : Setting) (p q : Blocks) (c d : Core) (o : OuterState) (s : State) (b : Doing) (seen : SeenOutputs) (x : Want) → AgreeWithSio d o s
-    → is_inward (granted_alone x s) x ≡ true → alone_next w q d b seen x (with_beside p c o s) ≡ with_beside q d (outer.next w o seen) (inward_next b x s)
+-- ---- a read that lasts
+
+-- beside peripherals that come from o by a cycle in which this is seen it finds the same
+pub record ReadsSame (w : Setting) (o : OuterState) (seen : SeenOutputs) (s : State) : Type 0 where
+  pub lasts : (block : Block) (offset : ℕ) → is_lasting_read block offset s.outer ≡ true → is_lasting_read block offset (outer.next w o seen) ≡ true
+  pub reads : (block : Block) (offset : ℕ) → is_lasting_read block offset s.outer ≡ true → own_word block offset o ≡ own_word block offset s.outer
+
+same_word : (w : Setting) (seen : SeenOutputs) (p : Part) (offset : ℕ) (s u : State) → ReadsSame w u.outer seen s → lasts_at p offset s.outer ≡ true → unwrap_or (part_word p offset w seen u) 0 ≡ read_at p offset s.outer
+unfolding part_word
+same_word w seen (Outer block) offset s u h e =
+    let lasts = (both (outer_allowed block offset) _ e).1 in
+    ap (λ (x : Option ℕ). unwrap_or x 0) (lasting_word w seen block offset s.outer u.outer lasts ∙ h.reads block offset lasts)
+same_word w seen Resets offset s u h e = cc e
+same_word w seen Fabric offset s u h e = cc e
+same_word w seen Dma offset s u h e = cc e
+same_word w seen Pio0 offset s u h e = cc e
+same_word w seen Pio1 offset s u h e = cc e
+
+told_same : (w : Setting) (seen : SeenOutputs) (r : Request) (at : Spot) (s u : State) → ReadsSame w u.outer seen s → is_lasting r at s.outer ≡ true
+    → unwrap_or (word_for w seen master.Core0 r.address at u) 0 ≡ read_there at s.outer
+unfolding word_for
+told_same w seen r (spot.Reg block offset alias) s u h e = same_word w seen (part_of block) offset s u h (both (is_none r.write) _ e).1
+told_same w seen r (spot.Ram index bank) s u h e = cc e
+told_same w seen r (spot.Sio offset) s u h e = cc e
+told_same w seen r (spot.Ppb offset) s u h e = cc e
+told_same w seen r spot.Outside s u h e = cc e
+
+-- it does nothing, neither to the peripherals nor to SRAM
+part_stays : (w : Setting) (o : OuterState) (seen : SeenOutputs) (p : Part) (offset : ℕ) (s q : State) → ReadsSame w o seen s → q.outer ≡ outer.next w o seen → lasts_at p offset s.outer ≡ true
+    → part_accessed p offset None q ≡ q
+unfolding part_accessed
+part_stays w o seen (Outer block) offset s q h same e =
+    ap (λ (x : OuterState). record q { outer = x })
+    (lasting_stays block offset q.outer (ap (is_lasting_read block offset) same ∙ h.lasts block offset (both (outer_allowed block offset) _ e).1))
+part_stays w o seen Resets offset s q h same e = cc e
+part_stays w o seen Fabric offset s q h same e = cc e
+part_stays w o seen Dma offset s q h same e = cc e
+part_stays w o seen Pio0 offset s q h same e = cc e
+part_stays w o seen Pio1 offset s q h same e = cc e
+
+no_write : (r : Request) (write : Option ℕ) (alias word : ℕ) → is_none write ≡ true → plain_write r write alias word ≡ None
+no_write r None alias word e = refl
+no_write r (Some value) alias word e = cc e
+
+read_does : (w : Setting) (o : OuterState) (seen : SeenOutputs) (found : Bool) (r : Request) (at : Spot) (s u q : State) → ReadsSame w o seen s → q.outer ≡ outer.next w o seen → is_lasting r at s.outer ≡ true
+    → after_deed w found master.Core0 (accessed_at w seen r at u) q ≡ q
+unfolding after_deed
+read_does w o seen found r (spot.Reg block offset alias) s u q h same e =
+    let parts = both (is_none r.write) _ e in
+    ap (λ (write : Option ℕ). part_accessed (part_of block) offset write q) (no_write r r.write alias _ parts.0)
+    ∙ part_stays w o seen (part_of block) offset s q h same parts.1
+read_does w o seen found r (spot.Ram index bank) s u q h same e = cc e
+read_does w o seen found r (spot.Sio offset) s u q h same e = cc e
+read_does w o seen found r (spot.Ppb offset) s u q h same e = cc e
+read_does w o seen found r spot.Outside s u q h same e = cc e
+
+read_stores : (w : Setting) (seen : SeenOutputs) (r : Request) (at : Spot) (u q : State) → with_store (accessed_at w seen r at u) q ≡ q
+read_stores w seen r (spot.Reg block offset alias) u q = refl
+read_stores w seen r (spot.Ram index bank) u q = refl
+read_stores w seen r (spot.Sio offset) u q = refl
+read_stores w seen r (spot.Ppb offset) u q = refl
+read_stores w seen r spot.Outside u q = refl
+
+-- ---- an access to the peripherals
+
+abbrev finished : Setting → Want → Deed → State → State → State
+finished w x d s q =
+    record (ended (with_store d (core1_launched (offers_of s.sio) (after_deed w (found_by master.Core0 d s.sio) master.Core0 d q)))) { cycle = s.cycle + 1 }
+
+outward_by : (w : Setting) (p q : Blocks) (c d : Core) (o : OuterState) (s : State) (b : Doing) (seen : SeenOutputs) (request : Request) (granted : Bool) → AgreeWithSio d o s → ReadsSame w o seen s
+    → granted_alone (want.Outward request) s ≡ granted → (if granted then is_lasting request (place_of request.address) s.outer else is_peripheral (place_of request.address)) ≡ true
+    → alone_next w q d b seen (want.Outward request) (with_beside p c o s) ≡ with_beside q d (outer.next w o seen) (inward_next b (want.Outward request) s)
+unfolding alone_next turn_of deed_of after_deed
+outward_by w p q c d o s b seen request false h r g e =
+    let x = want.Outward request in
+    let at = place_of request.address in
+    let after = λ (told : Turn). with_beside q d (outer.next w o seen) (core0_stepped b told (with_grant x s)) in
+    rw (ap (is_done_at at) g ∙ done_there request at false s.outer e)
+    (sym (ap (λ (b : Bool). record (ended (core1_launched (offers_of s.sio) (after (turn_at b (read_there at s.outer))))) { cycle = s.cycle + 1 }) g)
+    ∙ inward_end w q d o s b seen x h)
+outward_by w p q c d o s b seen request true h r g e =
+    let x = want.Outward request in
+    let at = place_of request.address in
+    let u = with_beside p c o s in
+    let does = accessed_at w seen request at u in
+    let after = λ (told : Turn). with_beside q d (outer.next w o seen) (core0_stepped b told (with_grant x s)) in
+    let word = unwrap_or (word_for w seen master.Core0 request.address at u) 0 in
+    let done : is_done_at at (granted_alone x s) ≡ true = ap (is_done_at at) g ∙ done_there request at true s.outer e in
+    ap (λ (b : Bool). finished w x (if b then does else deed.Nothing) s (after (turn_at b word))) done
+    ∙ ap (λ (t : State). record (ended (with_store does (core1_launched (offers_of s.sio) t))) { cycle = s.cycle + 1 })
+    (read_does w o seen (found_by master.Core0 does s.sio) request at s u (after (turn.Done word)) r refl e)
+    ∙ ap (λ (t : State). record (ended t) { cycle = s.cycle + 1 }) (read_stores w seen request at u (core1_launched (offers_of s.sio) (after (turn.Done word))))
+    ∙ ap (λ (n : ℕ). record (ended (core1_launched (offers_of s.sio) (after (turn.Done n)))) { cycle = s.cycle + 1 }) (told_same w seen request at s u r e)
+    ∙ sym (ap (λ (b : Bool). record (ended (core1_launched (offers_of s.sio) (after (turn_at b (read_there at s.outer))))) { cycle = s.cycle + 1 }) g)
+    ∙ inward_end w q d o s b seen x h
+
+inward_same : (w : Setting) (p q : Blocks) (c d : Core) (o : OuterState) (s : State) (b : Doing) (seen : SeenOutputs) (x : Want) → AgreeWithSio d o s → ReadsSame w o seen s
+    → is_inward (granted_alone x s) x s.outer ≡ true → alone_next w q d b seen x (with_beside p c o s) ≡ with_beside q d (outer.next w o seen) (inward_next b x s)
 unfolding alone_next turn_of deed_of asked_of after_deed
-inward_same w p q c d o s b seen want.Nothing h e = inward_end w q d o s b seen want.Nothing h
-inward_same w p q c d o s b seen (want.Ram request) h e =
-    ap (λ (r : State). closed (want.Ram request) s.cycle (granted_alone (want.Ram request) s) (core1_launched (offers_of s.sio) r))
+inward_same w p q c d o s b seen want.Nothing h r e = inward_end w q d o s b seen want.Nothing h
+inward_same w p q c d o s b seen (want.Ram request) h r e =
+    ap (λ (t : State). closed (want.Ram request) s.cycle (granted_alone (want.Ram request) s) (core1_launched (offers_of s.sio) t))
     (no_deed_where w _ (granted_alone (want.Ram request) s) request (with_beside q d (outer.next w o seen) (reached b (want.Ram request) s)))
     ∙ inward_end w q d o s b seen (want.Ram request) h
-inward_same w p q c d o s b seen (want.Outward request) h e =
-    let x = want.Outward request in
-    rw (waits (place_of request.address) (granted_alone x s) e) (inward_end w q d o s b seen x h)
-inward_same w p q c d o s b seen want.Signal h e = cc
-inward_same w p q c d o s b seen (want.Stopped cause) h e = cc
+inward_same w p q c d o s b seen (want.Outward request) h r e = outward_by w p q c d o s b seen request (granted_alone (want.Outward request) s) h r refl e
+inward_same w p q c d o s b seen want.Signal h r e = cc
+inward_same w p q c d o s b seen (want.Stopped cause) h r e = cc
 
 pub onward : (w : Setting) (p q : Blocks) (c d : Core) (o : OuterState) (s : State) → AgreeWithSio d o s → IsCore0Alone (with_beside p c o s) q d → TellsSame p c o s
-    → goes_inward s ≡ true → next w (with_beside p c o s) ≡ with_beside q d (outer.next w o (begun (with_beside p c o s)).outer) (inward_next (begun s).core0 (core0_want s) s)
-onward w p q c d o s h alone same inward =
+    → ReadsSame w o (begun (with_beside p c o s)).outer s → goes_inward s ≡ true → next w (with_beside p c o s) ≡ with_beside q d (outer.next w o (begun (with_beside p c o s)).outer) (inward_next (begun s).core0 (core0_want s) s)
+onward w p q c d o s h alone same reads inward =
     next_alone w (with_beside p c o s) q d alone
     ∙ ap (λ b. alone_next w q d b (begun (with_beside p c o s)).outer (core.want_of b) (with_beside p c o s)) (begun_same p c o s same)
-    ∙ inward_same w p q c d o s (begun s).core0 (begun (with_beside p c o s)).outer (core0_want s) h inward
+    ∙ inward_same w p q c d o s (begun s).core0 (begun (with_beside p c o s)).outer (core0_want s) h reads inward
 
 -- no master stops it
 abbrev outside_unless : Bool → ℕ → Option Why
 outside_unless opened address = if opened then None else Some (why.Outside master.Core0 address)
 
-no_cause : (w : Setting) (seen : SeenOutputs) (s : State) (granted : Bool) (x : Want) → is_inward granted x ≡ true → cause_of w seen s (wanted_by master.Core0 x) ≡ None
+no_cause : (w : Setting) (seen : SeenOutputs) (s : State) (granted : Bool) (x : Want) (o : OuterState) → is_inward granted x o ≡ true → cause_of w seen s (wanted_by master.Core0 x) ≡ None
 unfolding cause_of
-no_cause w seen s granted want.Nothing e = refl
-no_cause w seen s granted (want.Ram request) e = refl
-no_cause w seen s granted (want.Outward request) e =
-    ap (λ opened. outside_unless opened request.address) (has_word w seen master.Core0 request (place_of request.address) granted s e)
-no_cause w seen s granted want.Signal e = cc
-no_cause w seen s granted (want.Stopped cause) e = cc
+no_cause w seen s granted want.Nothing o e = refl
+no_cause w seen s granted (want.Ram request) o e = refl
+no_cause w seen s granted (want.Outward request) o e =
+    ap (λ opened. outside_unless opened request.address) (has_word w seen master.Core0 request (place_of request.address) granted s o e)
+no_cause w seen s granted want.Signal o e = cc
+no_cause w seen s granted (want.Stopped cause) o e = cc
 
 pub onward_runs : (w : Setting) (p q : Blocks) (c d : Core) (o : OuterState) (s : State) → IsCore0Alone (with_beside p c o s) q d → TellsSame p c o s → goes_inward s ≡ true
     → cause_in w (begun (with_beside p c o s)) (wanted (begun (with_beside p c o s))) (with_beside p c o s) ≡ None
 onward_runs w p q c d o s alone same inward =
     cause_alone w (with_beside p c o s) q d alone
     ∙ ap (λ b. cause_of w (begun (with_beside p c o s)).outer (with_beside p c o s) (wanted_by master.Core0 (core.want_of b))) (begun_same p c o s same)
-    ∙ no_cause w (begun (with_beside p c o s)).outer (with_beside p c o s) (granted_alone (core0_want s) s) (core0_want s) inward
+    ∙ no_cause w (begun (with_beside p c o s)).outer (with_beside p c o s) (granted_alone (core0_want s) s) (core0_want s) s.outer inward
 
 -- ---- a cycle in which nothing is wanted, and no access lasts
 
@@ -212,13 +329,13 @@ pub rests_by : (b : Doing) (s : State) → b ≡ (begun s).core0 → core.want_o
 rests_by b s e nothing free = wantless_inward b (core.want_of b) s nothing free ∙ ap (λ (d : Doing). inward_next d (core.want_of d) s) e
 
 abbrev by_begun : State → Doing → Bool
-by_begun s d = is_inward (granted_alone (core.want_of d) s) (core.want_of d)
+by_begun s d = is_inward (granted_alone (core.want_of d) s) (core.want_of d) s.outer
 
 pub nothing_inward : (b : Doing) (s : State) → b ≡ (begun s).core0 → core.want_of b ≡ want.Nothing → goes_inward s ≡ true
-nothing_inward b s e nothing = ap (by_begun s) (sym e) ∙ ap (λ x. is_inward (granted_alone x s) x) nothing
+nothing_inward b s e nothing = ap (by_begun s) (sym e) ∙ ap (λ x. is_inward (granted_alone x s) x s.outer) nothing
 
 pub wants_nothing_inward : (s : State) → core0_want s ≡ want.Nothing → goes_inward s ≡ true
-wants_nothing_inward s nothing = ap (λ x. is_inward (granted_alone x s) x) nothing
+wants_nothing_inward s nothing = ap (λ x. is_inward (granted_alone x s) x s.outer) nothing
 
 -- the same of an instruction that core 0 begins by its first halfword
 pub short_by : (s : State) (pc lines half : ℕ) (op : Op) → lines < 2 ^ 32 → lines ≡ lines_of 0 s → begins s.core0 ≡ Some pc → half ≡ answer_of 0 s (ask.Half pc)
@@ -236,14 +353,14 @@ short_by s pc lines half op fits told here answer short silent free =
 pub reaches_by : (b : Doing) (s t : State) → b ≡ (begun s).core0 → t ≡ inward_next b (core.want_of b) s → t ≡ inward_cycle s
 reaches_by b s t e reaches = reaches ∙ ap (λ (d : Doing). inward_next d (core.want_of d) s) e
 
-pub inward_by : (b : Doing) (s : State) → b ≡ (begun s).core0 → is_inward (granted_alone (core.want_of b) s) (core.want_of b) ≡ true → goes_inward s ≡ true
+pub inward_by : (b : Doing) (s : State) → b ≡ (begun s).core0 → is_inward (granted_alone (core.want_of b) s) (core.want_of b) s.outer ≡ true → goes_inward s ≡ true
 inward_by b s e inward = ap (by_begun s) (sym e) ∙ inward
 
 goes_on : (w : Setting) (p q : Blocks) (c d : Core) (o : OuterState) (s : State) → AgreeWithSio d o s → IsCore0Alone (with_beside p c o s) q d → TellsSame p c o s
-    → goes_inward s ≡ true → GoesOn w p q c d o s
-goes_on w p q c d o s h alone same inward = record {
+    → ReadsSame w o (begun (with_beside p c o s)).outer s → goes_inward s ≡ true → GoesOn w p q c d o s
+goes_on w p q c d o s h alone same reads inward = record {
   cause = onward_runs w p q c d o s alone same inward;
-  state = onward w p q c d o s h alone same inward;
+  state = onward w p q c d o s h alone same reads inward;
 }
 
 -- ---- one cycle after another
@@ -445,7 +562,15 @@ a_step w s n k lt h blocks core1 quiet inward limit =
       told = core1.offer (suc k) (omega arith) ∙ ap (λ (x : Core). x.offer) (sym stays.core1) ∙ stays.alone.told;
       pins = quiet.sio k le ∙ ap (λ (x : OuterState). x.sio) (sym stays.outer) ∙ stays.alone.pins;
     } in
-    let step = goes_on w p (blocks_after (suc k) s) c d o t knows (alone_by w s t n k lt stays blocks core1 on here) tells inward in
+    let reads : ReadsSame w o (begun u).outer t = record {
+      lasts = λ block offset e.
+          ap (λ (x : SeenOutputs). is_lasting_read block offset (outer.next w o x)) seen
+          ∙ quiet.lasts (suc k) (omega arith) block offset ∙ sym (ap (is_lasting_read block offset) stays.outer) ∙ e;
+      reads = λ block offset e.
+          quiet.reads k le block offset (sym (ap (is_lasting_read block offset) stays.outer) ∙ e)
+          ∙ sym (ap (own_word block offset) stays.outer);
+    } in
+    let step = goes_on w p (blocks_after (suc k) s) c d o t knows (alone_by w s t n k lt stays blocks core1 on here) tells reads inward in
     record {
       stop = stop_none w u (omega arith) step.cause;
       next = step.state ∙ ap (λ (x : SeenOutputs). with_beside (blocks_after (suc k) s) d (outer.next w o x) (inward_next (begun t).core0 (core0_want t) t)) seen;

@@ -1,5 +1,5 @@
 -- Core 0 goes on alone beside lanes that lie behind: core 1, the DMA engine, both PIO blocks and the peripherals. The project's own.
-use Rattle.std.specs.Prelude.{◌≡◌, ℕ, zero, suc, ◌+◌, ◌<◌, ◌≤◌, ◌&&◌, not, Bool, true, false, if◌then◌else◌, [], ◌∷◌, None}
+use Rattle.std.specs.Prelude.{◌≡◌, ℕ, zero, suc, ◌+◌, ◌<◌, ◌≤◌, ◌&&◌, Bool, true, false, if◌then◌else◌, [], ◌∷◌, None, is_none, unwrap_or}
 use Rattle.lane_look.specs.declared.lane.Want.{Want}
 use Rattle.lane_look.specs.declared.lane.Want.TheVariants as want
 use Rattle.lane_look.specs.declared.lane.Turn.{Turn}
@@ -11,9 +11,10 @@ use Rattle.sio_block.specs.Launcher.{offers_of}
 use Rattle.outer_lane.specs.Setting.{Setting}
 use Rattle.outer_lane.specs.State.{State as OuterState}
 use Rattle.outer_lane.specs.Lines.{outer_inputs}
-use Rattle.outer_lane.specs.Words.{outer_allowed}
+use Rattle.outer_lane.specs.Words.{outer_allowed, own_word}
 use Rattle.outer_lane.specs.Step as outer
-use Rattle.outer_lane.specs.Quiet.{IsQuiet, outer_after}
+use Rattle.outer_lane.specs.Quiet.{IsQuiet, outer_after, is_lasting_read}
+use Rattle.rp_base.specs.declared.Request.{Request}
 use Rattle.rp_base.specs.declared.map.Spot.{Spot}
 use Rattle.rp_base.specs.declared.map.Spot.TheVariants as spot
 use Rattle.rp_base.specs.Map.{place_of}
@@ -42,25 +43,42 @@ abbrev pub is_peripheral : Spot → Bool
 is_peripheral (spot.Reg block offset alias) = is_theirs (part_of block) offset
 is_peripheral _ = false
 
--- nothing is wanted, or an access to SRAM, or one to the peripherals that is not granted yet
-abbrev pub is_inward : Bool → Want → Bool
-is_inward granted want.Nothing = true
-is_inward granted (want.Ram request) = true
-is_inward granted (want.Outward request) = not granted && is_peripheral (place_of request.address)
-is_inward granted _ = false
+-- a read of a word of theirs that changes nothing, and lasts as long as they are quiet; and what it is told
+abbrev pub lasts_at : Part → ℕ → OuterState → Bool
+lasts_at (Outer block) offset o = outer_allowed block offset && is_lasting_read block offset o
+lasts_at _ offset o = false
+
+abbrev pub is_lasting : Request → Spot → OuterState → Bool
+is_lasting request (spot.Reg block offset alias) o = is_none request.write && lasts_at (part_of block) offset o
+is_lasting request _ o = false
+
+abbrev pub read_at : Part → ℕ → OuterState → ℕ
+read_at (Outer block) offset o = unwrap_or (own_word block offset o) 0
+read_at _ offset o = 0
+
+abbrev pub read_there : Spot → OuterState → ℕ
+read_there (spot.Reg block offset alias) o = read_at (part_of block) offset o
+read_there _ o = 0
+
+-- nothing is wanted, or an access to SRAM, or one to the peripherals that is not granted yet, or is such a read
+abbrev pub is_inward : Bool → Want → OuterState → Bool
+is_inward granted want.Nothing o = true
+is_inward granted (want.Ram request) o = true
+is_inward granted (want.Outward request) o = if granted then is_lasting request (place_of request.address) o else is_peripheral (place_of request.address)
+is_inward granted _ o = false
 
 abbrev pub core0_want : State → Want
 core0_want s = core.want_of (begun s).core0
 
--- core 0 reaches for nothing but SRAM, or waits for the peripherals
+-- core 0 reaches for nothing but SRAM, or waits for the peripherals, or reads of them what lasts
 abbrev pub goes_inward : State → Bool
-goes_inward s = is_inward (granted_alone (core0_want s) s) (core0_want s)
+goes_inward s = is_inward (granted_alone (core0_want s) s) (core0_want s) s.outer
 
 -- what core 0 is told of such an access, and what it comes to
-abbrev pub inward_turn : Bool → Want → Turn
-inward_turn granted (want.Ram request) = turn_at granted 0
-inward_turn granted (want.Outward request) = turn.Wait
-inward_turn granted _ = turn.Nothing
+abbrev pub inward_turn : Bool → Want → OuterState → Turn
+inward_turn granted (want.Ram request) o = turn_at granted 0
+inward_turn granted (want.Outward request) o = turn_at granted (read_there (place_of request.address) o)
+inward_turn granted _ o = turn.Nothing
 
 abbrev pub inward_deed : Bool → Want → Deed
 inward_deed granted (want.Ram request) =
@@ -74,7 +92,7 @@ core0_stepped b told s = record s { core0 = core.next s.core0 b (told ∷ turn.N
 unfoldable pub inward_next : Doing → Want → State → State
 inward_next b x s =
     record (ended (with_store (inward_deed (granted_alone x s) x)
-    (core0_stepped b (inward_turn (granted_alone x s) x) (with_grant x s)))) { cycle = s.cycle + 1 }
+    (core0_stepped b (inward_turn (granted_alone x s) x s.outer) (with_grant x s)))) { cycle = s.cycle + 1 }
 
 -- the same where nothing is wanted, and no access lasts
 unfoldable pub inward_wantless : Doing → State → State

@@ -59,8 +59,9 @@ pub fn one_core_gets_a_lock()
     ensures { OneCoreGetsALock }
 {}
 
-/// Beside a core 1, a DMA engine, PIO blocks and peripherals that are quiet, a core 0 that goes on alone and reaches for nothing but SRAM, or
-/// waits for the peripherals, does what it does where they lie behind, and they come to what they are so many cycles on.
+/// Beside a core 1, a DMA engine, PIO blocks and peripherals that are quiet, a core 0 that goes on alone and reaches for nothing but SRAM,
+/// waits for the peripherals or reads of them what lasts, does what it does where they lie behind, and they come to what they are so many
+/// cycles on.
 pub fn core0_goes_on_alone()
     ensures { Core0GoesOnAlone }
 {}

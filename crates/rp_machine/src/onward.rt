@@ -1,4 +1,5 @@
-//! A cycle in which core 0 alone is at work and reaches for nothing but SRAM, or waits for the peripherals, beside lanes that lie behind.
+//! A cycle in which core 0 alone is at work and reaches for nothing but SRAM, or waits for the peripherals, or reads of them what stays,
+//! beside lanes that lie behind.
 
 use crate::access::{asked_begun, stored_at};
 use crate::deed::Deed;
@@ -6,39 +7,51 @@ use crate::machine::Machine;
 use crate::part::{Part, part_of};
 use crate::steps::Steps;
 use lane_look::{Ask, Lane, Marks, Turn};
-use m0_core::{Act, Doing};
+use m0_core::{Act, Doing, Placed};
 use rp_base::map::Spot;
 use std::sync::ledger::Ledger;
 
 impl Machine {
     ghost use Rattle.std.specs.Prelude.{◌≡◌, ◌+◌, ◌-◌, ◌^◌, ◌<◌, ◌≤◌, IfSome, if◌then◌else◌, true, false};
     ghost use Rattle.m0_core.specs.Cycle.{want_of};
-    ghost use Rattle.lane_look.specs.declared.lane.Want.TheVariants.{Nothing};
+    ghost use Rattle.lane_look.specs.declared.lane.Want.TheVariants.{Nothing, Outward};
     ghost use Rattle.rp_machine.specs.Stores.{StoresInSram};
     ghost use Rattle.rp_machine.specs.Alone.{granted_alone};
     ghost use Rattle.rp_machine.specs.Answers.{lines_of};
     ghost use Rattle.rp_machine.specs.Cycle.{begun};
-    ghost use Rattle.rp_machine.specs.Inward.{is_peripheral, is_inward, core0_want, goes_inward, inward_turn, inward_deed, inward_wantless, inward_next, inward_cycle, inward_after, StaysInward};
+    ghost use Rattle.rp_machine.specs.Inward.{is_inward, core0_want, goes_inward, inward_turn, inward_deed, inward_wantless, inward_next, inward_cycle, inward_after, StaysInward};
 
-    /// A word that the peripherals have.
-    fn is_peripheral(&self, spot: &Spot) -> bool
-        ensures { result ≡ is_peripheral spot.now }
+    /// What core 0 is told of an access that is not to SRAM, where it waits for the peripherals, or reads of them what stays as long as they
+    /// are quiet.
+    fn told_inward(&self, access: &Placed, granted: bool) -> Option<Turn>
+        ensures inward { IfSome result (λ r. is_inward granted (Outward access.now) self.now.outer ≡ true) }
+        ensures turn { IfSome result (λ r. r ≡ inward_turn granted (Outward access.now) self.now.outer) }
     {
-        match *spot {
-            Spot::Reg { block, offset, .. } => match part_of(block) {
-                Part::Outer(block) => self.outer.allows(block, offset, None),
-                _ => false,
-            },
-            Spot::Ram { .. } | Spot::Sio { .. } | Spot::Ppb { .. } | Spot::Outside => false,
+        let Spot::Reg { block, offset, .. } = *access.spot() else {
+            return None;
+        };
+        let Part::Outer(block) = part_of(block) else {
+            return None;
+        };
+        if !self.outer.allows(block, offset, None) {
+            return None;
         }
+        if !granted {
+            return Some(Turn::Wait);
+        }
+        if access.request().write.is_some() || !self.outer.is_lasting_read(block, offset) {
+            return None;
+        }
+        let word = self.outer.read_own(block, offset);
+        Some(Turn::Done(word.unwrap_or(0)))
     }
 
-    /// What the bus gives core 0 for the access that it has begun, and what that comes to, where it is one to SRAM, or waits for the
+    /// What the bus gives core 0 for the access that it has begun, and what that comes to, where it is one to SRAM, or such a one to the
     /// peripherals.
     #[inline(always)]
     fn served_inward(&self, begun: &Doing, granted: bool) -> Option<(Turn, Deed)>
-        ensures inward { IfSome result (λ r. is_inward granted (want_of begun.now) ≡ true) }
-        ensures turn { IfSome result (λ r. r.0 ≡ inward_turn granted (want_of begun.now)) }
+        ensures inward { IfSome result (λ r. is_inward granted (want_of begun.now) self.now.outer ≡ true) }
+        ensures turn { IfSome result (λ r. r.0 ≡ inward_turn granted (want_of begun.now) self.now.outer) }
         ensures deed { IfSome result (λ r. r.1 ≡ inward_deed granted (want_of begun.now)) }
         ensures stores { IfSome result (λ r. StoresInSram r.1) }
     {
@@ -50,15 +63,11 @@ impl Machine {
                     Some((Turn::Wait, Deed::Nothing))
                 }
             }
-            Act::Outward(_, access) if !granted && self.is_peripheral(access.spot()) => {
-                Some((Turn::Wait, Deed::Nothing))
-            }
-            Act::Asleep
-            | Act::Stopped(_)
-            | Act::Fault
-            | Act::Inner(_)
-            | Act::Private(..)
-            | Act::Outward(..) => None,
+            Act::Outward(_, access) => match self.told_inward(access, granted) {
+                Some(turn) => Some((turn, Deed::Nothing)),
+                None => None,
+            },
+            Act::Asleep | Act::Stopped(_) | Act::Fault | Act::Inner(_) | Act::Private(..) => None,
         }
     }
 
@@ -76,14 +85,14 @@ impl Machine {
         self.at = at + 1;
     }
 
-    /// A cycle in which core 0 has begun this, where that is an access to SRAM, or one that waits for the peripherals. False where it is none
-    /// of these, and then nothing changes. It stands out of line, so that the loop has room for the cycles without one.
+    /// A cycle in which core 0 has begun this, where that is an access to SRAM, or such a one to the peripherals. False where it is none of
+    /// these, and then nothing changes. It stands out of line, so that the loop has room for the cycles without one.
     #[inline(never)]
     #[tactic(auto, unfolding(crate::specs::Inward::inward_next))]
     fn reach_onward(&mut self, core0: &Doing, marks: &mut Marks) -> bool
         requires number { self.old.cycle < 2 ^ 64 - 1 }
         ensures inward { result ≡ true → is_inward (granted_alone (want_of core0.now) self.old)
-            (want_of core0.now) ≡ true }
+            (want_of core0.now) self.old.outer ≡ true }
         ensures done { result ≡ true → self.new ≡ inward_next core0.now (want_of core0.now) self.old }
         ensures stays { result ≡ false → self.new ≡ self.old }
         ensures marks { marks.new ≡ marks.old }
@@ -124,7 +133,7 @@ impl Machine {
     }
 
     /// One cycle of a machine in which core 0 is alone and has begun this, but for the other lanes, which stay as they are. False where
-    /// core 0 reaches for more than SRAM and does not wait, and where an access lasts and nothing is wanted; then nothing changes.
+    /// core 0 reaches for more, and where an access lasts and nothing is wanted; then nothing changes.
     #[inline(always)]
     pub fn begun_onward(&mut self, core0: &Doing, marks: &mut Marks) -> bool
         requires number { self.old.cycle < 2 ^ 64 - 1 }
@@ -158,7 +167,7 @@ impl Machine {
         self.begun_onward(core0, marks)
     }
 
-    /// Core 0 goes on alone for at most so many cycles, up to the first in which it reaches for more than SRAM and does not wait, and
+    /// Core 0 goes on alone for at most so many cycles, up to the first in which it reaches for more, and
     /// the other lanes stay as they are; it may end sooner, as where core 0 waits in WFI or WFE. How many cycles that were.
     pub fn go_onward<L: Ledger>(
         &mut self,
