@@ -8,6 +8,7 @@ use Rattle.rp_machine.specs.Run.{states}
 use Rattle.rp_machine.proofs.Joining.{runs_follow}
 use Rattle.rp_machine.proofs.Runs.{states_here, next_cycle}
 use Rattle.window_merge.proofs.Positions.{along_states}
+use Rattle.window_merge.proofs.Windows.{one_more}
 
 -- where the way stands
 pub record OnWay (w : Setting) (s : State) (to : ℕ) (now : State) (before steps : ℕ) : Type 0 where
@@ -39,15 +40,11 @@ way_window w s to now before steps n now' steps' h e at le counted =
       counted = omega (arith, so_far, at, counted);
     }
 
-one : (w : Setting) (s : State) → stop w s ≡ None → states w s 1 ≡ next w s
-unfolding states
-one w s e = rw e refl
-
 pub way_cycle : (w : Setting) (s : State) (to : ℕ) (now : State) (before steps : ℕ) (now' : State) (steps' : ℕ) → OnWay w s to now before steps → now.cycle < to
     → stop w now ≡ None → now' ≡ next w now → steps' ≡ steps + 1 → OnWay w s to now' before steps'
 way_cycle w s to now before steps now' steps' h lt runs e counted =
     let at : now'.cycle ≡ now.cycle + 1 = ap (λ (t : State). t.cycle) e ∙ next_cycle w now in
-    way_window w s to now before steps 1 now' steps' h (e ∙ sym (one w now runs)) at (omega (arith, lt, at)) counted
+    way_window w s to now before steps 1 now' steps' h (e ∙ sym (one_more w now runs)) at (omega (arith, lt, at)) counted
 
 pub way_stopped : (w : Setting) (s : State) (to : ℕ) (now : State) (before steps : ℕ) (why : Why) → OnWay w s to now before steps → stop w now ≡ Some why → now ≡ states w s (to - s.cycle)
 way_stopped w s to now before steps why h e =

@@ -43,7 +43,6 @@ use Rattle.rp_machine.specs.declared.begun.Begun.{Begun}
 use Rattle.rp_machine.specs.declared.wanted.Wanted.{Wanted}
 use Rattle.rp_machine.specs.State.{State}
 use Rattle.rp_machine.specs.Answers.{answer_of, lines_of, packed_pair, inputs_of}
-use Rattle.rp_machine.specs.Deeds.{asked_of}
 use Rattle.rp_machine.specs.Cycle.{begun, wanted, mark}
 use Rattle.rp_machine.specs.Run.{states}
 use Rattle.rp_machine.specs.Alone.{Blocks, AreBlocksQuiet, IsCore1Quiet, IsCore0Alone, beside, blocks_after, core1_after, is_first_alone}
@@ -60,11 +59,12 @@ use Rattle.window_merge.specs.declared.notes.Notes.{Notes}
 use Rattle.window_merge.specs.declared.start.Start.{Start}
 use Rattle.window_merge.specs.Notes.{is_clean, no_notes, noted_by, seen_of, HasRoom}
 use Rattle.window_merge.specs.Start.{start_of, guess, begun_from, differs_from, ends_wanted, goes_by, goes_first, goes_on}
-use Rattle.window_merge.specs.Window.{is_port_of, clash}
+use Rattle.window_merge.specs.Window.{clash}
 use Rattle.window_merge.specs.Merging.{wants_of, marks_in}
 use Rattle.window_merge.specs.Inward.{noted_in, noted_core0, noted_inward, same_marks, GoesAsAlone}
 use Rattle.window_merge.specs.Inward.{KeepsInward}
 use Rattle.window_merge.proofs.Agree.{itself}
+use Rattle.window_merge.proofs.Comparing.{shares_none, clash_four}
 use Rattle.window_merge.proofs.Lanes.{tree, Each, every, on_each}
 use Rattle.window_merge.proofs.Later.{same_begun}
 use Rattle.window_merge.proofs.Passing.{room_on, Passes}
@@ -204,6 +204,11 @@ pub same_first : {w : Setting} {s : State} {k : ℕ} {now : State} {start : Star
 unfolding states
 same_first {w} {s} p none = rw (p.follows.is_start, p.first none, p.stands.is_states, none) (differs_none w (start_of s) no_notes s (alike_first w s))
 
+pub start_first : {w : Setting} {s : State} {k : ℕ} {now : State} {start : Start} {notes : Notes} {marks : List Mark}
+    → Passes w s k now start notes marks → k ≡ 0 → start ≡ start_of now
+unfolding states
+start_first {w} {s} p none = p.follows.is_start ∙ ap start_of (sym (p.stands.is_states ∙ ap (states w s) none))
+
 -- where core 0 sees SRAM as it is, core 1 asks for no more than its lines, and the DMA engine reads nothing
 pub alike_by : (w : Setting) (notes : Notes) (s : State) (lines : ℕ) → is_clean 0 notes ≡ true → Rests lines s.core1 s.cycle → next_request s.dma.block ≡ None
     → AreAlike w (start_of s) notes s
@@ -221,13 +226,8 @@ alike_by w notes s lines clean rests none =
 
 -- ---- core 0 alone wants anything
 
-no_port : (o : Option (ℕ × Bool)) → is_port_of o None ≡ false
-no_port None = refl
-no_port (Some access) = refl
-
 clash_none : (v : Want) → clash (v ∷ want.Nothing ∷ want.Nothing ∷ want.Nothing ∷ want.Nothing ∷ want.Nothing ∷ want.Nothing ∷ want.Nothing ∷ want.Nothing ∷ want.Nothing ∷ want.Nothing ∷ want.Nothing ∷ []) ≡ false
-unfolding asked_of
-clash_none v = rw (no_port (asked_of v)) refl
+clash_none v = clash_four v want.Nothing want.Nothing want.Nothing ∙ rw (shares_none v, shares_none want.Nothing) refl
 
 -- those of core 0, core 1 and the DMA engine
 abbrev wants_with : Want → Want → Want → Want → List Want

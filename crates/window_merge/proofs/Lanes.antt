@@ -12,7 +12,8 @@ use Rattle.rp_machine.specs.declared.begun.Begun.{Begun}
 use Rattle.outer_lane.specs.Setting.{Setting}
 use Rattle.window_merge.specs.Window.{longest}
 use Rattle.window_merge.specs.Lanes.{around, core_lane, dma_lane, pio_lane, peripheral_lane, core1_bound}
-use Rattle.window_merge.specs.Merging.{Rests, IsRunAlone}
+use Rattle.window_merge.specs.declared.runs.Rests.{Rests}
+use Rattle.window_merge.specs.Merging.{IsRunAlone}
 use Rattle.window_merge.proofs.Agree.{agree}
 use Rattle.window_merge.proofs.Told.{Told, told_at}
 

@@ -28,7 +28,8 @@ use Rattle.rp_machine.proofs.Joining.{runs_follow}
 use Rattle.window_merge.specs.Lanes.{core_lane, dma_lane, pio_lane, peripheral_lane, around, is_launching, core1_bound, runs_of}
 use Rattle.window_merge.specs.Window.{longest, ends_in, clash, window_length}
 use Rattle.rp_machine.specs.Laws.{KnowsSio}
-use Rattle.window_merge.specs.Merging.{Rests, begun_by, left_by, differs_by, wants_of, fits, marks_in}
+use Rattle.window_merge.specs.declared.runs.Rests.{Rests}
+use Rattle.window_merge.specs.Merging.{begun_by, left_by, differs_by, wants_of, fits, marks_in}
 use Rattle.window_merge.specs.Patch.{patched, sram_after}
 use Rattle.window_merge.specs.declared.notes.Notes.{Notes}
 use Rattle.window_merge.specs.declared.start.Start.{Start}
@@ -45,7 +46,7 @@ use Rattle.window_merge.proofs.Noting.{Restores, undoes_on, own_on, still, sight
 use Rattle.window_merge.proofs.Reading.{read_only}
 use Rattle.window_merge.proofs.Starting.{guess_is, around_over, stored_sram}
 use Rattle.window_merge.proofs.Windows.{AreOn, Stands, AreTold, Tries, all_told, stands_first, fitted, stands_next, ends_tried}
-use Rattle.window_merge.proofs.Windows.{ends_run, ends_full, is_window, they_end, short}
+use Rattle.window_merge.proofs.Windows.{ends_run, ends_full, is_window, they_end}
 
 -- ---- one lane
 
@@ -597,14 +598,13 @@ along {w} {s} {k} {now} {start} {notes} {marks} {n} p h within =
     rw (h.state, h.noted, h.marked) (passes_along w s k now start notes marks n n p within h.goes (omega arith))
 
 -- of which there were none
-pub along_none : {w : Setting} {s : State} {k : ℕ} {now : State} {start : Start} {notes : Notes} {marks : List Mark} {n : ℕ}
-    {now' : State}
-    {notes' : Notes} {marks' : List Mark} → Passes w s k now start notes marks
-    → GoneOver w start now notes marks n now' notes' marks' → k < longest w s → n ≡ 0
+pub along_none : {w : Setting} {s : State} {k most : ℕ} {now : State} {start : Start} {notes : Notes} {marks : List Mark} {n : ℕ}
+    {now' : State} {notes' : Notes} {marks' : List Mark} → Passes w s k now start notes marks
+    → GoneOver w start now notes marks n now' notes' marks' → k < most → most ≡ longest w s → n ≤ 0
     → Passes w s k now' start notes' marks'
-along_none {w} {s} {k} {now} {start} {notes} {marks} {n} {now'} {notes'} {marks'} p h lt none =
+along_none {w} {s} {k} {most} {now} {start} {notes} {marks} {n} {now'} {notes'} {marks'} p h lt e none =
     let same : k + n ≡ k = omega (arith, none) in
-    subst (λ (j : ℕ). Passes w s j now' start notes' marks') same (along p h (omega (arith, none, lt)))
+    subst (λ (j : ℕ). Passes w s j now' start notes' marks') same (along p h (omega (arith, none, lt, e)))
 
 -- from the window's start
 pub along_first : {w : Setting} {s : State} {n : ℕ} {now : State} {notes : Notes} {marks : List Mark} → First s
@@ -614,11 +614,6 @@ along_first {w} {s} {n} {now} {notes} {marks} first gone launching le =
     let all : 0 + n ≡ n = omega arith in
     subst (λ (k : ℕ). Passes w s k now (start_of s) notes marks) all
     (along (passes_none w s first launching) gone (omega (arith, le)))
-
--- what is left of a window ends at the limit at the latest
-pub within_limit : (w : Setting) (s : State) (cycle k left : ℕ) → cycle ≡ s.cycle + k → k + left ≤ longest w s → 0 < left
-    → cycle + left ≤ w.limit
-within_limit w s cycle k left at le some = let fits = short w s in omega (arith, fits, at, le, some)
 
 pub closed_later : (w : Setting) (s : State) (k : ℕ) (now : State) (start : Start) (notes : Notes) (marks : List Mark)
     → Passes w s k now start notes marks → k < longest w s → goes_on start notes now ≡ false → k ≡ window_length w s

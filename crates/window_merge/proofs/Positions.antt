@@ -72,7 +72,7 @@ fewer_cycle : (b : Bool) (x y : ℕ) → y + 1 ≡ x → 2 * y + 1 < 2 * x + (if
 fewer_cycle true x y e = omega arith
 fewer_cycle false x y e = omega arith
 
-not_empty : (a b : Bool) → (not a && b) ≡ true → a ≡ false
+pub not_empty : (a b : Bool) → (not a && b) ≡ true → a ≡ false
 not_empty true b e = absurd (cc e)
 not_empty false b e = refl
 

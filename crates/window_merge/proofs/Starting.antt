@@ -7,7 +7,7 @@ use Rattle.std.proofs.lemmas.Bool.{ne_eqb}
 use Rattle.rp_base.specs.declared.map.Spot.{Spot}
 use Rattle.rp_base.specs.declared.map.Spot.TheVariants as spot
 use Rattle.rp_base.specs.Map.{place_of}
-use Rattle.lane_look.specs.Asking.{Asking, Runs, answered}
+use Rattle.lane_look.specs.Asking.{Asking, Runs}
 use Rattle.lane_look.specs.Asking.Asking.{Ready, Question}
 use Rattle.lane_look.specs.declared.lane.Ask.{Ask}
 use Rattle.lane_look.specs.declared.lane.Ask.TheVariants as ask
@@ -22,7 +22,7 @@ use Rattle.rp_machine.specs.Answers.{block_lines, lines_of, answer_of}
 use Rattle.window_merge.specs.Lanes.{around, stored_by}
 use Rattle.window_merge.specs.Patch.{sram_after}
 use Rattle.window_merge.specs.declared.start.Matcher.{Matcher}
-use Rattle.window_merge.specs.Start.{start_of, word_by, guess, guessed, matched}
+use Rattle.window_merge.specs.Start.{start_of, word_by, guess, guessed, matched, IsBegun}
 use Rattle.window_merge.proofs.Agree.{all_same, itself}
 use Rattle.window_merge.proofs.Banks.{HasBank, has_bank}
 use Rattle.window_merge.proofs.Copying.{outs_same}
@@ -89,14 +89,6 @@ stored_sram (want.Stopped cause) t = refl
 
 -- ---- the look
 
-abbrev with_same : Matcher → Bool → Matcher
-with_same k same = record k { same = same }
-
--- what was begun, and whether the start answers the same
-pub record Matched {B : Type 0} (old : Matcher) (tree : Asking B) (result : B) (new : Matcher) : Type 0 where
-  pub begun : result ≡ answered (answer_of old.lane old.machine.now) tree
-  pub is_same : new.same ≡ old.same && not (differs (answer_of old.lane old.machine.now) (asked (guessed old) tree))
-
 -- as far as the answers are the same, so is what is asked
 still_same : {B : Type 0} (same : Bool) (f g : Ask → ℕ) (question : Ask) (next : ℕ → Asking B)
     → (same && nat_eq (g question) (f question)) && not (differs f (asked g (next (f question)))) ≡ same && not (not (nat_eq (f question) (g question)) || differs f (asked g (next (g question))))
@@ -113,23 +105,27 @@ still_same {B} same f g question next = elim (eqb_tells (g question) (f question
       ∙ ap (λ (b : Bool). same && not (not b || there)) (sym (ne_eqb (f question) (g question) (λ e. h.1 (sym e))))
 ]
 
-by_match : {B : Type 0} (k : Matcher) (same : Bool) (tree : Asking B) (result : B) (new : Matcher) → Runs matched (with_same k same) tree result new → Matched (with_same k same) tree result new
-by_match k same (Ready begun) result new r = record {
+-- what was begun, and whether the start answers the same
+runs_match : {B : Type 0} (old : Matcher) (tree : Asking B) (result : B) (new : Matcher) → Runs matched old tree result new
+    → IsBegun old.lane old.start.now old.notes.now old.machine.now tree old.same result new.same
+runs_match old (Ready begun) result new r = record {
   begun = r.1;
-  is_same = ap (λ (x : Matcher). x.same) r.0 ∙ sym (and-true same);
+  same = ap (λ (k : Matcher). k.same) r.0 ∙ sym (and-true old.same);
 }
-by_match {B} k same (Question question next) result new r =
-    let f = answer_of k.lane k.machine.now in
-    let g = guessed k in
-    let here = same && nat_eq (g question) (f question) in
-    let e_mid : r.1 ≡ with_same k here = r.2.1 ∙ ap (λ (y : ℕ). with_same k (same && nat_eq (g question) y)) r.2.0 in
-    let mid : Runs matched (with_same k here) (next r.0) result new = subst (λ (x : Matcher). Runs matched x (next r.0) result new) e_mid r.3 in
-    let there : Runs matched (with_same k here) (next (f question)) result new = subst (λ (y : ℕ). Runs matched (with_same k here) (next y) result new) r.2.0 mid in
-    let rest = by_match k here (next (f question)) result new there in
-    record {
-      begun = rest.begun;
-      is_same = rest.is_same ∙ still_same same f g question next;
-    }
+runs_match old (Question question next) result new r =
+    let f = answer_of old.lane old.machine.now in
+    let g = guessed old in
+    let mid : Matcher = record old { same = old.same && nat_eq (g question) (f question) } in
+    let e_mid : r.1 ≡ mid = r.2.1 ∙ ap (λ (y : ℕ). record old { same = old.same && nat_eq (g question) y }) r.2.0 in
+    let here : Runs matched mid (next r.0) result new = subst (λ (k : Matcher). Runs matched k (next r.0) result new) e_mid r.3 in
+    let there : Runs matched mid (next (f question)) result new = subst (λ (y : ℕ). Runs matched mid (next y) result new) r.2.0 here in
+    let rest = runs_match mid (next (f question)) result new there in
+    record { begun = rest.begun; same = rest.same ∙ still_same old.same f g question next }
 
-pub runs_match : {B : Type 0} (old : Matcher) (tree : Asking B) (result : B) (new : Matcher) → Runs matched old tree result new → Matched old tree result new
-runs_match old tree result new r = by_match old old.same tree result new r
+-- where the lane asks by a state
+pub begins_in : {B : Type 0} (old : Matcher) (asks : State → Asking B) (s t : State) (result : B) (new : Matcher) → s ≡ t
+    → Runs matched old (asks s) result new
+    → IsBegun old.lane old.start.now old.notes.now old.machine.now (asks t) old.same result new.same
+begins_in old asks s t result new e r =
+    subst (λ (x : State). IsBegun old.lane old.start.now old.notes.now old.machine.now (asks x) old.same result new.same) e
+    (runs_match old (asks s) result new r)

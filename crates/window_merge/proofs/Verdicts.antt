@@ -134,20 +134,6 @@ is_stranger w s report entry stranger e h e_start u =
     subst (λ (x : Stranger). IsStranger w s report x) (sym e)
     (record { lane = refl; first = entry; is_first = strange_by w s report.lane report.run entry h.replays e_start u; entry = refl })
 
--- a report that begins elsewhere
-begins_elsewhere : (w : Setting) (s : State) (lane : ℕ) (r : LaneRun) → (start_of r ≡ s.cycle → ⊥) → IsStrangeBy w s lane r None
-begins_elsewhere w s lane (run.Core report) h = λ e before. absurd (h e)
-begins_elsewhere w s lane (run.Dma report) h = λ e before. absurd (h e)
-begins_elsewhere w s lane (run.Pio report) h = λ e before. absurd (h e)
-begins_elsewhere w s lane (run.Outer report) h = λ e before. absurd (h e)
-
-pub is_elsewhere : (w : Setting) (s : State) (report : LaneReport) (stranger : Stranger)
-    → stranger ≡ record { lane = report.lane; entry = length (log_of report.run) }
-    → (start_of report.run ≡ s.cycle → ⊥) → IsStranger w s report stranger
-is_elsewhere w s report stranger e h =
-    subst (λ (x : Stranger). IsStranger w s report x) (sym e)
-    (record { lane = refl; first = None; is_first = begins_elsewhere w s report.lane report.run h; entry = refl })
-
 -- ---- what comes of it
 
 pub ok_alone : (alone : Type 0) (unlike : Option ℕ → Type 0) (result : Result (Unit {0}) (Option ℕ)) (x : Unit {0}) → result ≡ Ok x → Judges alone unlike result → Decides true alone

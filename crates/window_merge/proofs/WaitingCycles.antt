@@ -1,5 +1,6 @@
 -- Cycles of a window in which nobody has anything to do: the start answers each lane as the machine does.
-use Rattle.std.proofs.Common.{◌≡◌, ℕ, zero, suc, ◌+◌, ◌-◌, ◌*◌, ◌<◌, ◌≤◌, inl, inr, ◌||◌, ◌&&◌, not, nat_le, if◌then◌else◌, Bool, true, false, List, [], ◌∷◌, ◌++◌, length, refl, sym, ap, subst, ◌∙◌, arith}
+use Rattle.std.proofs.Common.{◌≡◌, ℕ, zero, suc, ◌+◌, ◌-◌, ◌*◌, ◌<◌, ◌≤◌, inl, inr, ◌||◌, not, nat_le, if◌then◌else◌, Bool, true, false, List, [], ◌∷◌, ◌++◌, length, refl, sym, ap, subst, ◌∙◌, arith}
+use Rattle.std.proofs.Math.Bool.{and-false}
 use Rattle.std.proofs.lemmas.Bool.Decides.{leb_tells}
 use Rattle.lane_look.specs.declared.lane.Want.TheVariants as want
 use Rattle.lane_look.specs.declared.marks.Mark.{Mark}
@@ -137,10 +138,6 @@ whole_by left le = elim (leb_tells left 256) [
   | inr h ↦ rw h.0 refl
 ]
 
-calm_by : (asleep offer : Bool) → offer ≡ false → (asleep && offer) ≡ false
-calm_by true offer e = e
-calm_by false offer e = refl
-
 quiet_window : (w : Setting) (s : State) (n i : ℕ) → IsWaiting w no_notes s n → length s.sram ≡ 67584 → i + 256 ≤ n → window_length w (states w s i) ≡ 256
 quiet_window w s n i h long le =
     let t = states w s i in
@@ -158,7 +155,7 @@ quiet_window w s n i h long le =
       };
       long = ap (λ (x : State). length x.sram) at ∙ long;
     } in
-    let calm : is_launching t.core1 ≡ false = calm_by t.core1.asleep t.core1.offer (offer ∙ h.agree.offer ∙ h.parts.launcher) in
+    let calm : is_launching t.core1 ≡ false = rw (offer ∙ h.agree.offer ∙ h.parts.launcher) (and-false t.core1.asleep) in
     let start : start_of t ≡ start_of s = ap start_of at ∙ starts w no_notes s n i h (omega (arith, le)) in
     let goes : GoesAsAlone w (start_of t) no_notes t 256 = subst (λ (x : Start). GoesAsAlone w x no_notes t 256) (sym start) (waits_as_alone w no_notes s n i 256 h le) in
     let gone : GoneOver w (start_of t) t no_notes [] 256 (states w t 256) (noted_in w (start_of t) no_notes t 256) (marks_in w t 256) =

@@ -29,7 +29,8 @@ use Rattle.window_merge.specs.Lanes.{core_lane, dma_lane, pio_lane, peripheral_l
 use Rattle.window_merge.specs.Window.{longest, ends_in, differs_in, clash, clash_in, share_port, closes, window_length}
 use Rattle.window_merge.specs.declared.runs.Runs.{Runs}
 use Rattle.rp_machine.specs.Laws.{KnowsSio}
-use Rattle.window_merge.specs.Merging.{Rests, begun_by, left_by, differs_by, wants_of, fits, marks_in, AreRunsAlone, IsWithin, rests_at, end_at}
+use Rattle.window_merge.specs.declared.runs.Rests.{Rests}
+use Rattle.window_merge.specs.Merging.{begun_by, left_by, differs_by, wants_of, fits, marks_in, AreRunsAlone, logs_of, end_at}
 use Rattle.window_merge.specs.Inward.{IsWindow}
 use Rattle.window_merge.proofs.Agree.{six_false, itself}
 use Rattle.window_merge.proofs.Calm.{AreCalm, IsCalm, IsStepped, calm_next}
@@ -247,7 +248,7 @@ at_most w s = elim (leb_tells (w.limit - s.cycle) 256) [
 
 -- ---- the next cycle
 
-one_more : (w : Setting) (s : State) → stop w s ≡ None → states w s 1 ≡ next w s
+pub one_more : (w : Setting) (s : State) → stop w s ≡ None → states w s 1 ≡ next w s
 unfolding states
 one_more w s e = rw e refl
 
@@ -369,10 +370,9 @@ is_window h e = record { length = e; state = h.is_states; number = h.at; marked 
 
 -- ---- six reports
 
--- the loop begins with nothing used
+-- the loop begins with all of their logs
 pub stands_at_first : (w : Setting) (s : State) (runs : Runs) (marks : List Mark) → has_hold s.fabric ≡ false → KnowsSio s
-    → AreRunsAlone w s runs → marks ≡ [] → Stands w s 0 s (rests_at runs
-    (record { core0 = 0; core1 = 0; dma = 0; pio0 = 0; pio1 = 0; outer = 0 })) marks
+    → AreRunsAlone w s runs → marks ≡ [] → Stands w s 0 s (logs_of runs) marks
 stands_at_first w s runs marks free knows h e = stands_first w s _ marks free knows (record {
   core0 = log_alone h.core0;
   core1 = log_alone h.core1;
@@ -381,9 +381,6 @@ stands_at_first w s runs marks free knows h e = stands_first w s _ marks free kn
   pio1 = log_alone h.pio1;
   outer = log_alone h.outer;
 }) e
-
-pub within_first : (runs : Runs) → IsWithin runs (record { core0 = 0; core1 = 0; dma = 0; pio0 = 0; pio1 = 0; outer = 0 })
-within_first runs = record { core0 = omega arith; core1 = omega arith; dma = omega arith; pio0 = omega arith; pio1 = omega arith; outer = omega arith }
 
 -- some report has this length exactly where some run alone ends
 ends_as : (w : Setting) (s : State) (runs : Runs) (k : ℕ) → AreRunsAlone w s runs → ends_in (runs_of w s (longest w s)) k ≡ end_at runs k

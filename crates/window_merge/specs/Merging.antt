@@ -1,9 +1,9 @@
 -- One cycle of a window, by what is left of the logs of the six runs. The project's own.
-use Rattle.std.specs.Prelude.{◌≡◌, ℕ, zero, suc, ◌+◌, ◌≤◌, Some, None, true, ◌==◌, nat_lt, if◌then◌else◌, not, ◌||◌, Bool, false, List, [], ◌∷◌, ◌++◌, length, drop}
+use Rattle.std.specs.Prelude.{◌≡◌, ℕ, zero, suc, ◌+◌, Some, None, true, ◌==◌, not, ◌||◌, Bool, false, List, [], ◌∷◌, ◌++◌}
 use Rattle.lane_look.specs.declared.lane.Want.{Want}
 use Rattle.lane_look.specs.declared.marks.Mark.{Mark}
 use Rattle.lane_look.specs.declared.replay.Report.{Report}
-use Rattle.lane_look.specs.Replay.{Meaning, Entry, told, left, talk}
+use Rattle.lane_look.specs.Replay.{Meaning, told, left, talk}
 use Rattle.lane_look.specs.Alone.{alone, alone_length, differs}
 use Rattle.m0_core.specs.Fetch as core_asks
 use Rattle.m0_core.specs.Cycle as core
@@ -18,7 +18,7 @@ use Rattle.rp_machine.specs.Answers.{answer_of}
 use Rattle.rp_machine.specs.Cycle.{stop, next, mark}
 use Rattle.rp_machine.specs.Run.{states}
 use Rattle.window_merge.specs.declared.runs.Runs.{Runs}
-use Rattle.window_merge.specs.declared.runs.Indices.{Indices}
+use Rattle.window_merge.specs.declared.runs.Rests.{Rests}
 use Rattle.window_merge.specs.Lanes.{around, core_lane, dma_lane, pio_lane, peripheral_lane, core1_bound}
 use Rattle.window_merge.specs.declared.position.Moved.{Moved}
 use Rattle.window_merge.specs.declared.position.Moved.TheVariants as moved
@@ -30,15 +30,6 @@ pub record IsRunAlone {S B : Type 0} (m : Meaning (Unit {0}) S B) (lane : ℕ) (
   pub same_lane : report.before ≡ before
   pub same_length : report.length ≡ alone_length m (around lane) tt before s.cycle s bound
   pub same_log : report.log ≡ (alone m (around lane) tt before s.cycle s report.length).talk
-
--- what is left of the logs of the lanes
-pub record Rests : Type 0 where
-  pub core0 : List Entry
-  pub core1 : List Entry
-  pub dma : List Entry
-  pub pio0 : List Entry
-  pub pio1 : List Entry
-  pub outer : List Entry
 
 -- what the lanes begin, where the logs answer
 abbrev pub begun_by : Rests → State → Begun
@@ -86,30 +77,17 @@ unfoldable pub marks_in : Setting → State → ℕ → List Mark
 marks_in w s zero = []
 marks_in w s (suc n) = marks_in w s n ++ mark w (states w s n) ∷ []
 
--- ---- the six reports, and how much of their logs is used
+-- ---- the six reports
 
--- the index behind that of the next entry
-abbrev pub next_index : List Entry → ℕ → ℕ
-next_index log index = if nat_lt index (length log) then index + 1 else index
-
-abbrev pub rests_at : Runs → Indices → Rests
-rests_at runs indices = record {
-  core0 = drop indices.core0 runs.core0.now.log;
-  core1 = drop indices.core1 runs.core1.now.log;
-  dma = drop indices.dma runs.dma.now.log;
-  pio0 = drop indices.pio0 runs.pio0.now.log;
-  pio1 = drop indices.pio1 runs.pio1.now.log;
-  outer = drop indices.outer runs.outer.now.log;
+abbrev pub logs_of : Runs → Rests
+logs_of runs = record {
+  core0 = runs.core0.now.log;
+  core1 = runs.core1.now.log;
+  dma = runs.dma.now.log;
+  pio0 = runs.pio0.now.log;
+  pio1 = runs.pio1.now.log;
+  outer = runs.outer.now.log;
 }
-
--- no more than the logs have
-pub record IsWithin (runs : Runs) (indices : Indices) : Type 0 where
-  pub core0 : indices.core0 ≤ length runs.core0.now.log
-  pub core1 : indices.core1 ≤ length runs.core1.now.log
-  pub dma : indices.dma ≤ length runs.dma.now.log
-  pub pio0 : indices.pio0 ≤ length runs.pio0.now.log
-  pub pio1 : indices.pio1 ≤ length runs.pio1.now.log
-  pub outer : indices.outer ≤ length runs.outer.now.log
 
 -- some run has this length
 abbrev pub end_at : Runs → ℕ → Bool

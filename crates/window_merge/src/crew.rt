@@ -13,6 +13,7 @@ use lane_look::{Log, Marks, NoDevice, Report};
 use m0_core::Core;
 use outer_lane::Outer;
 use pio_block::PioBlock;
+use quiet_run::Pace;
 use rp_machine::begun::Begun;
 use std::alloc::{AllocError, Global};
 
@@ -121,6 +122,7 @@ impl Crew {
         Ok(Crew {
             jobs: [None, None, None, None, None, None],
             notes,
+            pace: Pace::default(),
             begun: Begun::nothing(),
         })
     }

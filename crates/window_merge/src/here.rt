@@ -10,7 +10,7 @@ ghost use Rattle.window_merge.specs.Inward.{IsWindow};
 ghost use Rattle.window_merge.specs.Window.{longest, window_length};
 ghost use Rattle.window_merge.specs.Merging.{marks_in};
 
-use crate::inward::go_inward_later;
+use crate::inward::go_paced;
 use crate::merge::{fact_copies_are_known, longest};
 use crate::notes::Notes;
 use crate::pass::{goes_by, is_launching, try_later};
@@ -30,6 +30,7 @@ fn go<X: Device, L: Ledger>(
     machine: &mut Machine,
     world: &World<'_, X>,
     notes: &mut Notes,
+    pace: &mut Pace,
     lanes: &mut Begun,
     most: u16,
     marks: &mut Marks,
@@ -48,12 +49,11 @@ fn go<X: Device, L: Ledger>(
 {
     fact_copies_are_known(machine);
     let start = Start::of(machine);
-    let mut pace = Pace::default();
     notes.clear();
     let mut k = 0;
     'cycles: while k < most {
         let left = most - k;
-        let more = go_inward_later(machine, world, &start, notes, &mut pace, left, marks, steps);
+        let more = go_paced(machine, world, &start, notes, pace, k, left, marks, steps);
         if more > 0 {
             k += more;
             continue 'cycles;
@@ -70,12 +70,13 @@ fn go<X: Device, L: Ledger>(
 
 /// Moves the machine by a window: as far as its lanes, each alone from its state, would go the machine's way. Gives the
 /// window's length. The marks of its cycles are left in `marks`, each counts as one of the steps, `notes` is room for what it
-/// writes to SRAM, and `lanes` has what the lanes begin in the next cycle, before and after.
+/// writes to SRAM, `pace` is that of all windows of a run, and `lanes` has what the lanes begin in the next cycle, before and after.
 #[tactic(auto, unfolding(rp_machine::specs::Run::states, crate::specs::Merging::marks_in))]
 pub fn window<X: Device, L: Ledger>(
     machine: &mut Machine,
     world: &World<'_, X>,
     notes: &mut Notes,
+    pace: &mut Pace,
     lanes: &mut Begun,
     marks: &mut Marks,
     steps: &mut Steps<L>,
@@ -102,5 +103,5 @@ pub fn window<X: Device, L: Ledger>(
     if !goes_by(lanes, &all_wanted(lanes)) {
         return 0;
     }
-    go(machine, world, notes, lanes, most, marks, steps)
+    go(machine, world, notes, pace, lanes, most, marks, steps)
 }

@@ -16,7 +16,8 @@ use crate::walk::ends_want;
 use lane_look::{Device, Lane, Mark, Marks};
 use m0_core::{Core, Doing};
 use outer_lane::World;
-use quiet_run::{Pace, bring_up, pass_waiting, room_alone};
+use quiet_run::pass::{pass, quiet};
+use quiet_run::{Pace, bring_up, room_alone};
 use rp_machine::{Machine, Steps, fact_limit_is_bounded};
 use std::sync::ledger::Ledger;
 
@@ -105,76 +106,111 @@ fn mark_each(marks: &mut Marks, pads: u32, n: u64)
     }
 }
 
-/// Moves the machine over at most so many cycles of a window, as long as nobody has anything to do. How many they were.
+/// Each answer is still that of a window's start, of which so many cycles are over, and core 0 sees SRAM as it is. In the first one this is so.
+#[inline(always)]
+fn is_same(machine: &Machine, start: &Start, notes: &Notes, k: u16) -> bool
+    requires first { k ≡ 0 → start.now ≡ start_of machine.now }
+    requires none { k ≡ 0 → is_clean 0 notes.now ≡ true }
+    ensures start { result ≡ true → start.now ≡ start_of machine.now }
+    ensures sees { result ≡ true → is_clean 0 notes.now ≡ true }
+{
+    if k == 0 {
+        return true;
+    }
+    if !notes.is_clean(0) {
+        return false;
+    }
+    start.is_of(machine)
+}
+
+/// Moves the machine over at most so many cycles of a window of which `k` are over, as long as nobody has anything to do, where each answer
+/// is still that of the window's start. How many they were.
 #[inline(never)]
 fn go_waiting<X: Device, L: Ledger>(
     machine: &mut Machine,
     world: &World<'_, X>,
+    start: &Start,
     notes: &Notes,
+    k: u16,
     most: u16,
     marks: &mut Marks,
     steps: &mut Steps<L>,
 ) -> u16
+    requires first { k ≡ 0 → start.now ≡ start_of machine.old }
+    requires none { k ≡ 0 → is_clean 0 notes.now ≡ true }
     requires number { machine.old.cycle + most ≤ world.now.limit }
     requires few { length marks.old + most ≤ 256 }
-    requires sees { is_clean 0 notes.now ≡ true }
     ensures most { result ≤ most }
-    ensures gone { GoneOver (setting X.meaning world.now) (start_of machine.old) machine.old
-        notes.now marks.old result machine.new notes.now marks.new }
+    ensures gone { GoneOver (setting X.meaning world.now) start.now machine.old notes.now marks.old
+        result machine.new notes.now marks.new }
     ensures steps { steps.new ≡ steps.old + result }
 {
     fact_limit_is_bounded(world);
     let to = machine.at + u64::from(most);
-    let done = pass_waiting(machine, world, to, steps);
-    mark_each(marks, machine.pads(), done);
-    done as u16
+    let cycles = quiet(machine, world, to);
+    if cycles == 0 || !is_same(machine, start, notes, k) {
+        return 0;
+    }
+    pass(machine, world, cycles);
+    steps.add(cycles);
+    mark_each(marks, machine.pads(), cycles);
+    cycles as u16
 }
 
-/// Moves the machine over at most so many cycles of a window, as long as core 0 alone is at work in SRAM beside lanes that are quiet, or
-/// nobody has anything to do. How many they were.
+/// Moves the machine over at most so many cycles of a window of which `k` are over, as long as core 0 alone is at work in SRAM beside lanes
+/// that are quiet, or nobody has anything to do, where each answer is still that of the window's start. How many they were.
 #[inline(never)]
-pub(crate) fn go_inward<X: Device, L: Ledger>(
+fn go_inward<X: Device, L: Ledger>(
     machine: &mut Machine,
     world: &World<'_, X>,
+    start: &Start,
     notes: &mut Notes,
+    k: u16,
     most: u16,
     marks: &mut Marks,
     steps: &mut Steps<L>,
 ) -> u16
+    requires first { k ≡ 0 → start.now ≡ start_of machine.old }
+    requires none { k ≡ 0 → is_clean 0 notes.old ≡ true }
     requires number { machine.old.cycle + most ≤ world.now.limit }
     requires few { length marks.old + most ≤ 256 }
     requires room { HasRoom notes.old (3 * most) }
-    requires sees { is_clean 0 notes.old ≡ true }
     ensures most { result ≤ most }
-    ensures gone { GoneOver (setting X.meaning world.now) (start_of machine.old) machine.old
-        notes.old marks.old result machine.new notes.new marks.new }
+    ensures gone { GoneOver (setting X.meaning world.now) start.now machine.old notes.old marks.old
+        result machine.new notes.new marks.new }
     ensures steps { steps.new ≡ steps.old + result }
 {
     fact_limit_is_bounded(world);
     if machine.core0.is_waiting() {
-        return go_waiting(machine, world, notes, most, marks, steps);
+        return go_waiting(machine, world, start, notes, k, most, marks, steps);
     }
     let Some((seen, room)) = room_alone(machine, world, u64::from(most)) else {
         return 0;
     };
+    if room == 0 || !is_same(machine, start, notes, k) {
+        return 0;
+    }
     let done = note_onward(machine, notes, room, marks, steps);
     bring_up(machine, world, &seen, done);
     mark_each(marks, machine.pads(), done);
     done as u16
 }
 
-/// The same behind some cycles of a window, where a try is due and each answer is still that of the window's start.
+/// The same, where a try is due, and the pace knows what came of it.
 #[inline(always)]
-pub(crate) fn go_inward_later<X: Device, L: Ledger>(
+pub(crate) fn go_paced<X: Device, L: Ledger>(
     machine: &mut Machine,
     world: &World<'_, X>,
     start: &Start,
     notes: &mut Notes,
     pace: &mut Pace,
+    k: u16,
     most: u16,
     marks: &mut Marks,
     steps: &mut Steps<L>,
 ) -> u16
+    requires first { k ≡ 0 → start.now ≡ start_of machine.old }
+    requires none { k ≡ 0 → is_clean 0 notes.old ≡ true }
     requires number { machine.old.cycle + most ≤ world.now.limit }
     requires few { length marks.old + most ≤ 256 }
     requires room { HasRoom notes.old (3 * most) }
@@ -187,11 +223,11 @@ pub(crate) fn go_inward_later<X: Device, L: Ledger>(
         return 0;
     }
     let at = machine.number();
-    if machine.quiet_blocks() == 0 || !notes.is_clean(0) || !start.is_of(machine) {
-        pace.note(at, 0);
-        return 0;
-    }
-    let done = go_inward(machine, world, notes, most, marks, steps);
+    let done = go_inward(machine, world, start, notes, k, most, marks, steps);
     pace.note(at, u64::from(done));
+    if 0 < done && done < most && !machine.core0.is_waiting() {
+        // the cycle behind them ended them
+        pace.note(machine.number(), 0);
+    }
     done
 }

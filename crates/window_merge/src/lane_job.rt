@@ -5,6 +5,7 @@ ghost use Rattle.window_merge.specs.Kinds.{is_run_of, has_room_for};
 
 use crate::lane_run::{LaneRun, LaneSet};
 use crate::notes::Notes;
+use quiet_run::Pace;
 use rp_machine::begun::Begun;
 
 /// What a lane is to do alone. Its type keeps that the lane is at most 5 and that the set has room for a report of that lane.
@@ -43,6 +44,8 @@ pub struct Crew {
     pub jobs: [Option<LaneJob>; 6],
     /// Room for the notes of a window on one thread.
     pub notes: Notes,
+    /// When a window tries to go over many cycles at once.
+    pub pace: Pace,
     /// What the lanes begin in the next cycle, once a run has begun.
     pub begun: Begun,
 }

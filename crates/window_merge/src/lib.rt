@@ -35,4 +35,4 @@ pub use merge::merge_runs;
 pub use notes::Notes;
 pub use position::{Moved, advance};
 pub use quiet::pass_windows;
-pub use runs::{Indices, Runs};
+pub use runs::{Rests, Runs};

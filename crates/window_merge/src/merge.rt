@@ -10,7 +10,7 @@ ghost use Rattle.window_merge.specs.Window.{is_port_of, clash, longest, window_l
 ghost use Rattle.window_merge.specs.Merging.{AreRunsAlone, wants_of, marks_in};
 
 use crate::compare::begin_logged;
-use crate::runs::{Indices, Runs};
+use crate::runs::{Rests, Runs};
 use lane_look::{Device, Marks};
 use outer_lane::World;
 use rp_machine::begun::Begun;
@@ -101,15 +101,17 @@ pub fn merge_runs<X: Device, L: Ledger>(
     fact_copies_are_known(machine);
     marks.clear();
     let longest = longest(machine, world);
-    let mut indices = Indices::first();
+    let mut rests = Rests::of(runs);
     let mut lanes = Begun::nothing();
     for k in 0..longest {
         if runs.end_at(k) {
             return k;
         }
-        if !begin_logged(machine, world, runs, &mut indices, &mut lanes) {
+        let (left, fits) = begin_logged(machine, world, rests, &mut lanes);
+        if !fits {
             return k;
         }
+        rests = left;
         machine.step(world, &lanes, marks);
         steps.tick();
     }

@@ -52,6 +52,11 @@ pub fn advance<X: Device, L: Ledger>(
     if let Some(why) = machine.stop_of(world, &crew.begun) {
         return Moved::Stopped(why);
     }
-    let Crew { notes, begun, .. } = crew;
-    Moved::Window(window(machine, world, notes, begun, marks, steps))
+    let Crew {
+        notes,
+        pace,
+        begun,
+        ..
+    } = crew;
+    Moved::Window(window(machine, world, notes, pace, begun, marks, steps))
 }

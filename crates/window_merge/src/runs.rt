@@ -1,7 +1,7 @@
-//! The reports of six runs alone, and how much of their logs is used.
+//! The reports of six runs alone, and what is left of their logs.
 
 use dma_engine::Dma;
-use lane_look::Report;
+use lane_look::{LogLook, Report};
 use m0_core::Core;
 use outer_lane::Outer;
 use pio_block::PioBlock;
@@ -23,21 +23,21 @@ pub struct Runs<'a> {
     pub outer: &'a Report<Outer>,
 }
 
-/// How many entries of each log are used.
-#[derive(Clone, Copy)]
-pub struct Indices {
+/// What is left of their logs.
+#[derive(Drop)]
+pub struct Rests<'a> {
     /// Of core 0's.
-    pub core0: u16,
+    pub core0: LogLook<'a>,
     /// Of core 1's.
-    pub core1: u16,
+    pub core1: LogLook<'a>,
     /// Of the DMA engine's.
-    pub dma: u16,
+    pub dma: LogLook<'a>,
     /// Of PIO block 0's.
-    pub pio0: u16,
+    pub pio0: LogLook<'a>,
     /// Of PIO block 1's.
-    pub pio1: u16,
+    pub pio1: LogLook<'a>,
     /// Of the peripherals'.
-    pub outer: u16,
+    pub outer: LogLook<'a>,
 }
 
 impl Runs<'_> {
@@ -57,20 +57,21 @@ impl Runs<'_> {
     }
 }
 
-impl Indices {
+impl<'a> Rests<'a> {
     ghost use Rattle.std.specs.Prelude.{◌≡◌};
+    ghost use Rattle.window_merge.specs.Merging.{logs_of};
 
-    /// None is used.
-    pub(crate) fn first() -> Indices
-        ensures { result ≡ record { core0 = 0; core1 = 0; dma = 0; pio0 = 0; pio1 = 0; outer = 0 } }
+    /// All of them.
+    pub(crate) fn of(runs: &Runs<'a>) -> Rests<'a>
+        ensures { result ≡ logs_of runs.now }
     {
-        Indices {
-            core0: 0,
-            core1: 0,
-            dma: 0,
-            pio0: 0,
-            pio1: 0,
-            outer: 0,
+        Rests {
+            core0: LogLook::new(&runs.core0.log),
+            core1: LogLook::new(&runs.core1.log),
+            dma: LogLook::new(&runs.dma.log),
+            pio0: LogLook::new(&runs.pio0.log),
+            pio1: LogLook::new(&runs.pio1.log),
+            outer: LogLook::new(&runs.outer.log),
         }
     }
 }

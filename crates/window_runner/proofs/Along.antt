@@ -1,5 +1,5 @@
 -- The events and the counts along the positions of a run.
-use Rattle.std.proofs.Common.{◌≡◌, ℕ, zero, suc, ◌+◌, ◌-◌, ◌*◌, ◌≤◌, ◌&&◌, Bool, true, false, not, if◌then◌else◌, [], ◌++◌, Option, Some, None, refl, ap, sym, ◌∙◌, subst, arith, append_assoc}
+use Rattle.std.proofs.Common.{◌≡◌, ℕ, zero, suc, ◌+◌, ◌-◌, ◌*◌, ◌≤◌, Bool, true, false, not, if◌then◌else◌, [], ◌++◌, Option, Some, None, refl, ap, sym, ◌∙◌, subst, arith, append_assoc}
 use Rattle.std.proofs.Math.Dec.{eqb-suc-zero}
 use Rattle.rp_base.specs.declared.Why.{Why}
 use Rattle.outer_lane.specs.Setting.{Setting}
@@ -10,7 +10,7 @@ use Rattle.rp_machine.specs.Events.{events}
 use Rattle.rp_machine.specs.Run.{states, events_in, last_state, all_events, unless_stopped}
 use Rattle.rp_machine.proofs.Runs.{states_here, states_on, events_none, events_here, events_more, events_on, below_limit, next_cycle}
 use Rattle.window_merge.specs.Window.{Position, first_position, is_tried, by_window, by_cycle, next_position, positions, last_position, window_length}
-use Rattle.window_merge.proofs.Positions.{left_of, nearer, moves_on, run_ends}
+use Rattle.window_merge.proofs.Positions.{left_of, nearer, moves_on, not_empty, run_ends}
 use Rattle.window_runner.specs.Told.{step_events, events_along, window_events}
 
 -- ---- events
@@ -78,10 +78,6 @@ pub record IsCounted (w : Setting) (from : ℕ) (p : Position) : Type 0 where
   pub windows : p.windows + from ≤ p.state.cycle + one_if p.after_empty
   pub goes : p.after_empty ≡ true → stop w p.state ≡ None
 
-pub not_tried : (a b : Bool) → (not a && b) ≡ true → a ≡ false
-not_tried true b e = absurd (cc e)
-not_tried false b e = refl
-
 pub no_cycles : (w : Setting) (s : State) → states w s zero ≡ s
 unfolding states
 no_cycles w s = refl
@@ -110,7 +106,7 @@ counted_cycle w from p c =
 
 counted_by : (w : Setting) (from : ℕ) (p : Position) (tried : Bool) → is_tried p.after_empty p.state ≡ tried → stop w p.state ≡ None → p.state.cycle ≤ w.limit → IsCounted w from p
     → IsCounted w from (if tried then by_window w (window_length w p.state) p else by_cycle w p)
-counted_by w from p true e runs le c = counted_window w from (window_length w p.state) p (not_tried p.after_empty (not (has_hold p.state.fabric)) e) runs le c
+counted_by w from p true e runs le c = counted_window w from (window_length w p.state) p (not_empty p.after_empty (not (has_hold p.state.fabric)) e) runs le c
 counted_by w from p false e runs le c = counted_cycle w from p c
 
 pub counted_next : (w : Setting) (from : ℕ) (p : Position) → stop w p.state ≡ None → p.state.cycle ≤ w.limit → IsCounted w from p → IsCounted w from (next_position w p)

@@ -11,11 +11,12 @@ use Rattle.rp_machine.specs.Cycle.{stop, next, mark}
 use Rattle.rp_machine.specs.Events.{events}
 use Rattle.rp_machine.specs.Run.{states, last_state, all_events}
 use Rattle.rp_machine.proofs.Runs.{below_limit, events_on, last_here, step_forward, step_goes_on}
+use Rattle.window_merge.proofs.Windows.{one_more}
 use Rattle.window_runner.specs.Told.{all_shown, events_by, run_shown}
 use Rattle.window_runner.specs.Alone.{IsOnRun, FailsWithin}
 use Rattle.window_runner.proofs.CycleEvents.{shown_none, shown_both}
 use Rattle.window_runner.proofs.Failing.{fails_in_cycle}
-use Rattle.window_runner.proofs.Reaching.{GoesOn, one_cycle, then_on, on_run_by, shown_here}
+use Rattle.window_runner.proofs.Reaching.{GoesOn, then_on, on_run_by, shown_here}
 use Rattle.window_runner.proofs.Stepping.{tells_one, cycle_counts}
 use Rattle.window_runner.proofs.Telling.{TakesNone, TakesInTurn, TakenBefore, taken_nothing, taken_same, taken_more, taken_part, taken_all, tells_same}
 
@@ -64,7 +65,7 @@ module _ {T A E : Type 0} {took : T → List Shown → T → Type 0} {missed : T
       record {
         within = on.0;
         forward = step_forward w s t first.cycle same r.forward;
-        way = then_on w first s t r.way (record { count = 1; state = same ∙ sym (one_cycle w s runs) });
+        way = then_on w first s t r.way (record { count = 1; state = same ∙ sym (one_more w s runs) });
         last = on.1;
         steps = omega (arith, so_far, counted);
         taken = taken_more took a b c f g h (run_shown w first) (all_shown (events w s)) (run_shown w t) turn
@@ -83,7 +84,7 @@ module _ {T A E : Type 0} {took : T → List Shown → T → Type 0} {missed : T
       let within = r.within in
       let counted = cycle_counts w s t now after same count in
       let here = told_cycle {A = A} took missed b c g h w s cycle levels marks (Err e) at pads left told in
-      let way = then_on w first s t r.way (record { count = 1; state = same ∙ sym (one_cycle w s runs) }) in (
+      let way = then_on w first s t r.way (record { count = 1; state = same ∙ sym (one_more w s runs) }) in (
         taken_part {A = A} took missed a b c f g h (run_shown w first) (all_shown (events w s)) (run_shown w (next w s)) e turn
             (taken_same took a b f g (run_shown w first) (run_shown w s) (all_shown (events w s) ++ run_shown w (next w s)) r.taken (shown_next w s runs r.within)) here,
         fails_in_cycle took missed a b c f g w first s t (omega (arith, forward, within)) r.way r.taken runs same here.err,

@@ -1,5 +1,5 @@
 -- Where a machine stands whose tape has failed.
-use Rattle.std.proofs.Common.{◌≡◌, ℕ, zero, ◌+◌, ◌≤◌, Bool, true, false, if◌then◌else◌, List, ◌++◌, None, refl, ap, sym, ◌∙◌, subst, arith}
+use Rattle.std.proofs.Common.{◌≡◌, ℕ, zero, ◌≤◌, Bool, true, false, if◌then◌else◌, List, ◌++◌, None, refl, ap, sym, ◌∙◌, subst, arith}
 use Rattle.std.proofs.lemmas.List.{append-nil, append_cancel_right}
 use Rattle.outer_lane.specs.Setting.{Setting}
 use Rattle.trace_text.specs.declared.event.Event.{Event as Shown}
@@ -11,12 +11,12 @@ use Rattle.rp_machine.specs.Run.{states, events_in, all_events}
 use Rattle.rp_machine.proofs.Runs.{events_more}
 use Rattle.window_merge.specs.Window.{Position, longest, closes, is_tried, by_window, by_cycle, next_position, window_length}
 use Rattle.window_merge.proofs.Meeting.{least_meets}
-use Rattle.window_merge.proofs.Windows.{at_most}
+use Rattle.window_merge.proofs.Windows.{at_most, one_more}
 use Rattle.window_runner.specs.Told.{all_shown, step_events, run_shown}
 use Rattle.window_runner.specs.Alone.{FailsWithin}
 use Rattle.window_runner.proofs.Along.{events_split}
 use Rattle.window_runner.proofs.CycleEvents.{shown_both}
-use Rattle.window_runner.proofs.Reaching.{GoesOn, Reached, one_cycle}
+use Rattle.window_runner.proofs.Reaching.{GoesOn, Reached}
 use Rattle.window_runner.proofs.Telling.{TakenBefore}
 
 -- what was taken are the events of the cycles so far
@@ -51,7 +51,7 @@ pub fails_in_cycle : {T : Type 0} (took : T → List Shown → T → Type 0) (mi
     → first.cycle ≤ w.limit → GoesOn w first s → TakenBefore took a b f g (run_shown w first) (run_shown w s) → stop w s ≡ None → t ≡ next w s
     → FailsAmong took missed b c (all_shown (events w s)) → FailsWithin took missed a c w 1 first t
 fails_in_cycle took missed a b c f g w first s t le way taken runs same fails =
-    fails_within took missed a b c f g w 1 1 first s t le way taken (omega arith) (same ∙ sym (one_cycle w s runs))
+    fails_within took missed a b c f g w 1 1 first s t le way taken (omega arith) (same ∙ sym (one_more w s runs))
     (subst (λ es. FailsAmong took missed b c (all_shown es)) (sym (events_of_one w s runs)) fails)
 
 -- ---- at one of a step
@@ -67,7 +67,7 @@ HasCycles w p q told = (n : ℕ) × (n ≤ 256) × (q.state ≡ states w p.state
 cycles_by : (w : Setting) (p : Position) (tried : Bool) → stop w p.state ≡ None
     → HasCycles w p (if tried then by_window w (window_length w p.state) p else by_cycle w p) (if tried then events_in w p.state (window_length w p.state) else events w p.state)
 cycles_by w p true runs = (window_length w p.state, few_in_window w p.state, refl, refl)
-cycles_by w p false runs = (1, omega arith, sym (one_cycle w p.state runs), sym (events_of_one w p.state runs))
+cycles_by w p false runs = (1, omega arith, sym (one_more w p.state runs), sym (events_of_one w p.state runs))
 
 cycles_of : (w : Setting) (p : Position) → stop w p.state ≡ None → HasCycles w p (next_position w p) (step_events w p)
 unfolding next_position

@@ -13,7 +13,8 @@ use Rattle.rp_machine.specs.Run.{states}
 use Rattle.window_merge.specs.Lanes.{runs_of}
 use Rattle.window_merge.specs.Window.{longest, ends_in, window_length}
 use Rattle.rp_machine.specs.Laws.{KnowsSio}
-use Rattle.window_merge.specs.Merging.{Rests, begun_by, left_by, fits}
+use Rattle.window_merge.specs.declared.runs.Rests.{Rests}
+use Rattle.window_merge.specs.Merging.{begun_by, left_by, fits}
 use Rattle.window_merge.proofs.Lanes.{log_alone, below_least}
 use Rattle.window_merge.proofs.Meeting.{least_meets}
 use Rattle.window_merge.proofs.Windows.{Stands, Tries, on_of, stands_first, stands_next, ends_tried, ends_run, ends_full}

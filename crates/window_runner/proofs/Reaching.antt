@@ -11,6 +11,7 @@ use Rattle.rp_machine.proofs.Joining.{join}
 use Rattle.rp_machine.proofs.Runs.{events_here, states_here, states_on, next_cycle}
 use Rattle.window_merge.specs.Window.{Position, first_position, is_tried, by_window, by_cycle, next_position, positions, last_position, window_length}
 use Rattle.window_merge.proofs.Positions.{left_of, nearer}
+use Rattle.window_merge.proofs.Windows.{one_more}
 use Rattle.window_runner.specs.Told.{all_shown, step_events, run_shown}
 use Rattle.window_runner.specs.Alone.{IsOnRun}
 use Rattle.window_runner.proofs.Along.{IsCounted, counted_first, counted_next, no_cycles, step_then}
@@ -50,13 +51,10 @@ reached_first w s le =
 
 -- ---- from one position to the next
 
-pub one_cycle : (w : Setting) (s : State) → stop w s ≡ None → states w s 1 ≡ next w s
-one_cycle w s runs = states_on w s zero runs ∙ no_cycles w (next w s)
-
 goes_by : (w : Setting) (p : Position) (tried : Bool) → stop w p.state ≡ None
     → GoesOn w p.state (if tried then by_window w (window_length w p.state) p else by_cycle w p).state
 goes_by w p true runs = record { count = window_length w p.state; state = refl }
-goes_by w p false runs = record { count = 1; state = sym (one_cycle w p.state runs) }
+goes_by w p false runs = record { count = 1; state = sym (one_more w p.state runs) }
 
 goes_on : (w : Setting) (p : Position) → stop w p.state ≡ None → GoesOn w p.state (next_position w p).state
 unfolding next_position

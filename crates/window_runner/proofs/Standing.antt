@@ -1,7 +1,7 @@
 -- The positions of a run, and the one at which a window is tried.
-use Rattle.std.proofs.Common.{◌≡◌, ◌≢◌, ℕ, zero, suc, ◌+◌, ◌-◌, ◌*◌, ◌<◌, ◌≤◌, ◌==◌, ◌&&◌, Bool, true, false, nat_le, if◌then◌else◌, inl, inr, ◌⊎◌, Option, Some, None, is_none, refl, ap, sym, ◌∙◌, subst, add-one, arith}
+use Rattle.std.proofs.Common.{◌≡◌, ◌≢◌, ℕ, zero, suc, ◌+◌, ◌-◌, ◌*◌, ◌<◌, ◌≤◌, Bool, true, false, nat_le, if◌then◌else◌, inl, inr, ◌⊎◌, Option, Some, None, is_none, refl, ap, sym, ◌∙◌, subst, add-one, below_more, arith}
+use Rattle.std.proofs.Math.Bool.{and-false}
 use Rattle.std.proofs.lemmas.Bool.{eq-eqb, le-leb, lt-leb, ne_eqb}
-use Rattle.std.proofs.lemmas.Bool.Decides.{eqb_tells}
 use Rattle.lane_look.specs.Alone.{least}
 use Rattle.lane_look.proofs.Least.{is_least}
 use Rattle.rp_base.specs.declared.Why.{Why}
@@ -127,13 +127,6 @@ standing_first w s le knows = record {
   left = omega arith;
 }
 
--- what holds of each earlier position and of this one
-one_more : (P : ℕ → Type 0) (k : ℕ) → ((j : ℕ) → j < k → P j) → P k → (j : ℕ) → j < k + 1 → P j
-one_more P k below here j lt = elim (eqb_tells j k) [
-  | inl e ↦ subst P (sym e.1) here
-  | inr e ↦ let ne : j ≢ k = e.1 in below j (omega arith)
-]
-
 pub step_here : (w : Setting) (s : State) (k : ℕ) (p : Position) → p ≡ at_step w s k → stop w p.state ≡ None → next_position w p ≡ at_step w s (k + 1)
 step_here w s k p here e =
     sym (runs_on w p e) ∙ ap (one_on w) here ∙ sym (ap (at_step w s) (add-one k) ∙ step_on w (first_position s) k)
@@ -148,21 +141,12 @@ window_on w p e = rw e refl
 
 -- ---- whether the window m is tried
 
-and_false : (a b c : Bool) → b ≡ false → (a && (b && c)) ≡ false
-and_false true b c e = rw e refl
-and_false false b c e = refl
-
-and_last : (a b c : Bool) → c ≡ false → (a && (b && c)) ≡ false
-and_last true true c e = e
-and_last true false c e = refl
-and_last false b c e = refl
-
 not_tried : (w : Setting) (m : ℕ) (p : Position) → is_tried p.after_empty p.state ≡ false → begins_window w m p ≡ false
-not_tried w m p e = and_false (is_none (stop w p.state)) (is_tried p.after_empty p.state) (p.windows == m) e
+not_tried w m p e = rw e (and-false (is_none (stop w p.state)))
 
 other_window : (w : Setting) (m : ℕ) (p : Position) → p.windows ≢ m → begins_window w m p ≡ false
-other_window w m p ne = and_last (is_none (stop w p.state)) (is_tried p.after_empty p.state) (p.windows == m)
-    (ne_eqb p.windows m ne)
+other_window w m p ne =
+    rw (ne_eqb p.windows m ne, and-false (is_tried p.after_empty p.state)) (and-false (is_none (stop w p.state)))
 
 tried_here : (w : Setting) (m : ℕ) (p : Position) → stop w p.state ≡ None → is_tried p.after_empty p.state ≡ true → p.windows ≡ m
     → begins_window w m p ≡ true
@@ -185,9 +169,9 @@ standing_cycle w s m k p h runs none =
       counted = count;
       within = near.along.within;
       knows = knows_on w p h.knows;
-      runs = one_more (λ j. stop w (at_step w s j).state ≡ None) k h.runs (subst (λ (q : Position). stop w q.state ≡ None) same runs);
-      few = one_more (λ j. (at_step w s j).windows ≤ m) k h.few (subst (λ (q : Position). q.windows ≤ m) same (omega arith));
-      not_yet = one_more (λ j. begins_window w m (at_step w s j) ≡ false) k h.not_yet
+      runs = below_more (λ j. stop w (at_step w s j).state ≡ None) k h.runs (subst (λ (q : Position). stop w q.state ≡ None) same runs);
+      few = below_more (λ j. (at_step w s j).windows ≤ m) k h.few (subst (λ (q : Position). q.windows ≤ m) same (omega arith));
+      not_yet = below_more (λ j. begins_window w m (at_step w s j) ≡ false) k h.not_yet
           (subst (λ (q : Position). begins_window w m q ≡ false) same (not_tried w m p none));
       left = omega arith;
     }
@@ -203,13 +187,13 @@ standing_window w s m k p h runs tried =
     let count = ap (λ (q : Position). q.windows) (window_on w p tried) in
     let same = h.here in
     let few : (j : ℕ) → j < k + 1 → (at_step w s j).windows ≤ m =
-    one_more (λ j. (at_step w s j).windows ≤ m) k h.few (subst (λ (q : Position). q.windows ≤ m) same (omega arith)) in
+    below_more (λ j. (at_step w s j).windows ≤ m) k h.few (subst (λ (q : Position). q.windows ≤ m) same (omega arith)) in
     record {
       here = step_here w s k p h.here runs;
       counted = omega arith;
       within = near.along.within;
       knows = knows_on w p h.knows;
-      runs = one_more (λ j. stop w (at_step w s j).state ≡ None) k h.runs (subst (λ (q : Position). stop w q.state ≡ None) same runs);
+      runs = below_more (λ j. stop w (at_step w s j).state ≡ None) k h.runs (subst (λ (q : Position). stop w q.state ≡ None) same runs);
       few = λ j lt. let le = few j lt in omega arith;
       not_yet = λ j lt. other_window w (m + 1) (at_step w s j) (let le = few j lt in λ e. omega (arith, e));
       left = omega arith;

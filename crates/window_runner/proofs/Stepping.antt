@@ -15,11 +15,10 @@ use Rattle.rp_machine.specs.Run.{states, events_in}
 use Rattle.rp_machine.proofs.Runs.{below_limit, next_cycle}
 use Rattle.window_merge.specs.Window.{Position, is_tried, by_window, by_cycle, next_position, window_length}
 use Rattle.window_merge.specs.Merging.{marks_in}
-use Rattle.window_merge.proofs.Positions.{along_states}
+use Rattle.window_merge.proofs.Positions.{along_states, not_empty}
 use Rattle.window_runner.specs.declared.alone.Counts.{Counts}
 use Rattle.window_runner.specs.Told.{all_shown, events_by, step_events}
 use Rattle.window_runner.specs.Alone.{StepsTo, position_at, stop_in}
-use Rattle.window_runner.proofs.Along.{not_tried}
 use Rattle.window_runner.proofs.CycleEvents.{shown_none}
 use Rattle.window_runner.proofs.Marks.{marks_count, marks_tell}
 use Rattle.window_runner.proofs.Standing.{window_on, cycle_on}
@@ -74,7 +73,7 @@ tells_one w s cycle before marks at levels left =
 pub one_window_more : (w : Setting) (s : State) (old : Counts) (bound : ℕ) → w.limit < bound → stop w s ≡ None → s.cycle ≤ w.limit
     → is_tried old.after_empty s ≡ true → old.windows ≤ s.cycle + (if old.after_empty then 1 else 0) → old.windows + 1 < bound
 one_window_more w s old bound lt runs le tried few =
-    let here = not_tried old.after_empty (not (has_hold s.fabric)) tried in
+    let here = not_empty old.after_empty (not (has_hold s.fabric)) tried in
     let none : old.windows ≤ s.cycle + (if false then 1 else 0) = subst (λ b. old.windows ≤ s.cycle + (if b then 1 else 0)) here few in
     let below = below_limit w s runs le in
     omega arith

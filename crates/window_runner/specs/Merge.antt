@@ -5,7 +5,8 @@ use Rattle.outer_lane.specs.Setting.{Setting}
 use Rattle.rp_machine.specs.State.{State}
 use Rattle.rp_machine.specs.Cycle.{wanted, next_by}
 use Rattle.window_merge.specs.Window.{longest}
-use Rattle.window_merge.specs.Merging.{Rests, begun_by, left_by, fits}
+use Rattle.window_merge.specs.declared.runs.Rests.{Rests}
+use Rattle.window_merge.specs.Merging.{begun_by, left_by, fits}
 use Rattle.window_runner.specs.Reports.{SixReports}
 
 -- the machine, and what is left of the six logs

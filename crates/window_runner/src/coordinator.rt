@@ -189,13 +189,18 @@ fn window_over<'w, X: Device, G: Gate, H: Wait, L: Ledger>(
     lead.apart = lead.apart.saturating_mul(2);
     let pieces = pieces_of(machine, desk.world, &mut lead.sets.jobs);
     let found = gather(desk, lead, pieces);
-    let Sets { jobs, notes, begun } = &mut *lead.sets;
+    let Sets {
+        jobs,
+        notes,
+        pace,
+        begun,
+    } = &mut *lead.sets;
     if let Some(reports) = all_accepted(machine, desk.world, found, jobs) {
         let length = merge_six(machine, desk.world, reports, jobs, marks, steps);
         machine.begin_into(desk.world, begun);
         return length;
     }
-    window(machine, desk.world, notes, begun, marks, steps)
+    window(machine, desk.world, notes, pace, begun, marks, steps)
 }
 
 /// Moves the machine by a window, and gives its length: over the board where it goes over it, and else in one pass, as on one thread. What
@@ -222,8 +227,13 @@ fn next_window<'w, X: Device, G: Gate, H: Wait, L: Ledger>(
     if goes_over(desk, lead, machine) {
         return window_over(desk, lead, machine, marks, steps);
     }
-    let Sets { notes, begun, .. } = &mut *lead.sets;
-    let length = window(machine, desk.world, notes, begun, marks, steps);
+    let Sets {
+        notes,
+        pace,
+        begun,
+        ..
+    } = &mut *lead.sets;
+    let length = window(machine, desk.world, notes, pace, begun, marks, steps);
     if length >= LONG {
         lead.left = lead.left.saturating_sub(1);
     }

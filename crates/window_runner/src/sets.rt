@@ -8,6 +8,7 @@ ghost use Rattle.window_merge.specs.Jobs.{AreAlone, IsAlone, IsJobFor, IsTrueIn}
 use crate::piece::{Found, Piece};
 use lane_look::Device;
 use outer_lane::World;
+use quiet_run::Pace;
 use rp_machine::Machine;
 use rp_machine::begun::Begun;
 use std::alloc::{AllocError, Global};
@@ -21,13 +22,20 @@ pub(crate) struct Sets {
     pub(crate) jobs: Six<Option<LaneJob>>,
     /// Room for the notes of a window that is made here.
     pub(crate) notes: Notes,
+    /// When such a window tries to go over many cycles at once.
+    pub(crate) pace: Pace,
     /// What the lanes begin in the next cycle, once a run has begun.
     pub(crate) begun: Begun,
 }
 
 /// The jobs of a crew.
 pub(crate) fn sets_of(alloc: Global, crew: Crew) -> Result<Box<Sets>, AllocError> {
-    let Crew { jobs, notes, begun } = crew;
+    let Crew {
+        jobs,
+        notes,
+        pace,
+        begun,
+    } = crew;
     let [core0, core1, dma, pio0, pio1, outer] = jobs;
     let jobs = Six {
         l0: core0,
@@ -37,7 +45,13 @@ pub(crate) fn sets_of(alloc: Global, crew: Crew) -> Result<Box<Sets>, AllocError
         l4: pio1,
         l5: outer,
     };
-    Ok(Box::new(alloc, Sets { jobs, notes, begun })?)
+    let sets = Sets {
+        jobs,
+        notes,
+        pace,
+        begun,
+    };
+    Ok(Box::new(alloc, sets)?)
 }
 
 /// A lane's piece of the window from the machine's state: its job, or none where that is lost.

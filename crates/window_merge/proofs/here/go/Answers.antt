@@ -1,12 +1,12 @@
-use Rattle.std.proofs.Common.{◌≡◌, ◌-◌, ◌*◌, ap, sym, ◌∙◌, subst, arith}
+use Rattle.std.proofs.Common.{◌≡◌, ap, sym, ◌∙◌, subst, arith}
 use Rattle.std.proofs.lemmas.List.{append-nil}
 use Rattle.outer_lane.specs.Setting.{setting}
 use Rattle.rp_machine.specs.State.{State}
 use Rattle.rp_machine.specs.Cycle.{begun}
 use Rattle.window_merge.specs.Inward.{IsWindow}
 use Rattle.window_merge.proofs.Windows.{at_most}
-use Rattle.window_merge.proofs.Passing.{passes_none, along, along_none, within_limit, closed_later, closed_full, passes_later, has_room}
-use Rattle.window_merge.proofs.InwardCycles.{same_first}
+use Rattle.window_merge.proofs.Passing.{passes_none, along, along_none, closed_later, closed_full, passes_later, has_room}
+use Rattle.window_merge.proofs.InwardCycles.{same_first, start_first}
 use Rattle.window_merge.proofs.here.go.Goals as goal
 
 pub cycles-init : goal.cycles-init
@@ -21,32 +21,12 @@ cycles-init g c =
       counted = omega arith;
     }
 
-pub go_inward_later-more-requires-clause-number : goal.go_inward_later-more-requires-clause-number
-go_inward_later-more-requires-clause-number g c κs within =
-    let below = c.cycles-test.true in
-    let most = c.requires.most in
-    within_limit (setting g.X.Device.meaning c.args.world.now) c.args.machine.now c.cycles.machine.cycle c.cycles.k
-    (c.args.most - c.cycles.k) c.cycles.invariant.passes.stands.at (omega (arith, below, most)) (omega (arith, below))
-
-pub go_inward_later-more-requires-clause-few : goal.go_inward_later-more-requires-clause-few
-go_inward_later-more-requires-clause-few g c κs within =
-    let few = at_most (setting g.X.Device.meaning c.args.world.now) c.args.machine.now in
-    let count = c.cycles.invariant.passes.stands.few in
-    let below = c.cycles-test.true in
-    let most = c.requires.most in
-    omega (arith, few, count, below, most)
-
-pub go_inward_later-more-requires-clause-room : goal.go_inward_later-more-requires-clause-room
-go_inward_later-more-requires-clause-room g c κs within =
-    let few = at_most (setting g.X.Device.meaning c.args.world.now) c.args.machine.now in
-    let below = c.cycles-test.true in
-    let most = c.requires.most in
-    let left = c.args.most - c.cycles.k in
-    has_room _ _ _ _ _ left (3 * left) c.cycles.invariant.passes.follows (omega (arith, few, below, most)) (omega arith)
+pub go_paced-more-requires-clause-first : goal.go_paced-more-requires-clause-first
+go_paced-more-requires-clause-first g c κs within = λ zero. start_first c.cycles.invariant.passes zero
 
 pub cycles-preserved-then-more-gt0 : goal.cycles-preserved-then-more-gt0
 cycles-preserved-then-more-gt0 g c =
-    let m = c.go_inward_later-more.ensures in
+    let m = c.go_paced-more.ensures in
     let some = c.if-more-gt0.true in
     let few = m.most in
     let below = c.cycles-test.true in
@@ -60,62 +40,51 @@ cycles-preserved-then-more-gt0 g c =
 
 pub try_later-requires-clause-first : goal.try_later-requires-clause-first
 try_later-requires-clause-first g c κs within = λ zero.
-    let none = c.if-more-gt0.false in
-    let below = c.cycles-test.true in
-    let most = c.requires.most in
-    let p = along_none c.cycles.invariant.passes c.go_inward_later-more.ensures.gone (omega (arith, below, most)) (omega (arith, none)) in
+    let p = along_none c.cycles.invariant.passes c.go_paced-more.ensures.gone c.cycles-test.true c.requires.most c.if-more-gt0.false in
     c.cycles.invariant.first zero ∙ ap begun (c.cycles.invariant.passes.stands.is_states ∙ sym p.stands.is_states)
 
 pub try_later-requires-clause-same : goal.try_later-requires-clause-same
 try_later-requires-clause-same g c κs within = λ zero.
-    let none = c.if-more-gt0.false in
-    let below = c.cycles-test.true in
-    let most = c.requires.most in
-    let p = along_none c.cycles.invariant.passes c.go_inward_later-more.ensures.gone (omega (arith, below, most)) (omega (arith, none)) in
+    let p = along_none c.cycles.invariant.passes c.go_paced-more.ensures.gone c.cycles-test.true c.requires.most c.if-more-gt0.false in
     same_first p zero
 
 pub try_later-requires-clause-number : goal.try_later-requires-clause-number
 try_later-requires-clause-number g c κs within =
-    let none = c.if-more-gt0.false in
     let below = c.cycles-test.true in
-    let most = c.requires.most in
-    let p = along_none c.cycles.invariant.passes c.go_inward_later-more.ensures.gone (omega (arith, below, most)) (omega (arith, none)) in
+    let p = along_none c.cycles.invariant.passes c.go_paced-more.ensures.gone c.cycles-test.true c.requires.most c.if-more-gt0.false in
     let at = p.stands.at in
     let top = c.requires.number in
     omega (arith, at, below, top)
 
 pub try_later-requires-clause-marks : goal.try_later-requires-clause-marks
 try_later-requires-clause-marks g c κs within =
-    let none = c.if-more-gt0.false in
     let below = c.cycles-test.true in
     let most = c.requires.most in
-    let p = along_none c.cycles.invariant.passes c.go_inward_later-more.ensures.gone (omega (arith, below, most)) (omega (arith, none)) in
+    let p = along_none c.cycles.invariant.passes c.go_paced-more.ensures.gone c.cycles-test.true c.requires.most c.if-more-gt0.false in
     let few = at_most (setting g.X.Device.meaning c.args.world.now) c.args.machine.now in
     let count = p.stands.few in
     omega (arith, below, most, few, count)
 
 pub try_later-requires-clause-room : goal.try_later-requires-clause-room
 try_later-requires-clause-room g c κs within =
-    let none = c.if-more-gt0.false in
     let below = c.cycles-test.true in
     let most = c.requires.most in
-    let p = along_none c.cycles.invariant.passes c.go_inward_later-more.ensures.gone (omega (arith, below, most)) (omega (arith, none)) in
+    let p = along_none c.cycles.invariant.passes c.go_paced-more.ensures.gone c.cycles-test.true c.requires.most c.if-more-gt0.false in
     let few = at_most (setting g.X.Device.meaning c.args.world.now) c.args.machine.now in
     has_room _ _ _ _ _ 1 3 p.follows (omega (arith, below, most, few)) (omega arith)
 
 pub returns-then-not-try_later-clause-window : goal.returns-then-not-try_later-clause-window
 returns-then-not-try_later-clause-window g c =
-    let none = c.if-more-gt0.false in
     let below = c.cycles-test.true in
     let most = c.requires.most in
-    let p = along_none c.cycles.invariant.passes c.go_inward_later-more.ensures.gone (omega (arith, below, most)) (omega (arith, none)) in
+    let p = along_none c.cycles.invariant.passes c.go_paced-more.ensures.gone c.cycles-test.true c.requires.most c.if-more-gt0.false in
     let stays = c.if-not-try_later.ensures in
     record {
       length = closed_later _ _ c.cycles.k _ _ _ _ p (omega (arith, below, most))
           (sym c.try_later.ensures.goes ∙ c.if-not-try_later.true);
       state = stays.state ∙ p.stands.is_states;
       number = ap (λ (x : State). x.cycle) stays.state ∙ p.stands.at;
-      marked = stays.marks ∙ append-nil c.go_inward_later-more.new.marks ∙ p.stands.is_marks;
+      marked = stays.marks ∙ append-nil c.go_paced-more.new.marks ∙ p.stands.is_marks;
     }
 
 pub cycles-preserved : goal.cycles-preserved
@@ -123,7 +92,7 @@ cycles-preserved g c =
     let none = c.if-more-gt0.false in
     let below = c.cycles-test.true in
     let most = c.requires.most in
-    let p = along_none c.cycles.invariant.passes c.go_inward_later-more.ensures.gone (omega (arith, below, most)) (omega (arith, none)) in
+    let p = along_none c.cycles.invariant.passes c.go_paced-more.ensures.gone c.cycles-test.true c.requires.most c.if-more-gt0.false in
     let t = c.try_later.ensures in
     let goes = c.if-not-try_later.false in
     record {
@@ -132,7 +101,7 @@ cycles-preserved g c =
       within = omega (arith, below);
       first = λ zero. absurd (omega (arith, zero));
       counted = let before = c.cycles.invariant.counted in let tick = c.tick.ensures in let
-          more = c.go_inward_later-more.ensures.steps in omega (arith, before, tick, more, none);
+          more = c.go_paced-more.ensures.steps in omega (arith, before, tick, more, none);
     }
 
 pub returns-clause-window : goal.returns-clause-window
@@ -143,10 +112,3 @@ returns-clause-window g c =
     subst (λ k. IsWindow (setting g.X.Device.meaning c.args.world.now) c.args.machine.now k c.cycles.machine c.cycles.marks)
     full
     (closed_full c.cycles.invariant.passes (full ∙ c.requires.most))
-
-pub returns-clause-steps : goal.returns-clause-steps
-returns-clause-steps g c =
-    let ended = c.cycles-test.false in
-    let within = c.cycles.invariant.within in
-    let counted = c.cycles.invariant.counted in
-    omega (arith, ended, within, counted)

@@ -1,25 +1,18 @@
-use Rattle.std.proofs.Common.{◌*◌, ◌++◌, ◌∙◌, List, sym, ap, arith}
+use Rattle.std.proofs.Common.{◌++◌, ◌∙◌, List, sym, ap, subst, arith}
 use Rattle.lane_look.specs.declared.marks.Mark.{Mark}
 use Rattle.outer_lane.specs.Setting.{setting}
 use Rattle.quiet_run.proofs.GoneOn.{number_fits, may_bring_up, brought_up}
-use Rattle.window_merge.specs.Inward.{same_marks}
+use Rattle.window_merge.specs.declared.start.Start.{Start}
+use Rattle.window_merge.specs.Inward.{same_marks, GoneOver}
 use Rattle.window_merge.proofs.Passing.{gone_none}
-use Rattle.window_merge.proofs.InwardCycles.{room_fewer, is_onward, goes_as_alone, notes_onward, marked_onward, mark_with}
+use Rattle.window_merge.proofs.InwardCycles.{is_onward, goes_as_alone, notes_onward, marked_onward, mark_with}
 use Rattle.window_merge.proofs.inward.go_inward.Goals as goal
 
 pub returns-in_default-clause-gone : goal.returns-in_default-clause-gone
 returns-in_default-clause-gone g c = gone_none _ _ _ _ _
 
-pub note_onward-done-requires-clause-number : goal.note_onward-done-requires-clause-number
-note_onward-done-requires-clause-number g c =
-    let limit = c.in-Some.ensures.0.limit in
-    let fits = c.fact_limit_is_bounded.ensures in
-    omega (arith, limit, fits)
-
-pub note_onward-done-requires-clause-room : goal.note_onward-done-requires-clause-room
-note_onward-done-requires-clause-room g c =
-    let few = c.in-Some.ensures.1 in
-    room_fewer c.args.notes.now (3 * c.args.most) (3 * c.in-Some.room) c.requires.room (omega (arith, few))
+pub returns-then-room-eq0-clause-gone : goal.returns-then-room-eq0-clause-gone
+returns-then-room-eq0-clause-gone g c = gone_none _ _ _ _ _
 
 pub bring_up-requires-clause-number : goal.bring_up-requires-clause-number
 bring_up-requires-clause-number g c κs within =
@@ -36,12 +29,16 @@ returns-clause-gone g c =
     let d = c.note_onward-done in
     let e = d.ensures in
     let alone = c.in-Some.ensures.0 in
-    let on = is_onward w c.args.notes.now s c.in-Some.seen c.in-Some.room d.result c.requires.sees alone e.most e.inward
+    let same = c.is_same.ensures in
+    let is = c.if-not-is_same.false in
+    let on = is_onward w c.args.notes.now s c.in-Some.seen c.in-Some.room d.result (same.sees is) alone e.most e.inward
     e.keeps in
     let up = brought_up w s d.new.machine c.bring_up.new.machine c.in-Some.seen c.in-Some.room d.result alone e.most e.inward
     e.state
     c.bring_up.ensures in
-    record {
+    subst (λ (start : Start). GoneOver w start s c.args.notes.now c.args.marks.now d.result c.bring_up.new.machine d.new.notes
+    c.mark_each.new.marks) (sym (same.start is))
+    (record {
       state = up;
       goes = goes_as_alone w c.args.notes.now s d.result on;
       noted = e.notes ∙ sym (notes_onward w c.args.notes.now s d.result d.result on (omega arith));
@@ -49,4 +46,4 @@ returns-clause-gone g c =
           c.mark_each.new.marks on up
           c.pads.ensures (c.mark_each.ensures ∙ ap (λ (ms : List Mark). ms ++ same_marks d.result (mark_with c.pads.result))
           e.marks);
-    }
+    })

@@ -1,12 +1,22 @@
-use Rattle.std.proofs.Common.{subst}
+use Rattle.std.proofs.Common.{sym, subst}
 use Rattle.outer_lane.specs.Setting.{setting}
 use Rattle.rp_machine.specs.Copies.{CopiesAgree}
+use Rattle.window_merge.specs.declared.start.Start.{Start}
+use Rattle.window_merge.specs.Inward.{GoneOver}
+use Rattle.window_merge.proofs.Passing.{gone_none}
 use Rattle.window_merge.proofs.WaitingCycles.{has_waited}
 use Rattle.window_merge.proofs.inward.go_waiting.Goals as goal
 
+pub returns-then-cycles-eq0-clause-gone : goal.returns-then-cycles-eq0-clause-gone
+returns-then-cycles-eq0-clause-gone g c = gone_none _ _ _ _ _
+
 pub returns-clause-gone : goal.returns-clause-gone
 returns-clause-gone g c =
-    has_waited (setting g.X.Device.meaning c.args.world.now) c.args.notes.now c.args.machine.now c.pass_waiting-done.new.machine
-    c.pass_waiting-done.result c.pads.result c.args.marks.now c.mark_each.new.marks c.requires.sees
-    (subst CopiesAgree c.machine.view_is c.machine.invariant) c.pass_waiting-done.ensures.parts c.pass_waiting-done.ensures.state
-    c.pads.ensures c.mark_each.ensures
+    let w = setting g.X.Device.meaning c.args.world.now in
+    let same = c.is_same.ensures in
+    let is = c.if-not-is_same.false in
+    subst (λ (start : Start). GoneOver w start c.args.machine.now c.args.notes.now c.args.marks.now c.quiet-cycles.result c.pass.new.machine
+    c.args.notes.now c.mark_each.new.marks) (sym (same.start is))
+    (has_waited w c.args.notes.now c.args.machine.now c.pass.new.machine c.quiet-cycles.result c.pads.result c.args.marks.now
+    c.mark_each.new.marks (same.sees is) (subst CopiesAgree c.machine.view_is c.machine.invariant) c.quiet-cycles.ensures.parts
+    c.pass.ensures c.pads.ensures c.mark_each.ensures)
