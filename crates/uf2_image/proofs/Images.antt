@@ -16,9 +16,6 @@ use Rattle.uf2_image.proofs.Ranges.{length_payload}
 lowest : ℕ → List (List ℕ) → ℕ
 lowest low blocks = fold (λ a block. min a (target_of block)) low blocks
 
-first_pair : ℕ × ℕ → ℕ
-first_pair pair = pair.0
-
 row_above : (low t : ℕ) (xs : List ℕ) → low ≤ t → fold min low (map (λ pair. pair.0) (enumerate_from t xs)) ≡ low
 row_above low t [] h = refl
 row_above low t (x ∷ xs) h =

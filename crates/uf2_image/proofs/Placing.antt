@@ -10,10 +10,7 @@ use Rattle.uf2_image.specs.declared.parts.Part.{Part}
 use Rattle.uf2_image.specs.Uf2.{in_order, part_of, target_of, insert_part, LieFrom}
 use Rattle.uf2_image.specs.Reading.{AreApart, AreSpread, CanBePlaced, IsSolid}
 
--- a part with its address as its key
-pub keyed : Part → ℕ × Part
-keyed part = (part.address, part)
-
+-- each part with its address as its key
 unfoldable pub keyed_parts : List Part → List (ℕ × Part)
 keyed_parts [] = []
 keyed_parts (p ∷ ps) = (p.address, p) ∷ keyed_parts ps

@@ -422,19 +422,3 @@ part_all image parts count number index items same all past was =
     sym (append-nil items)
     ∙ ap (λ (ps : List Part). items ++ concat (blocks_from count number ps)) (sym none)
     ∙ was.rest ∙ ap (λ n. concat (blocks_from n 0 parts)) all ∙ ap (λ (ps : List Part). concat (blocks_from (length ps) 0 ps)) same
-
--- ## Zeros
-
-pub zero_more : (old items new : List ℕ) (count left next : ℕ) → left ≡ suc next → items ++ replicate left 0 ≡ old ++ replicate count 0 → new ≡ items ++ 0 ∷ [] → new ++ replicate next 0 ≡ old ++ replicate count 0
-zero_more old items new count left next e was added =
-    ap (λ xs. xs ++ replicate next 0) added ∙ append_assoc items (0 ∷ []) (replicate next 0) ∙ ap (λ n. items ++ replicate n 0) (sym e) ∙ was
-
-pub zero_all : (old items : List ℕ) (count left : ℕ) → left ≡ 0 → items ++ replicate left 0 ≡ old ++ replicate count 0 → items ≡ old ++ replicate count 0
-zero_all old items count left e was = sym (append-nil items) ∙ ap (λ n. items ++ replicate n 0) (sym e) ∙ was
-
--- ## A block
-
-pub joined : (b0 b1 b2 b3 b4 head payload zeros last : List ℕ) → b1 ≡ b0 ++ head → b2 ≡ b1 ++ payload → b3 ≡ b2 ++ zeros → b4 ≡ b3 ++ last → b4 ≡ b0 ++ (head ++ (payload ++ (zeros ++ last)))
-joined b0 b1 b2 b3 b4 head payload zeros last e1 e2 e3 e4 =
-    e4 ∙ ap (λ b. b ++ last) (e3 ∙ ap (λ b. b ++ zeros) (e2 ∙ ap (λ b. b ++ payload) e1))
-    ∙ append_assoc ((b0 ++ head) ++ payload) zeros last ∙ append_assoc (b0 ++ head) payload (zeros ++ last) ∙ append_assoc b0 head (payload ++ (zeros ++ last))

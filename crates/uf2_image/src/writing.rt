@@ -1,6 +1,6 @@
 //! The UF2 file of an image (Microsoft, "USB Flashing Format (UF2)", sections File format, Flags and Family ID).
 
-ghost use Rattle.std.specs.Prelude.{◌≡◌, ◌++◌, ◌∷◌, [], replicate, IfOk, OnOk, Ok};
+ghost use Rattle.std.specs.Prelude.{◌≡◌, ◌++◌, ◌∷◌, [], IfOk, OnOk, Ok};
 ghost use Rattle.uf2_image.specs.Uf2.{image_of};
 ghost use Rattle.uf2_image.specs.Writing.{block_of, file_of, words, IsSized, IsWritable};
 
@@ -41,18 +41,6 @@ fn end() -> [u8; 4]
     0x0AB1_6F30_u32.to_le_bytes()
 }
 
-/// Appends so many zeros.
-fn push_zeros(bytes: &mut Vec<u8>, count: usize) -> Result<(), AllocError>
-    ensures { OnOk result (bytes.new.items ≡ bytes.old.items ++ replicate count 0) }
-{
-    let mut left = count;
-    while left > 0 {
-        bytes.push(0)?;
-        left -= 1;
-    }
-    Ok(())
-}
-
 /// Appends the block of a part, as it stands in a file of so many blocks.
 fn push_block(bytes: &mut Vec<u8>, count: u32, number: u32, part: &Part) -> Result<(), AllocError>
     requires { IsSized part.now }
@@ -63,7 +51,7 @@ fn push_block(bytes: &mut Vec<u8>, count: u32, number: u32, part: &Part) -> Resu
     let head = head_of(count, number, part.address, size as u32);
     bytes.extend_from_slice(&head)?;
     bytes.extend_from_slice(payload)?;
-    push_zeros(bytes, LARGEST_PAYLOAD as usize - size)?;
+    bytes.resize(bytes.len() + LARGEST_PAYLOAD as usize - size, 0)?;
     let last = end();
     bytes.extend_from_slice(&last)?;
     Ok(())
