@@ -6,6 +6,7 @@ ghost use Rattle.pio_parse.specs.descent.Expression.{expression_at, level_of, op
 ghost use Rattle.pio_parse.specs.Tokens.{name_at};
 
 use crate::cursor::{Stop, TokenCursor};
+use crate::sequence::Sequence;
 use crate::token::{Span, Token, TokenKind};
 use pio_program::Name;
 use std::alloc::{AllocError, Global};
@@ -37,7 +38,7 @@ pub enum Term {
 /// and a pointer where it stands, since a file may have a million of them.
 #[derive(Drop)]
 pub struct Expression {
-    terms: Box<Vec<Term>>,
+    terms: Box<Sequence<Term>>,
 }
 
 impl Model for Expression {
@@ -46,12 +47,12 @@ impl Model for Expression {
 
     ghost Value = { List Term };
 
-    ghost view = { λ expression. expression.terms.value.items };
+    ghost view = { λ expression. expression.terms.value };
 }
 
 impl Expression {
-    fn from_terms(alloc: Global, mut terms: Vec<Term>) -> Result<Expression, AllocError>
-        ensures { IfOk result (λ expression. expression ≡ terms.items) }
+    fn from_terms(alloc: Global, mut terms: Sequence<Term>) -> Result<Expression, AllocError>
+        ensures { IfOk result (λ expression. expression ≡ terms) }
     {
         terms.shrink_to_fit();
         let terms = Box::new(alloc, terms)?;
@@ -63,45 +64,6 @@ impl Expression {
         ensures { result.now ≡ self.now }
     {
         self.terms.as_slice()
-    }
-}
-
-/// The terms of an expression that is being read, seen as their list.
-#[derive(Drop)]
-struct Terms {
-    items: Vec<Term>,
-}
-
-impl Model for Terms {
-    ghost use Rattle.std.specs.Prelude.{List};
-    ghost use Rattle.pio_parse.specs.declared.expression.Term.{Term};
-
-    ghost Value = { List Term };
-
-    ghost view = { λ terms. terms.items.items };
-}
-
-impl Terms {
-    fn new(alloc: Global) -> Terms
-        ensures { result ≡ [] }
-    {
-        Terms {
-            items: Vec::new(alloc),
-        }
-    }
-
-    fn push(&mut self, term: Term) -> Result<(), AllocError>
-        ensures { OnOk result (self.new ≡ self.old ++ term ∷ []) }
-    {
-        self.items.push(term)?;
-        Ok(())
-    }
-
-    fn into_expression(self, alloc: Global) -> Result<Expression, AllocError>
-        ensures { IfOk result (λ expression. expression ≡ self) }
-    {
-        let Terms { items } = self;
-        Expression::from_terms(alloc, items)
     }
 }
 
@@ -150,9 +112,7 @@ impl Stack {
     {
         self.items.pop()
     }
-}
 
-impl Stack {
     fn top(&self) -> Option<Pending>
         ensures { result ≡ newest self.now }
     {
@@ -176,7 +136,7 @@ fn level(operator: Operator) -> u8
 
 /// The operators that wait since the last open parenthesis, and bind at least so tightly, have their
 /// last operand.
-fn reduce(least: u8, stack: &mut Stack, output: &mut Terms) -> Result<(), AllocError>
+fn reduce(least: u8, stack: &mut Stack, output: &mut Sequence<Term>) -> Result<(), AllocError>
     ensures { OnOk result ((stack.new, output.new)
         ≡ reduced least stack.old output.old) }
 {
@@ -194,7 +154,7 @@ fn reduce(least: u8, stack: &mut Stack, output: &mut Terms) -> Result<(), AllocE
 #[derive(Drop)]
 struct Reading {
     stack: Stack,
-    output: Terms,
+    output: Sequence<Term>,
     /// Whether an operand comes next.
     awaited: bool,
     /// How many parentheses are open.
@@ -318,7 +278,7 @@ fn finish(alloc: Global, mut reading: Reading) -> Result<Expression, AllocError>
         awaited: _,
         depth: _,
     } = reading;
-    output.into_expression(alloc)
+    Expression::from_terms(alloc, output)
 }
 
 /// The longest expression that the next tokens begin with.
@@ -328,7 +288,7 @@ pub(crate) fn read_expression(file: &File, cursor: &mut TokenCursor) -> Result<E
 {
     let mut reading = Reading {
         stack: Stack::new(file.alloc),
-        output: Terms::new(file.alloc),
+        output: Sequence::new(file.alloc),
         awaited: true,
         depth: 0,
     };
@@ -344,7 +304,7 @@ pub(crate) fn read_expression(file: &File, cursor: &mut TokenCursor) -> Result<E
 fn single(file: &File, term: Term) -> Result<Expression, AllocError>
     ensures { IfOk result (λ expression. expression ≡ term ∷ []) }
 {
-    let mut terms = Vec::with_capacity(file.alloc, 1)?;
+    let mut terms = Sequence::new(file.alloc);
     terms.push(term)?;
     Expression::from_terms(file.alloc, terms)
 }

@@ -13,6 +13,7 @@ mod operands;
 mod parser;
 mod registers;
 mod scan;
+mod sequence;
 mod statement;
 mod syntax;
 mod token;
@@ -24,6 +25,7 @@ pub use expression::{Expression, Operator, Term};
 pub use fault::PioFault;
 pub use parser::parse;
 pub use pio_program::Name;
+pub use sequence::Sequence;
 pub use syntax::{
     BoxedInstruction, Instruction, Line, Lines, Operation, Programs, Source, SourceProgram,
     Statement,

@@ -1,8 +1,9 @@
 //! What a source says, line by line, with its expressions not evaluated.
 
-ghost use Rattle.std.specs.Prelude.{◌≡◌, ◌++◌, ◌∷◌, [], IfOk, OnOk};
+ghost use Rattle.std.specs.Prelude.{◌≡◌, IfOk};
 
 use crate::expression::Expression;
+use crate::sequence::Sequence;
 use pio_program::Name;
 use pio_words::{
     InSource, JmpCondition, MovDestination, MovOperation, MovSource, OutDestination, SetDestination,
@@ -144,44 +145,8 @@ pub struct Line {
     pub statement: Option<Statement>,
 }
 
-/// Lines in order, seen as a list.
-#[derive(Drop)]
-pub struct Lines {
-    items: Vec<Line>,
-}
-
-impl Model for Lines {
-    ghost use Rattle.std.specs.Prelude.{List};
-    ghost use Rattle.pio_parse.specs.declared.syntax.Line.{Line};
-
-    ghost Value = { List Line };
-
-    ghost view = { λ lines. lines.items.items };
-}
-
-impl Lines {
-    pub(crate) fn new(alloc: Global) -> Lines
-        ensures { result ≡ [] }
-    {
-        Lines {
-            items: Vec::new(alloc),
-        }
-    }
-
-    /// The lines in order.
-    pub fn as_slice(&self) -> &[Line]
-        ensures { result.now ≡ self.now }
-    {
-        self.items.as_slice()
-    }
-
-    pub(crate) fn push(&mut self, line: Line) -> Result<(), AllocError>
-        ensures { OnOk result (self.new ≡ self.old ++ line ∷ []) }
-    {
-        self.items.push(line)?;
-        Ok(())
-    }
-}
+/// Lines in order.
+pub type Lines = Sequence<Line>;
 
 /// A program: its name and the lines after its `.program` line. A label of the next `.program` line is
 /// a line of its own at the end.
@@ -193,44 +158,8 @@ pub struct SourceProgram {
     pub lines: Lines,
 }
 
-/// Programs in order, seen as a list.
-#[derive(Drop)]
-pub struct Programs {
-    items: Vec<SourceProgram>,
-}
-
-impl Model for Programs {
-    ghost use Rattle.std.specs.Prelude.{List};
-    ghost use Rattle.pio_parse.specs.declared.syntax.SourceProgram.{SourceProgram};
-
-    ghost Value = { List SourceProgram };
-
-    ghost view = { λ programs. programs.items.items };
-}
-
-impl Programs {
-    pub(crate) fn new(alloc: Global) -> Programs
-        ensures { result ≡ [] }
-    {
-        Programs {
-            items: Vec::new(alloc),
-        }
-    }
-
-    /// The programs in order.
-    pub fn as_slice(&self) -> &[SourceProgram]
-        ensures { result.now ≡ self.now }
-    {
-        self.items.as_slice()
-    }
-
-    pub(crate) fn push(&mut self, program: SourceProgram) -> Result<(), AllocError>
-        ensures { OnOk result (self.new ≡ self.old ++ program ∷ []) }
-    {
-        self.items.push(program)?;
-        Ok(())
-    }
-}
+/// Programs in order.
+pub type Programs = Sequence<SourceProgram>;
 
 /// A whole file.
 #[derive(Drop)]
