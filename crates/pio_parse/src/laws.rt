@@ -14,6 +14,7 @@ pub fn char_faults_at_first()
 
 /// What is read at the front of a line's tokens is the longest expression of the grammar there, in postfix order,
 /// and each expression of the grammar is read.
+#[tactic(auto, using(crate::proofs::Finds::finds_tree, crate::proofs::Finds::reads))]
 pub fn reads_grammar()
     ensures { ReadsGrammar }
 {}
@@ -43,6 +44,7 @@ pub fn faults_at_first()
 {}
 
 /// Some expressions, with their trees.
+#[tactic(auto, using(crate::proofs::Trees::has_tree))]
 pub fn examples()
     ensures { Examples }
 {}
