@@ -99,6 +99,7 @@ fn push_sign(byte: u8, tokens: &mut Vec<Token>) -> Result<(), AllocError>
 }
 
 /// Reads the byte at a place of a line, where a word may have begun at `start`, and gives where the next word may begin.
+#[tactic(auto, using(std::proofs::lemmas::List::take_rest, crate::proofs::Scanning::read_begin, crate::proofs::Scanning::read_sign, crate::proofs::Scanning::read_word))]
 fn read_byte(
     line: &[u8],
     start: usize,
