@@ -54,6 +54,7 @@ fn parts_of(alloc: Global, bytes: &[u8]) -> Result<PartList, AllocError>
 }
 
 /// The image of some bytes from the start of SRAM on.
+#[tactic(auto, using(crate::proofs::Parts::writable))]
 fn image_of(alloc: Global, bytes: &[u8]) -> Result<Image, AllocError>
     requires some { 0 < length bytes.now }
     requires short { length bytes.now ≤ 0x42000 }

@@ -44,6 +44,7 @@ fn assemble_lines(alloc: Global, text: &[u8]) -> Result<Image, ThumbFault>
 ///
 /// The first fault: the first character that may not stand on its line, or else the first line that has no form, or else the first line
 /// with another fault, where the least number counts, or else that there are no bytes. `Memory` comes where memory runs out.
+#[tactic(auto, using(crate::proofs::Whole::char_fault))]
 pub fn assemble_thumb(alloc: Global, text: &[u8]) -> Result<Image, ThumbFault>
     requires { length text.now ≤ 1048576 }
     // The answer is the definition's, unless memory ran out.

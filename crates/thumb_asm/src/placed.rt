@@ -161,28 +161,19 @@ fn op_at(address: u64, target: u64, item: Item) -> Option<Op>
 fn push_half(half: u16, bytes: &mut Vec<u8>) -> Result<(), AllocError>
     ensures { OnOk result (bytes.new.items ≡ bytes.old.items ++ half_bytes half) }
 {
-    bytes.push((half % 256) as u8)?;
-    bytes.push((half / 256) as u8)?;
-    Ok(())
+    bytes.extend_from_slice(&half.to_le_bytes())
 }
 
 fn push_word(word: u32, bytes: &mut Vec<u8>) -> Result<(), AllocError>
     ensures { OnOk result (bytes.new.items ≡ bytes.old.items ++ word_bytes word) }
 {
-    bytes.push((word % 256) as u8)?;
-    bytes.push((word / 256 % 256) as u8)?;
-    bytes.push((word / 65536 % 256) as u8)?;
-    bytes.push((word / 16777216) as u8)?;
-    Ok(())
+    bytes.extend_from_slice(&word.to_le_bytes())
 }
 
-fn push_zeros(count: u64, bytes: &mut Vec<u8>) -> Result<(), AllocError>
+fn push_zeros(count: u16, bytes: &mut Vec<u8>) -> Result<(), AllocError>
     ensures { OnOk result (bytes.new.items ≡ bytes.old.items ++ replicate count 0) }
 {
-    for done in 0..count {
-        bytes.push(0)?;
-    }
-    Ok(())
+    bytes.resize(bytes.len() + count as usize, 0)
 }
 
 #[tactic(auto, unfolding(crate::specs::Placed::op_bytes))]
@@ -219,8 +210,8 @@ pub(crate) fn push_item(
         Item::Word(k) => push_word(k, bytes),
         Item::WordAt(_, k) => push_word(word_value(target, k), bytes),
         Item::Half(k) => push_half(k, bytes),
-        Item::Space(count) => push_zeros(u64::from(count), bytes),
-        Item::Align => push_zeros(padding(address), bytes),
+        Item::Space(count) => push_zeros(count, bytes),
+        Item::Align => push_zeros(padding(address) as u16, bytes),
         _ => match op_at(address, target, item) {
             Some(op) => push_op(op, bytes),
             None => Ok(()),
