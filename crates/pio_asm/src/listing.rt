@@ -14,6 +14,7 @@ use pio_words::SideConfig;
 use std::alloc::{AllocError, Global};
 
 /// The programs of a file, or its first fault.
+#[tactic(auto, using(crate::proofs::Sources::early_fault_of, crate::proofs::Sources::plans_of_source))]
 pub fn programs_in(alloc: Global, bytes: &[u8]) -> Result<Vec<Program>, PioFault>
     ensures ok { IfOk result (λ programs. Assembles programs.items (plans_of bytes.now)) }
     ensures err { IfErr result (IsFaultOf (plans_of bytes.now)) }
@@ -25,6 +26,7 @@ pub fn programs_in(alloc: Global, bytes: &[u8]) -> Result<Vec<Program>, PioFault
 }
 
 /// The first program of a file; none where it has none, and its first fault where it has one.
+#[tactic(auto, using(crate::proofs::First::first_is))]
 pub fn first_program(alloc: Global, bytes: &[u8]) -> Result<Option<Program>, PioFault>
     ensures ok { IfOk result (λ program. IsFirst program (plans_of bytes.now)) }
     ensures err { IfErr result (IsFaultOf (plans_of bytes.now)) }

@@ -11,6 +11,7 @@ use pio_parse::PioFault;
 /// # Errors
 ///
 /// `NoRoom`, with the program's length, where its origin's addresses are not free, or without an origin no run of addresses.
+#[tactic(auto, using(crate::proofs::ListedAddresses::placed_ok, crate::proofs::ListedAddresses::placed_room, crate::proofs::ListedAddresses::placed_err))]
 pub fn offset_for(used: u32, program: &Program) -> Result<u8, PioFault>
     requires { 0 < length program.now.words.items }
     ensures ok { IfOk result (λ offset. placed used program.now.origin
