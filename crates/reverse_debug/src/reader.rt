@@ -35,6 +35,7 @@ fn line_end(bytes: &[u8]) -> Option<usize>
 }
 
 /// Gives more bytes of a line, as long as there is room for them.
+#[tactic(auto, using(crate::proofs::NextLines::given_some))]
 fn give(bytes: &[u8], line: &mut ArrayVec<u8, LINE>)
     ensures { line.new.items ≡ take given_bytes (line.old.items ++ bytes.now) }
 {

@@ -62,7 +62,7 @@ fn push_words(machine: &Machine, address: u32, count: u64, reply: &mut Reply)
 }
 
 /// Words of SRAM.
-#[tactic(auto, unfolding(crate::specs::Reply::mem_reply))]
+#[tactic(auto, using(crate::proofs::Reading::few_words, crate::proofs::Reading::low_words), unfolding(crate::specs::Reply::mem_reply))]
 pub(crate) fn put_words(machine: &Machine, address: u32, count: u64, reply: &mut Reply)
     requires empty { reply.old.items ≡ [] }
     requires words { are_words address count ≡ true }
@@ -118,6 +118,7 @@ fn push_spaced_byte(word: u32, reply: &mut Reply)
 }
 
 /// The registers of a PIO machine: PC with two digits, then X, Y, ISR and OSR.
+#[tactic(auto, using(crate::proofs::Listing::five_registers))]
 fn push_pio_words(words: &[u32; 5], reply: &mut Reply)
     requires { array_vec_len reply.old ≤ 100 }
     ensures text { reply.new.items ≡ reply.old.items ++ pio_words words.now }

@@ -80,6 +80,7 @@ fn scan<X: Device, L: Ledger>(
 }
 
 /// The greatest cycle not above another one of which one of two rings keeps the state.
+#[tactic(auto, using(snap_ring::proofs::Nearest::nearest_both))]
 fn nearest_of(ring: &Ring, near: &Ring, cycle: u64) -> Option<u64>
     ensures { IsNearest cycle (all_kept ring.now near.now) result }
 {
@@ -87,6 +88,7 @@ fn nearest_of(ring: &Ring, near: &Ring, cycle: u64) -> Option<u64>
 }
 
 /// Sets a machine to the state of a cycle that one of two rings keeps; else it stays as it is.
+#[tactic(auto, using(crate::proofs::Rings::restored_first, crate::proofs::Rings::restored_second))]
 fn restore_of(ring: &Ring, near: &Ring, cycle: u64, machine: &mut Machine)
     ensures { machine.new ≡ restored (state_at cycle (all_kept ring.now near.now)) machine.old }
 {

@@ -239,6 +239,7 @@ impl Session {
     }
 
     /// Goes forward to a cycle. None where the session stands there; else the cause of the stop below it.
+    #[tactic(auto, using(crate::proofs::Sessions::going_here, crate::proofs::Sessions::going_on))]
     fn forward<X: Device, L: Ledger>(
         &mut self,
         world: &World<'_, X>,
@@ -466,7 +467,7 @@ impl Session {
     ///
     /// The session has to stand for the world that is handed in, as it does after `open` for each world of its limit, and after a
     /// command for the same world.
-    #[tactic(auto, unfolding(crate::specs::Reply::heard, crate::specs::Reply::cost))]
+    #[tactic(auto, using(crate::proofs::Moves::quits_as_heard, crate::proofs::Moves::near_as_heard), unfolding(crate::specs::Reply::heard, crate::specs::Reply::cost))]
     pub fn command<X: Device, L: Ledger>(
         &mut self,
         world: &World<'_, X>,

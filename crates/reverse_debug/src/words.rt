@@ -17,6 +17,7 @@ fn first_space(line: &[u8]) -> Option<usize>
 }
 
 /// The first word of a line and what follows its space; none where the line is one word.
+#[tactic(auto, using(std::proofs::lemmas::List::take_rest, pin_script::proofs::Fields::fields_none, pin_script::proofs::Fields::fields_some))]
 pub(crate) fn first_word(line: &[u8]) -> Option<(&[u8], &[u8])>
     ensures { MatchOption result (words line.now ≡ line.now ∷ [])
         (λ parts. words line.now ≡ parts.0.now ∷ words parts.1.now) }
@@ -33,6 +34,7 @@ pub(crate) fn is(word: &[u8], name: &[u8]) -> bool
 }
 
 /// The value of at most 10 decimal digits.
+#[tactic(auto, using(crate::proofs::Digits::all_read))]
 fn decimal(word: &[u8]) -> Option<u64>
     requires { length word.now ≤ 10 }
     ensures value { result
@@ -115,7 +117,7 @@ fn is_ram(address: u32) -> bool
 }
 
 /// All of 1 to 16 words from an address on are words of SRAM, and the address is a multiple of 4.
-#[tactic(auto, unfolding(crate::specs::Command::are_words))]
+#[tactic(auto, using(crate::proofs::Reading::words_on), unfolding(crate::specs::Command::are_words))]
 pub(crate) fn are_words(address: u32, count: u64) -> bool
     ensures value { result ≡ are_words address count }
     ensures low { result ≡ true → address + 4 * count < 0x2200_0004 }
