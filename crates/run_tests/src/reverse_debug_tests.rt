@@ -366,65 +366,72 @@ fn session_of<L: Ledger>(
     Ok(end_of(&mut session, &world, rows, &mut steps))
 }
 
+/// Where a session with steps of its own ends over a program.
+fn end_over(
+    alloc: Global,
+    code: &[u32; 12],
+    levels: &[u8],
+    limit: u64,
+    rows: &[Row],
+) -> Result<(usize, bool), Fail>
+    requires levels { length levels.now ≤ 100 }
+    requires limit { limit ≤ 10000 }
+{
+    session_of::<Brand>(alloc, Blank::new(1), code, levels, limit, rows)
+}
+
 #[test]
 fn each_command_is_answered(rt: HostRuntime) -> Result<(), Fail> {
-    let end = session_of::<Brand>(
-        rt.alloc(),
-        Blank::new(1),
-        &STORES_ONCE,
-        b"",
-        10_000,
-        &STORED,
-    )?;
+    let end = end_over(rt.alloc(), &STORES_ONCE, b"", 10_000, &STORED)?;
     assert_eq!(rt; end, (30, true));
     Ok(())
 }
 
 #[test]
 fn the_last_write_of_a_copy(rt: HostRuntime) -> Result<(), Fail> {
-    let end = session_of::<Brand>(rt.alloc(), Blank::new(1), &COPIES, b"", 100, &COPIED)?;
+    let end = end_over(rt.alloc(), &COPIES, b"", 100, &COPIED)?;
     assert_eq!(rt; end, (5, true));
     Ok(())
 }
 
 #[test]
 fn the_changes_of_a_pin(rt: HostRuntime) -> Result<(), Fail> {
-    let end = session_of::<Brand>(rt.alloc(), Blank::new(1), &STORES_ONCE, LEVELS, 100, &SEEN)?;
+    let end = end_over(rt.alloc(), &STORES_ONCE, LEVELS, 100, &SEEN)?;
     assert_eq!(rt; end, (21, true));
     Ok(())
 }
 
 #[test]
 fn the_instructions_of_a_program(rt: HostRuntime) -> Result<(), Fail> {
-    let end = session_of::<Brand>(rt.alloc(), Blank::new(1), &STORES_ONCE, b"", 10_000, &BEGUN)?;
+    let end = end_over(rt.alloc(), &STORES_ONCE, b"", 10_000, &BEGUN)?;
     assert_eq!(rt; end, (40, true));
     Ok(())
 }
 
 #[test]
 fn an_instruction_that_faults_was_begun(rt: HostRuntime) -> Result<(), Fail> {
-    let end = session_of::<Brand>(rt.alloc(), Blank::new(1), &FAULTS, b"", 100, &FAULTED)?;
+    let end = end_over(rt.alloc(), &FAULTS, b"", 100, &FAULTED)?;
     assert_eq!(rt; end, (6, true));
     Ok(())
 }
 
 #[test]
 fn an_exception_is_taken_in_place_of_an_instruction(rt: HostRuntime) -> Result<(), Fail> {
-    let end = session_of::<Brand>(rt.alloc(), Blank::new(1), &CALLS, b"", 100, &CALLED)?;
+    let end = end_over(rt.alloc(), &CALLS, b"", 100, &CALLED)?;
     assert_eq!(rt; end, (4, true));
     Ok(())
 }
 
 #[test]
 fn both_cores_are_at_one_address(rt: HostRuntime) -> Result<(), Fail> {
-    let end = session_of::<Brand>(rt.alloc(), Blank::new(1), &BOTH, b"", 100, &IN_TURN)?;
+    let end = end_over(rt.alloc(), &BOTH, b"", 100, &IN_TURN)?;
     assert_eq!(rt; end, (24, true));
     Ok(())
 }
 
 #[test]
 fn both_cores_begin_one_instruction_in_one_cycle(rt: HostRuntime) -> Result<(), Fail> {
-    let end = session_of::<Brand>(rt.alloc(), Blank::new(1), &ALIKE, b"", 100, &AT_ONCE)?;
+    let end = end_over(rt.alloc(), &ALIKE, b"", 100, &AT_ONCE)?;
     assert_eq!(rt; end, (16, true));
     Ok(())
 }

@@ -1,4 +1,0 @@
-use Rattle.run_tests.proofs.reverse_debug_tests.each_command_is_answered.Given as goal
-
-abbrev pub ghosts-session_of : goal.ghosts-session_of
-ghosts-session_of g a = record { name = a.blank.name; parts = a.blank.parts }

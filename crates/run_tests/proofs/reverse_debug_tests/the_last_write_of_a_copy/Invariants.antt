@@ -1,4 +1,0 @@
-use Rattle.run_tests.proofs.reverse_debug_tests.the_last_write_of_a_copy.Given as goal
-
-abbrev pub ghosts-session_of : goal.ghosts-session_of
-ghosts-session_of g a = record { name = a.blank.name; parts = a.blank.parts }
