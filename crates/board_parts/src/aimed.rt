@@ -67,6 +67,7 @@ impl Aimed {
 }
 
 /// All probes hear a change of some pin, in their order.
+#[tactic(auto, using(crate::proofs::Seen::next_changed))]
 pub fn hear_all(probes: &mut [Aimed], change: &PinChange)
     ensures { seen probes.new (λ a. aim_of a.index a.pin
         (⟦<dyn Probe as Probe>⟧ a.probe.vtable) a.probe.value)

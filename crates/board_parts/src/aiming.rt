@@ -45,6 +45,7 @@ fn aim_next(
 /// # Errors
 ///
 /// `AllocError` where memory runs out.
+#[tactic(auto, using(crate::proofs::AllAimed::all_aimed))]
 pub fn aim_all(
     alloc: Global,
     probes: Vec<Box<dyn Probe>>,

@@ -57,5 +57,6 @@ impl Part for Loop {
         u64::MAX
     }
 
+    #[tactic(auto, using(crate::proofs::Quiet::still_after))]
     fn pass(&self, _state: &mut [u32], _first: u64, _pads: u32, _n: u64) {}
 }
