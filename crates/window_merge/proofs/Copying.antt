@@ -1,5 +1,8 @@
 -- A lane that runs alone by copies goes the way of one that runs alone in the state that was copied.
-use Rattle.std.proofs.Common.{◌≡◌, ◌==◌, ℕ, zero, suc, ◌+◌, Bool, true, false, if◌then◌else◌, List, [], ◌∷◌, refl, ap, ◌∙◌}
+use Rattle.std.specs.Prelude.{is_some}
+use Rattle.std.proofs.Common.{◌≡◌, ◌==◌, ℕ, zero, suc, ◌+◌, Bool, true, false, if◌then◌else◌, List, [], ◌∷◌, Option, Some, None, refl, ap, ◌∙◌}
+use Rattle.rp_base.specs.declared.Request.{Request}
+use Rattle.rp_base.specs.Map.{place_of}
 use Rattle.lane_look.specs.Asking.{Asking, answered}
 use Rattle.lane_look.specs.Asking.Asking.{Ready, Question}
 use Rattle.lane_look.specs.declared.lane.Ask.{Ask}
@@ -8,14 +11,23 @@ use Rattle.lane_look.specs.declared.lane.Want.{Want}
 use Rattle.lane_look.specs.declared.lane.Want.TheVariants as want
 use Rattle.lane_look.specs.declared.marks.Mark.{Mark}
 use Rattle.lane_look.specs.Replay.{Meaning, Entry, asked, after_begun, marks_with}
-use Rattle.lane_look.specs.Alone.{Surroundings, surroundings, Alone, all_stored, begun_alone, alone_cycle, alone, ends_wants, ends_now, ends_at, first_from, least, alone_length}
+use Rattle.lane_look.specs.Alone.{Surroundings, Alone, all_stored, begun_alone, alone_cycle, alone, ends_wants, ends_now, ends_at, first_from, least, alone_length}
 use Rattle.rp_machine.specs.State.{State}
+use Rattle.rp_machine.specs.Cycle.{stored}
+use Rattle.rp_machine.specs.Deeds.{stored_at}
+use Rattle.io_bank.specs.Levels.{is_used}
+use Rattle.outer_lane.specs.Setting.{Setting}
+use Rattle.outer_lane.specs.State.{State as OuterState}
+use Rattle.outer_lane.specs.Step as outer
+use Rattle.pio_block.specs.State.{State as Pio, is_busy}
+use Rattle.pio_block.specs.Cycle as pio_cycle
 use Rattle.pio_block.specs.Words as pio
 use Rattle.rp_machine.specs.Answers.{packed_pair, block_lines, lines_of, pacing_of, inputs_of, outs_of, answer_of}
 use Rattle.rp_machine.proofs.Inward.{answered_same}
-use Rattle.window_merge.specs.Lanes.{stored_by, around}
+use Rattle.window_merge.specs.Lanes.{stored_by, around, pio_lane, peripheral_lane}
+use Rattle.window_merge.specs.Kinds.{asks_sram}
 use Rattle.window_merge.specs.declared.copies.Copies.{Copies}
-use Rattle.window_merge.specs.Around.{copies_of, copied_answer, copied_store, copied}
+use Rattle.window_merge.specs.Around.{copies_of, copied_answer, stored_in, copied_store, copied}
 use Rattle.window_merge.specs.Merging.{IsRunAlone}
 use Rattle.window_merge.specs.Jobs.{RanIn}
 use Rattle.lane_look.specs.declared.replay.Report.{Report}
@@ -28,14 +40,23 @@ asked_same {B} f g (Question ask next) h = ap (λ (x : ℕ). (ask, x) ∷ asked 
 
 -- ---- surroundings of two kinds: one is what the other comes to
 
--- each answer is the same, and each access leaves the same
-pub record Copied {V W : Type 0} (a : Surroundings V) (b : Surroundings W) (h : W → V) : Type 0 where
-  pub answers : (w : W) (ask : Ask) → a.answer (h w) ask ≡ b.answer w ask
+-- two functions give what is asked the same answers
+pub record SameBy {B : Type 0} (f g : Ask → ℕ) (tree : Asking B) : Type 0 where
+  pub begun : answered f tree ≡ answered g tree
+  pub talk : asked f tree ≡ asked g tree
+
+pub same_by : {B : Type 0} (f g : Ask → ℕ) → ((ask : Ask) → f ask ≡ g ask) → (tree : Asking B) → SameBy f g tree
+same_by f g h tree = record { begun = answered_same f g h tree; talk = asked_same f g tree h }
+
+-- each answer to the lane is the same, and each access leaves the same
+pub record Copied {E S B V W : Type 0} (a : Surroundings V) (b : Surroundings W) (h : W → V) (n : Meaning E S B) (env : E) : Type 0 where
+  pub answers : (w : W) (s : S) (cycle : ℕ) → SameBy (a.answer (h w)) (b.answer w) (n.asks env s cycle)
   pub stores : (w : W) (v : Want) → a.stored (h w) v ≡ h (b.stored w v)
 
-all_copied : {V W : Type 0} (a : Surroundings V) (b : Surroundings W) (h : W → V) → Copied a b h → (w : W) (wants : List Want) → all_stored a (h w) wants ≡ h (all_stored b w wants)
-all_copied a b h c w [] = refl
-all_copied a b h c w (v ∷ wants) = ap (λ x. all_stored a x wants) (c.stores w v) ∙ all_copied a b h c (b.stored w v) wants
+all_copied : {V W : Type 0} (a : Surroundings V) (b : Surroundings W) (h : W → V) → ((w : W) (v : Want) → a.stored (h w) v ≡ h (b.stored w v))
+    → (w : W) (wants : List Want) → all_stored a (h w) wants ≡ h (all_stored b w wants)
+all_copied a b h stores w [] = refl
+all_copied a b h stores w (v ∷ wants) = ap (λ x. all_stored a x wants) (stores w v) ∙ all_copied a b h stores (b.stored w v) wants
 
 -- a run alone that stands where another one stands
 abbrev pub as_copied : {S V W : Type 0} → (W → V) → Alone S W → Alone S V
@@ -49,29 +70,29 @@ pub record SameLane {E F S B : Type 0} (m : Meaning E S B) (env : E) (n : Meanin
   pub marked : (s : S) (b : B) (marks : List Mark) → marks_with m env s b marks ≡ marks_with n env' s b marks
 
 begun_same : {E F S B V W : Type 0} (m : Meaning E S B) (env : E) (n : Meaning F S B) (env' : F) (a : Surroundings V) (b : Surroundings W) (h : W → V)
-    → SameLane m env n env' → Copied a b h → (cycle : ℕ) (s : S) (w : W) → begun_alone m a env cycle s (h w) ≡ begun_alone n b env' cycle s w
+    → SameLane m env n env' → Copied a b h n env' → (cycle : ℕ) (s : S) (w : W) → begun_alone m a env cycle s (h w) ≡ begun_alone n b env' cycle s w
 begun_same m env n env' a b h same alike cycle s w =
     ap (answered (a.answer (h w))) (same.asks s cycle)
-    ∙ answered_same (a.answer (h w)) (b.answer w) (alike.answers w) (n.asks env' s cycle)
+    ∙ (alike.answers w s cycle).begun
 
 cycle_same : {E F S B V W : Type 0} (m : Meaning E S B) (env : E) (n : Meaning F S B) (env' : F) (a : Surroundings V) (b : Surroundings W) (h : W → V)
-    → SameLane m env n env' → Copied a b h → (cycle : ℕ) (r : Alone S W) → alone_cycle m a env cycle (as_copied h r) ≡ as_copied h (alone_cycle n b env' cycle r)
+    → SameLane m env n env' → Copied a b h n env' → (cycle : ℕ) (r : Alone S W) → alone_cycle m a env cycle (as_copied h r) ≡ as_copied h (alone_cycle n b env' cycle r)
 cycle_same {E} {F} {S} {B} {V} {W} m env n env' a b h same alike cycle r =
     let here = begun_same m env n env' a b h same alike cycle r.state r.around in
     let begun = begun_alone n b env' cycle r.state r.around in
     let tree = n.asks env' r.state cycle in
     let talk : asked (a.answer (h r.around)) (m.asks env r.state cycle) ≡ asked (b.answer r.around) tree =
-    ap (asked (a.answer (h r.around))) (same.asks r.state cycle) ∙ asked_same (a.answer (h r.around)) (b.answer r.around) tree (alike.answers r.around) in
+    ap (asked (a.answer (h r.around))) (same.asks r.state cycle) ∙ (alike.answers r.around r.state cycle).talk in
     let state : after_begun m env r.state (begun_alone m a env cycle r.state (h r.around)) ≡ after_begun n env' r.state begun =
     ap (after_begun m env r.state) here ∙ same.next r.state begun in
     let around_after : all_stored a (h r.around) (m.wanted (begun_alone m a env cycle r.state (h r.around))) ≡ h (all_stored b r.around (n.wanted begun)) =
-    ap (λ (x : B). all_stored a (h r.around) (m.wanted x)) here ∙ ap (all_stored a (h r.around)) (same.wanted begun) ∙ all_copied a b h alike r.around (n.wanted begun) in
+    ap (λ (x : B). all_stored a (h r.around) (m.wanted x)) here ∙ ap (all_stored a (h r.around)) (same.wanted begun) ∙ all_copied a b h alike.stores r.around (n.wanted begun) in
     let marks : marks_with m env r.state (begun_alone m a env cycle r.state (h r.around)) r.marks ≡ marks_with n env' r.state begun r.marks =
     ap (λ (x : B). marks_with m env r.state x r.marks) here ∙ same.marked r.state begun r.marks in
     rw (state, around_after, talk, marks) refl
 
 pub alone_same : {E F S B V W : Type 0} (m : Meaning E S B) (env : E) (n : Meaning F S B) (env' : F) (a : Surroundings V) (b : Surroundings W) (h : W → V)
-    → SameLane m env n env' → Copied a b h → (before : S) (start : ℕ) (w : W) (k : ℕ) → alone m a env before start (h w) k ≡ as_copied h (alone n b env' before start w k)
+    → SameLane m env n env' → Copied a b h n env' → (before : S) (start : ℕ) (w : W) (k : ℕ) → alone m a env before start (h w) k ≡ as_copied h (alone n b env' before start w k)
 unfolding alone
 alone_same m env n env' a b h same alike before start w zero = refl
 alone_same m env n env' a b h same alike before start w (suc k) =
@@ -79,7 +100,7 @@ alone_same m env n env' a b h same alike before start w (suc k) =
     ∙ cycle_same m env n env' a b h same alike (start + k) (alone n b env' before start w k)
 
 ends_same : {E F S B V W : Type 0} (m : Meaning E S B) (env : E) (n : Meaning F S B) (env' : F) (a : Surroundings V) (b : Surroundings W) (h : W → V)
-    → SameLane m env n env' → Copied a b h → (before : S) (start : ℕ) (w : W) (k : ℕ) → ends_at m a env before start (h w) k ≡ ends_at n b env' before start w k
+    → SameLane m env n env' → Copied a b h n env' → (before : S) (start : ℕ) (w : W) (k : ℕ) → ends_at m a env before start (h w) k ≡ ends_at n b env' before start w k
 unfolding ends_at
 ends_same {E} {F} {S} {B} {V} {W} m env n env' a b h same alike before start w k =
     let r = alone n b env' before start w k in
@@ -92,7 +113,7 @@ first_same t u from zero h = refl
 first_same t u from (suc count) h = rw (h from, first_same t u (suc from) count h) refl
 
 pub length_same : {E F S B V W : Type 0} (m : Meaning E S B) (env : E) (n : Meaning F S B) (env' : F) (a : Surroundings V) (b : Surroundings W) (h : W → V)
-    → SameLane m env n env' → Copied a b h → (before : S) (start : ℕ) (w : W) (bound : ℕ) → alone_length m a env before start (h w) bound ≡ alone_length n b env' before start w bound
+    → SameLane m env n env' → Copied a b h n env' → (before : S) (start : ℕ) (w : W) (bound : ℕ) → alone_length m a env before start (h w) bound ≡ alone_length n b env' before start w bound
 unfolding alone_length least
 length_same m env n env' a b h same alike before start w bound =
     first_same (ends_at m a env before start (h w)) (ends_at n b env' before start w) 0 bound (λ k. ends_same m env n env' a b h same alike before start w k)
@@ -107,33 +128,98 @@ pub outs_same : (block : ℕ) (s : State) → (if block == 0 then outs_of 0 s el
 unfolding outs_of
 outs_same block s = pick (block == 0) s
 
-answers_copied : (lane : ℕ) (s : State) (ask : Ask) → copied_answer (copies_of lane s) ask ≡ answer_of lane s ask
-answers_copied lane s ask.Lines = refl
-answers_copied lane s (ask.Half address) = refl
-answers_copied lane s (ask.Word address) = refl
-answers_copied lane s ask.Pacing = refl
-answers_copied lane s ask.Inputs = refl
-answers_copied lane s (ask.Outs block) = outs_same block s
+answers_copied : (lane : ℕ) (s : State) → asks_sram lane ≡ true → (ask : Ask) → copied_answer (copies_of lane s) ask ≡ answer_of lane s ask
+answers_copied lane s e ask.Lines = refl
+answers_copied lane s e (ask.Half address) = rw e refl
+answers_copied lane s e (ask.Word address) = rw e refl
+answers_copied lane s e ask.Pacing = refl
+answers_copied lane s e ask.Inputs = refl
+answers_copied lane s e (ask.Outs block) = outs_same block s
+
+stored_if : (c : Bool) (ram : List ℕ) (request : Request)
+    → stored_in request (if c then Some ram else None) ≡ (if c then Some (stored (stored_at request request.write (place_of request.address)) ram) else None)
+stored_if true ram request = refl
+stored_if false ram request = refl
 
 stores_copied : (lane : ℕ) (s : State) (v : Want) → copied_store (copies_of lane s) v ≡ copies_of lane (stored_by v s)
 unfolding lines_of block_lines pacing_of inputs_of outs_of
 stores_copied lane s want.Nothing = refl
-stores_copied lane s (want.Ram request) = refl
+stores_copied lane s (want.Ram request) = ap (λ (ram : Option (List ℕ)). record (copies_of lane s) { ram = ram }) (stored_if (asks_sram lane) s.sram request)
 stores_copied lane s (want.Outward request) = refl
 stores_copied lane s want.Signal = refl
 stores_copied lane s (want.Stopped cause) = refl
 
-pub is_copied : (lane : ℕ) → Copied (surroundings copied_answer copied_store) (around lane) (copies_of lane)
-is_copied lane = record { answers = answers_copied lane; stores = stores_copied lane }
+-- a lane that asks for words of SRAM has a copy of it
+pub with_sram : {S B : Type 0} (m : Meaning (Unit {0}) S B) (lane : ℕ) → asks_sram lane ≡ true → Copied copied (around lane) (copies_of lane) m tt
+with_sram m lane e = record {
+  answers = λ s x cycle. same_by (copied_answer (copies_of lane s)) (answer_of lane s) (answers_copied lane s e) (m.asks tt x cycle);
+  stores = stores_copied lane;
+}
+
+-- a PIO block asks for inputs alone
+inputs_same : (lane : ℕ) (s : State) (c : Bool) → SameBy (copied_answer (copies_of lane s)) (answer_of lane s) (if c then Question ask.Inputs (λ x. Ready (Some (pio_cycle.inputs_of x))) else Ready None)
+inputs_same lane s true = record { begun = refl; talk = refl }
+inputs_same lane s false = record { begun = refl; talk = refl }
+
+pio_same : (lane : ℕ) (s : State) (block : Pio) → SameBy (copied_answer (copies_of lane s)) (answer_of lane s) (pio_cycle.asks block)
+unfolding pio_cycle.asks
+pio_same lane s block = inputs_same lane s (is_busy block)
+
+pub pio_copied : (lane : ℕ) → Copied copied (around lane) (copies_of lane) pio_lane tt
+pio_copied lane = record { answers = λ s block cycle. pio_same lane s block; stores = stores_copied lane }
+
+-- the peripherals ask for the outputs of the PIO blocks alone
+outs_asked : (lane : ℕ) (s : State) (c d : Bool) (o : OuterState) (cycle : ℕ) → is_used 7 o.pads ≡ d
+    → SameBy (copied_answer (copies_of lane s)) (answer_of lane s) (if c then Question (ask.Outs 0) (λ answer. outer.asks_second o cycle (outer.pins_in answer)) else outer.asks_second o cycle outer.no_pins)
+unfolding outer.asks_second
+outs_asked lane s true true o cycle e = rw e (record { begun = refl; talk = refl })
+outs_asked lane s true false o cycle e = rw e (record { begun = refl; talk = refl })
+outs_asked lane s false true o cycle e = rw e (record { begun = refl; talk = refl })
+outs_asked lane s false false o cycle e = rw e (record { begun = refl; talk = refl })
+
+outer_same : (lane : ℕ) (s : State) (o : OuterState) (cycle : ℕ) → SameBy (copied_answer (copies_of lane s)) (answer_of lane s) (outer.asks o cycle)
+unfolding outer.asks
+outer_same lane s o cycle = outs_asked lane s (is_used 6 o.pads) (is_used 7 o.pads) o cycle refl
+
+pub outer_copied : (w : Setting) (lane : ℕ) → Copied copied (around lane) (copies_of lane) (peripheral_lane w) tt
+outer_copied w lane = record { answers = λ s o cycle. outer_same lane s o cycle; stores = stores_copied lane }
 
 -- a report of a run by copies of a state is the run alone
 pub as_run_alone : {S B : Type 0} (m : Meaning (Unit {0}) S B) (lane : ℕ) (before room : S) (s : State) (start : ℕ) (copies : Copies) (bound bound' : ℕ) (report : Report S)
-    → start ≡ s.cycle → copies ≡ copies_of lane s → room ≡ before → bound ≡ bound' → RanIn m tt room start copies bound report → IsRunAlone m lane before s bound' report
-as_run_alone {S} m lane before room s start copies bound bound' report e_start e_copies e_lane e_bound h =
+    → Copied copied (around lane) (copies_of lane) m tt → start ≡ s.cycle → copies ≡ copies_of lane s → room ≡ before → bound ≡ bound' → RanIn m tt room start copies bound report
+    → IsRunAlone m lane before s bound' report
+as_run_alone {S} m lane before room s start copies bound bound' report alike e_start e_copies e_lane e_bound h =
     let same : SameLane m tt m tt = record { asks = λ s cycle. refl; wanted = λ b. refl; next = λ s b. refl; marked = λ s b marks. refl } in
     record {
       same_start = h.same_start ∙ e_start;
       same_lane = h.same_lane ∙ e_lane;
-      same_length = rw (← e_copies, ← e_start, ← e_lane, ← e_bound) h.same_length ∙ length_same m tt m tt copied (around lane) (copies_of lane) same (is_copied lane) before s.cycle s bound';
-      same_log = rw (← e_copies, ← e_start, ← e_lane) h.same_log ∙ ap (λ (r : Alone S Copies). r.talk) (alone_same m tt m tt copied (around lane) (copies_of lane) same (is_copied lane) before s.cycle s report.length);
+      same_length = rw (← e_copies, ← e_start, ← e_lane, ← e_bound) h.same_length ∙ length_same m tt m tt copied (around lane) (copies_of lane) same alike before s.cycle s bound';
+      same_log = rw (← e_copies, ← e_start, ← e_lane) h.same_log ∙ ap (λ (r : Alone S Copies). r.talk) (alone_same m tt m tt copied (around lane) (copies_of lane) same alike before s.cycle s report.length);
     }
+
+-- ---- a copy of SRAM stays where there is one
+
+copy_kept : (request : Request) (ram : Option (List ℕ)) → is_some (stored_in request ram) ≡ is_some ram
+copy_kept request None = refl
+copy_kept request (Some ram) = refl
+
+store_kept : (c : Copies) (v : Want) → is_some (copied_store c v).ram ≡ is_some c.ram
+store_kept c want.Nothing = refl
+store_kept c (want.Ram request) = copy_kept request c.ram
+store_kept c (want.Outward request) = refl
+store_kept c want.Signal = refl
+store_kept c (want.Stopped cause) = refl
+
+wants_kept : (c : Copies) (wants : List Want) → is_some (all_stored copied c wants).ram ≡ is_some c.ram
+wants_kept c [] = refl
+wants_kept c (v ∷ wants) = wants_kept (copied_store c v) wants ∙ store_kept c v
+
+pub sram_kept : {E S B : Type 0} (m : Meaning E S B) (env : E) (before : S) (start : ℕ) (c : Copies) (k : ℕ) → is_some (alone m copied env before start c k).around.ram ≡ is_some c.ram
+unfolding alone
+sram_kept m env before start c zero = refl
+sram_kept m env before start c (suc k) =
+    let r = alone m copied env before start c k in
+    wants_kept r.around (m.wanted (begun_alone m copied env (start + k) r.state r.around)) ∙ sram_kept m env before start c k
+
+pub same_sram : {S : Type 0} (r t : Alone S Copies) → r ≡ t → is_some r.around.ram ≡ is_some t.around.ram
+same_sram {S} r t e = ap (λ (x : Alone S Copies). is_some x.around.ram) e

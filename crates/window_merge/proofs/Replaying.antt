@@ -36,8 +36,8 @@ true_same {E} {F} {S} m env n env' same report h =
       marks_left = h.marks_left ∙ ap (λ (r : Replay S). r.marks) e;
     }
 
-itself : Copied copied copied (λ (copies : Copies). copies)
-itself = record { answers = λ w ask. refl; stores = λ w v. refl }
+itself : {E S B : Type 0} (m : Meaning E S B) (env : E) → Copied copied copied (λ (copies : Copies). copies) m env
+itself m env = record { answers = λ w s cycle. record { begun = refl; talk = refl }; stores = λ w v. refl }
 
 -- a run by copies of what is around a lane is that of the lane in the other environment
 pub ran_same : {E F S B : Type 0} (m : Meaning E S B) (env : E) (n : Meaning F S B) (env' : F) (before : S) (start : ℕ) (copies : Copies) (bound : ℕ) (report : Report S)
@@ -45,7 +45,7 @@ pub ran_same : {E F S B : Type 0} (m : Meaning E S B) (env : E) (n : Meaning F S
 ran_same {E} {F} {S} m env n env' before start copies bound report h same = record {
   same_start = h.same_start;
   same_lane = h.same_lane;
-  same_length = h.same_length ∙ length_same m env n env' copied copied (λ (c : Copies). c) same itself before start copies bound;
-  same_log = h.same_log ∙ ap (λ (r : Alone S Copies). r.talk) (alone_same m env n env' copied copied (λ (c : Copies). c) same itself before start copies report.length);
+  same_length = h.same_length ∙ length_same m env n env' copied copied (λ (c : Copies). c) same (itself n env') before start copies bound;
+  same_log = h.same_log ∙ ap (λ (r : Alone S Copies). r.talk) (alone_same m env n env' copied copied (λ (c : Copies). c) same (itself n env') before start copies report.length);
   replays = true_same m env n env' same report h.replays;
 }

@@ -1,5 +1,6 @@
 -- What a lane that runs alone can ask of the rest, copied from a state. The project's own.
-use Rattle.std.specs.Prelude.{ℕ, ◌==◌, if◌then◌else◌}
+use Rattle.std.specs.Prelude.{ℕ, ◌==◌, if◌then◌else◌, List, Option, Some, None}
+use Rattle.rp_base.specs.declared.Request.{Request}
 use Rattle.rp_base.specs.Map.{place_of}
 use Rattle.lane_look.specs.declared.lane.Ask.{Ask}
 use Rattle.lane_look.specs.declared.lane.Ask.TheVariants as ask
@@ -12,11 +13,12 @@ use Rattle.rp_machine.specs.Answers.{word_in, lines_of, pacing_of, inputs_of, ou
 use Rattle.rp_machine.specs.Cycle.{stored}
 use Rattle.rp_machine.specs.Deeds.{stored_at}
 use Rattle.window_merge.specs.declared.copies.Copies.{Copies}
+use Rattle.window_merge.specs.Kinds.{asks_sram}
 
--- the copies that a lane of that number has of a state
+-- the copies that a lane of that number has of a state; of SRAM where it asks for words of it
 abbrev pub copies_of : ℕ → State → Copies
 copies_of lane s = record {
-  ram = s.sram;
+  ram = if asks_sram lane then Some s.sram else None;
   lines = lines_of lane s;
   pacing = pacing_of s;
   inputs = inputs_of s;
@@ -24,18 +26,28 @@ copies_of lane s = record {
   pio1 = outs_of 1 s;
 }
 
+-- the word of a copy of SRAM that holds an address
+abbrev pub copied_word : Option (List ℕ) → ℕ → ℕ
+copied_word None address = 0
+copied_word (Some ram) address = word_in ram address
+
 -- what they answer
 abbrev pub copied_answer : Copies → Ask → ℕ
 copied_answer c ask.Lines = c.lines
-copied_answer c (ask.Half address) = half_of (word_in c.ram address) address
-copied_answer c (ask.Word address) = word_in c.ram address
+copied_answer c (ask.Half address) = half_of (copied_word c.ram address) address
+copied_answer c (ask.Word address) = copied_word c.ram address
 copied_answer c ask.Pacing = c.pacing
 copied_answer c ask.Inputs = c.inputs
 copied_answer c (ask.Outs block) = if block == 0 then c.pio0 else c.pio1
 
--- what an access to SRAM leaves of them
+-- what an access to SRAM leaves of a copy
+abbrev pub stored_in : Request → Option (List ℕ) → Option (List ℕ)
+stored_in request None = None
+stored_in request (Some ram) = Some (stored (stored_at request request.write (place_of request.address)) ram)
+
+-- what it leaves of them
 abbrev pub copied_store : Copies → Want → Copies
-copied_store c (want.Ram request) = record c { ram = stored (stored_at request request.write (place_of request.address)) c.ram }
+copied_store c (want.Ram request) = record c { ram = stored_in request c.ram }
 copied_store c _ = c
 
 -- around a lane that runs alone by them

@@ -1,5 +1,5 @@
 -- The kinds of the six lanes: 0 and 1 are the cores, 2 is the DMA engine, 3 and 4 are the PIO blocks, and 5 has the peripherals.
-use Rattle.std.specs.Prelude.{ℕ, ◌==◌, ◌||◌, Bool, false, Option, Some, None}
+use Rattle.std.specs.Prelude.{ℕ, ◌==◌, ◌||◌, nat_le, Bool, false, Option, Some, None}
 use Rattle.window_merge.specs.declared.lane_run.LaneRun.{LaneRun}
 use Rattle.window_merge.specs.declared.lane_run.LaneRun.TheVariants as run
 
@@ -14,3 +14,7 @@ is_run_of lane (run.Outer report) = lane == 5
 abbrev pub has_room_for : ℕ → Option LaneRun → Bool
 has_room_for lane None = false
 has_room_for lane (Some run) = is_run_of lane run
+
+-- the cores and the DMA engine ask for words of SRAM, the other lanes for none
+abbrev pub asks_sram : ℕ → Bool
+asks_sram lane = nat_le lane 2

@@ -6,7 +6,7 @@ ghost use Rattle.rp_machine.specs.Cycle.{stored};
 ghost use Rattle.rp_machine.specs.Deeds.{stored_at};
 ghost use Rattle.rp_machine.specs.Sram.{half_of};
 ghost use Rattle.rp_machine.specs.Answers.{word_in};
-ghost use Rattle.window_merge.specs.Around.{copies_of};
+ghost use Rattle.window_merge.specs.Around.{copies_of, copied_word, stored_in};
 
 use lane_look::{Around, Ask, Want};
 use ram_banks::Ram;
@@ -20,8 +20,8 @@ use std::alloc::{AllocError, Global};
 /// PIO blocks put out.
 #[derive(Drop)]
 pub struct Copies {
-    /// SRAM, with what the lane wrote since.
-    pub ram: Ram,
+    /// SRAM, with what the lane wrote since. None for a lane that asks for no word of it.
+    pub ram: Option<Ram>,
     /// The interrupt lines of the lane's core.
     pub lines: u128,
     /// The counts that pace DMA channels, six bits each.
@@ -56,6 +56,16 @@ fn word_in(ram: &Ram, address: u32) -> u32
     }
 }
 
+/// The word of a copy of SRAM that holds an address, 0 where there is none.
+fn copied_word(copy: &Option<Ram>, address: u32) -> u32
+    ensures { result ≡ copied_word copy.now address }
+{
+    match copy {
+        Some(ram) => word_in(ram, address),
+        None => 0,
+    }
+}
+
 /// Does an access to SRAM.
 fn store(ram: &mut Ram, request: &Request)
     ensures { ram.new ≡ stored (stored_at request.now request.now.write
@@ -66,6 +76,15 @@ fn store(ram: &mut Ram, request: &Request)
             let lanes = lanes_at(request.size, request.address);
             ram.write(index, lanes, replicated(request.size, value));
         }
+    }
+}
+
+/// Does an access to a copy of SRAM, if there is one.
+fn store_in(copy: &mut Option<Ram>, request: &Request)
+    ensures { copy.new ≡ stored_in request.now copy.old }
+{
+    if let Some(ram) = copy {
+        store(ram, request);
     }
 }
 
@@ -80,8 +99,8 @@ impl Around for Copies {
     fn answer(&self, ask: Ask) -> u128 {
         match ask {
             Ask::Lines => self.lines,
-            Ask::Half(address) => u128::from(half_of(word_in(&self.ram, address), address)),
-            Ask::Word(address) => u128::from(word_in(&self.ram, address)),
+            Ask::Half(address) => u128::from(half_of(copied_word(&self.ram, address), address)),
+            Ask::Word(address) => u128::from(copied_word(&self.ram, address)),
             Ask::Pacing => self.pacing,
             Ask::Inputs => self.inputs,
             Ask::Outs(block) => { if block == 0 { self.pio0 } else { self.pio1 } }
@@ -91,19 +110,27 @@ impl Around for Copies {
     #[inline(always)]
     fn store(&mut self, want: &Want) {
         if let Want::Ram(request) = want {
-            store(&mut self.ram, request);
+            store_in(&mut self.ram, request);
         }
     }
 }
 
 impl Copies {
-    ghost use Rattle.std.specs.Prelude.{◌≡◌};
+    ghost use Rattle.std.specs.Prelude.{◌≡◌, IfOk, is_some};
+    ghost use Rattle.window_merge.specs.Kinds.{asks_sram};
     ghost use Rattle.window_merge.specs.Around.{copies_of};
 
-    /// Copies of nothing, with room for SRAM.
-    pub fn new(alloc: Global) -> Result<Copies, AllocError> {
+    /// Copies of nothing, with room for SRAM where a lane of that number asks for its words.
+    pub fn new(alloc: Global, lane: u8) -> Result<Copies, AllocError>
+        ensures { IfOk result (λ copies. is_some copies.ram ≡ asks_sram lane) }
+    {
+        let ram = if lane <= 2 {
+            Some(Ram::new(alloc)?)
+        } else {
+            None
+        };
         Ok(Copies {
-            ram: Ram::new(alloc)?,
+            ram,
             lines: 0,
             pacing: 0,
             inputs: 0,
@@ -114,9 +141,12 @@ impl Copies {
 
     /// Takes what a lane of that number can ask of a machine.
     pub fn take(&mut self, machine: &Machine, lane: u8)
+        requires { is_some self.old.ram ≡ asks_sram lane }
         ensures { self.new ≡ copies_of lane machine.now }
     {
-        self.ram.copy_from(&machine.ram);
+        if let Some(ram) = &mut self.ram {
+            ram.copy_from(&machine.ram);
+        }
         self.take_answers(machine, lane);
     }
 

@@ -54,7 +54,7 @@ fn job_of(alloc: Global, lane: u8) -> Result<LaneJob, AllocError>
     requires { lane ≤ 5 }
     ensures { IfOk result (λ job. job.lane ≡ lane) }
 {
-    let copies = Copies::new(alloc)?;
+    let copies = Copies::new(alloc, lane)?;
     let room = room_of(alloc, lane)?;
     Ok(LaneJob {
         lane,

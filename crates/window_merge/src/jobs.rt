@@ -1,6 +1,6 @@
 //! A lane's job: what it is given from a machine, its run alone, and the set that comes back.
 
-ghost use Rattle.std.specs.Prelude.{◌≡◌, ℕ, ◌+◌, ◌^◌, ◌<◌, ◌≤◌, ◌==◌, ◌&&◌, true, length, Some};
+ghost use Rattle.std.specs.Prelude.{◌≡◌, ℕ, ◌+◌, ◌^◌, ◌<◌, ◌≤◌, ◌==◌, ◌&&◌, true, length, Some, is_some};
 ghost use Rattle.lane_look.specs.Replay.{meaning};
 ghost use Rattle.outer_lane.specs.Setting.{setting};
 ghost use Rattle.rp_machine.specs.State.{State};
@@ -73,8 +73,9 @@ fn run_lane<E, S: Lane<E>>(
 ) -> Copies
     requires cycles { at_most ≤ 256 }
     requires number { start + at_most < 2 ^ 64 }
-    ensures { RanIn (meaning S.asks S.wanted S.next S.marked) env.now room.old.before start copies
-        at_most room.new }
+    ensures run { RanIn (meaning S.asks S.wanted S.next S.marked) env.now room.old.before start
+        copies at_most room.new }
+    ensures sram { is_some result.ram ≡ is_some copies.ram }
 {
     room.start = start;
     run_lane_alone(room, env, copies, at_most)
@@ -84,8 +85,9 @@ fn run_lane<E, S: Lane<E>>(
 fn run_core(room: &mut Report<Core>, lane: u8, start: u64, copies: Copies, at_most: u16) -> Copies
     requires cycles { at_most ≤ 256 }
     requires number { start + at_most < 2 ^ 64 }
-    ensures { RanIn core_lane tt room.old.before start copies
+    ensures run { RanIn core_lane tt room.old.before start copies
         (core_bound lane room.old.before at_most) room.new }
+    ensures sram { is_some result.ram ≡ is_some copies.ram }
 {
     if lane == 1 && room.before.is_asleep() && room.before.has_offer() {
         run_lane(room, &(), start, copies, 0)
@@ -98,7 +100,8 @@ fn run_core(room: &mut Report<Core>, lane: u8, start: u64, copies: Copies, at_mo
 fn run_dma(room: &mut Report<Dma>, start: u64, copies: Copies, at_most: u16) -> Copies
     requires cycles { at_most ≤ 256 }
     requires number { start + at_most < 2 ^ 64 }
-    ensures { RanIn dma_lane tt room.old.before start copies at_most room.new }
+    ensures run { RanIn dma_lane tt room.old.before start copies at_most room.new }
+    ensures sram { is_some result.ram ≡ is_some copies.ram }
 {
     run_lane(room, &(), start, copies, at_most)
 }
@@ -107,7 +110,8 @@ fn run_dma(room: &mut Report<Dma>, start: u64, copies: Copies, at_most: u16) -> 
 fn run_pio(room: &mut Report<PioBlock>, start: u64, copies: Copies, at_most: u16) -> Copies
     requires cycles { at_most ≤ 256 }
     requires number { start + at_most < 2 ^ 64 }
-    ensures { RanIn pio_lane tt room.old.before start copies at_most room.new }
+    ensures run { RanIn pio_lane tt room.old.before start copies at_most room.new }
+    ensures sram { is_some result.ram ≡ is_some copies.ram }
 {
     run_lane(room, &(), start, copies, at_most)
 }
@@ -122,8 +126,9 @@ fn run_outer<X: Device>(
 ) -> Copies
     requires cycles { at_most ≤ 256 }
     requires number { start + at_most < 2 ^ 64 }
-    ensures { RanIn (peripheral_lane (setting X.meaning world.now)) tt room.old.before start copies
-        at_most room.new }
+    ensures run { RanIn (peripheral_lane (setting X.meaning world.now)) tt room.old.before start
+        copies at_most room.new }
+    ensures sram { is_some result.ram ≡ is_some copies.ram }
 {
     run_lane(room, world, start, copies, at_most)
 }
@@ -142,6 +147,7 @@ pub(crate) fn run_room<X: Device>(
     requires number { start + at_most < 2 ^ 64 }
     ensures kind { is_run_of lane room.new ≡ true }
     ensures run { Ran (setting X.meaning world.now) lane start copies at_most room.old room.new }
+    ensures sram { is_some result.ram ≡ is_some copies.ram }
 {
     match room {
         LaneRun::Core(room) => run_core(room, lane, start, copies, at_most),

@@ -1,14 +1,15 @@
 //! The jobs of the six lanes, and what comes of them.
 
-ghost use Rattle.std.specs.Prelude.{◌≡◌, true};
-ghost use Rattle.window_merge.specs.Kinds.{is_run_of, has_room_for};
+ghost use Rattle.std.specs.Prelude.{◌≡◌, true, is_some};
+ghost use Rattle.window_merge.specs.Kinds.{is_run_of, has_room_for, asks_sram};
 
 use crate::lane_run::{LaneRun, LaneSet};
 use crate::notes::Notes;
 use quiet_run::Pace;
 use rp_machine::begun::Begun;
 
-/// What a lane is to do alone. Its type keeps that the lane is at most 5 and that the set has room for a report of that lane.
+/// What a lane is to do alone. Its type keeps that the lane is at most 5, and that the set has room for a report of that lane and,
+/// where the lane asks for words of SRAM, a copy of it.
 #[derive(Drop)]
 pub struct LaneJob {
     /// The number of the lane.
@@ -20,9 +21,11 @@ pub struct LaneJob {
     /// What the lane needs.
     pub set: LaneSet,
     pub ghost fits: { has_room_for lane set.room ≡ true },
+    pub ghost sram: { is_some set.copies.ram ≡ asks_sram lane },
 }
 
-/// What a lane did alone. Its type keeps that the lane is at most 5 and that the run is of that lane's kind.
+/// What a lane did alone. Its type keeps that the lane is at most 5, that the run is of that lane's kind, and that the set has a copy
+/// of SRAM where the lane asks for its words.
 #[derive(Drop)]
 pub struct LaneReport {
     /// The number of the lane.
@@ -34,6 +37,7 @@ pub struct LaneReport {
     /// What is left of the set: its room is in `run`.
     pub set: LaneSet,
     pub ghost fits: { is_run_of lane run ≡ true },
+    pub ghost sram: { is_some set.copies.ram ≡ asks_sram lane },
 }
 
 /// A job for each lane, in the order of the lanes, and room for what a window notes. None stands for a job that is somewhere else, or that
