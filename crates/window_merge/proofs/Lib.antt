@@ -1,7 +1,6 @@
 pub mod Agree
 pub mod AskingAlone
 pub mod Banks
-pub mod Calm
 pub mod Comparing
 pub mod Copying
 pub mod Going
@@ -21,6 +20,7 @@ pub mod Reading
 pub mod Replaying
 pub mod Reported
 pub mod Resting
+pub mod Separate
 pub mod Starting
 pub mod Telling
 pub mod Told

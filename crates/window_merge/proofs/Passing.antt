@@ -36,7 +36,7 @@ use Rattle.window_merge.specs.declared.start.Start.{Start}
 use Rattle.window_merge.specs.Notes.{is_none, seen_of, seen_word, is_clean, write_of, original_word, own_word, with_word, no_notes, noted, noted_by, HasRoom}
 use Rattle.window_merge.specs.Inward.{noted_in, GoesAsAlone, GoneOver, IsWindow}
 use Rattle.window_merge.specs.Start.{start_of, guess, begun_from, differs_from, ends_wanted, goes_by, goes_on}
-use Rattle.window_merge.proofs.Calm.{IsCalm, calm_sram}
+use Rattle.window_merge.proofs.Separate.{IsSeparate, separate_sram}
 use Rattle.rp_machine.proofs.Inward.{answered_same}
 use Rattle.window_merge.proofs.Copying.{asked_same}
 use Rattle.window_merge.proofs.Meeting.{least_meets}
@@ -144,9 +144,9 @@ runs_go_on : (w : Setting) (s : State) (k : ℕ) (now : State) (rests : Rests) (
     → Stands w s k now rests marks → Begins w s k now b → is_launching s.core1 ≡ false → k < longest w s
     → ends_wanted (wanted b) ≡ false
     → AreOn w s k
-runs_go_on w s k now rests marks b t h calm lt e =
+runs_go_on w s k now rests marks b t h unlaunched lt e =
     let n = longest w s in
-    let lt1 : k < core1_bound s n = subst (λ (c : Bool). k < (if c then 0 else n)) (sym calm) lt in
+    let lt1 : k < core1_bound s n = subst (λ (c : Bool). k < (if c then 0 else n)) (sym unlaunched) lt in
     let below : Each w (λ S B l. k < l.bound s n) =
     record { core0 = lt; core1 = lt1; dma = lt; pio0 = lt; pio1 = lt; outer = lt } in
     on_each (none_ends w b e) (on_each below (on_each h (on_each t.lanes (every (λ S B l stands h lt goes.
@@ -171,8 +171,8 @@ record Tried (w : Setting) (s : State) (k : ℕ) (now : State) (rests : Rests) (
 tried : (w : Setting) (s : State) (k : ℕ) (now : State) (rests : Rests) (marks : List Mark) (b : Begun) (d : Bool)
     → Stands w s k now rests marks → Begins w s k now b → (AreTold w s k now rests → differs_by rests now ≡ d)
     → is_launching s.core1 ≡ false → k < longest w s → ends_wanted (wanted b) ≡ false → Tried w s k now rests marks b d
-tried w s k now rests marks b d t h differ calm lt e =
-    let on = runs_go_on w s k now rests marks b t h calm lt e in
+tried w s k now rests marks b d t h differ unlaunched lt e =
+    let on = runs_go_on w s k now rests marks b t h unlaunched lt e in
     let goes : Tries w s k now rests marks = record { stands = t; on = on; below = lt } in
     let told_here = all_told w s k now rests marks goes in
     let same = told_same w s k now rests b told_here h in
@@ -198,10 +198,10 @@ never_by false false c e = refl
 closed : (w : Setting) (s : State) (k : ℕ) (now : State) (rests : Rests) (marks : List Mark) (b : Begun) (d : Bool)
     → Stands w s k now rests marks → Begins w s k now b → (AreTold w s k now rests → differs_by rests now ≡ d)
     → is_launching s.core1 ≡ false → k < longest w s → not (d || not (goes_by b)) ≡ false → k ≡ window_length w s
-closed w s k now rests marks b d t h differ calm lt e = elim (cases_Bool (ends_wanted (wanted b))) [
+closed w s k now rests marks b d t h differ unlaunched lt e = elim (cases_Bool (ends_wanted (wanted b))) [
   | inl ends ↦ ends_run w s k now rests marks t lt (run_ends w s k now rests marks b t h ends)
   | inr none ↦
-      let r = tried w s k now rests marks b d t h differ calm lt none in
+      let r = tried w s k now rests marks b d t h differ unlaunched lt none in
       ends_tried w s k now rests marks r.goes
       (r.fitting ∙ sym (kept_by d (ends_wanted (wanted b)) (clash (wants_of b)) none) ∙ e)
 ]
@@ -210,16 +210,16 @@ closed w s k now rests marks b d t h differ calm lt e = elim (cases_Bool (ends_w
 record GoneOn (w : Setting) (s : State) (k : ℕ) (now : State) (b : Begun) (now' : State) (marks' : List Mark) : Type 0 where
   rests : Rests
   stands : Stands w s (k + 1) now' rests marks'
-  calm : IsCalm b now
+  separate : IsSeparate b now
 
 gone_on : (w : Setting) (s : State) (k : ℕ) (now : State) (rests : Rests) (marks : List Mark) (b : Begun) (d : Bool) (now' : State)
     (marks' : List Mark) → Stands w s k now rests marks → Begins w s k now b
     → (AreTold w s k now rests → differs_by rests now ≡ d) → is_launching s.core1 ≡ false → k < longest w s
     → not (d || not (goes_by b)) ≡ true → now' ≡ next_by w b (wanted b) now
     → marks' ≡ marks ++ outer.marked w now.outer b.outer ∷ [] → GoneOn w s k now b now' marks'
-gone_on w s k now rests marks b d now' marks' t h differ calm lt e e_now e_marks =
+gone_on w s k now rests marks b d now' marks' t h differ unlaunched lt e e_now e_marks =
     let none = never_by d (ends_wanted (wanted b)) (clash (wants_of b)) e in
-    let r = tried w s k now rests marks b d t h differ calm lt none in
+    let r = tried w s k now rests marks b d t h differ unlaunched lt none in
     let fitting : fits rests now ≡ true = r.fitting ∙ sym (kept_by d (ends_wanted (wanted b)) (clash (wants_of b)) none) ∙ e in
     let f = fitted w s k now rests marks r.goes fitting in
     record {
@@ -227,7 +227,7 @@ gone_on w s k now rests marks b d now' marks' t h differ calm lt e e_now e_marks
       stands = stands_next w s k now rests marks now' (left_by rests now) marks' r.goes fitting
           (subst (λ (x : Begun). now' ≡ next_by w x (wanted x) now) (sym r.same) e_now) refl
           (subst (λ (x : Begun). marks' ≡ marks ++ outer.marked w now.outer x.outer ∷ []) (sym r.same) e_marks);
-      calm = subst (λ (x : Begun). IsCalm x now) (sym f.same ∙ r.same) f.calm;
+      separate = subst (λ (x : Begun). IsSeparate x now) (sym f.same ∙ r.same) f.separate;
     }
 
 -- ---- what is kept of the start
@@ -411,31 +411,31 @@ room_on v0 v1 v sram notes room more h le =
     }
 
 -- what the machine's SRAM is then
-sram_next : (w : Setting) (s : State) (k : ℕ) (now : State) (b : Begun) (now' : State) → Begins w s k now b → IsCalm b now → now' ≡ next_by w b (wanted b) now
+sram_next : (w : Setting) (s : State) (k : ℕ) (now : State) (b : Begun) (now' : State) → Begins w s k now b → IsSeparate b now → now' ≡ next_by w b (wanted b) now
     → now'.sram ≡ stored (write_of (dma.want_of b.dma.write)) (stored (write_of (core.want_of b.core1)) (stored (write_of (core.want_of b.core0)) now.sram))
-sram_next w s k now b now' h calm e =
+sram_next w s k now b now' h separate e =
     let v0 = core.want_of b.core0 in
     let v1 = core.want_of b.core1 in
     let read = dma.want_of b.dma.read in
     let write = dma.want_of b.dma.write in
     let reads = dma_reads w s k now b h in
-    ap (λ (t : State). t.sram) e ∙ calm_sram w b now calm
+    ap (λ (t : State). t.sram) e ∙ separate_sram w b now separate
     ∙ ap (sram_after write) (read_rests read (sram_after v1 (sram_after v0 now.sram)) reads)
     ∙ sym (after_want write (sram_after v1 (sram_after v0 now.sram)))
     ∙ ap (stored (write_of write)) (sym (after_want v1 (sram_after v0 now.sram)) ∙ ap (stored (write_of v1)) (sym (after_want v0 now.sram)))
 
 follows_by : (w : Setting) (s : State) (k : ℕ) (now : State) (rests : Rests) (marks : List Mark) (start : Start) (notes : Notes) (b : Begun) (now' : State)
-    → Stands w s k now rests marks → Begins w s k now b → Follows s k now start notes → IsCalm b now
+    → Stands w s k now rests marks → Begins w s k now b → Follows s k now start notes → IsSeparate b now
     → now' ≡ next_by w b (wanted b) now
     → Follows s (k + 1) now' start (noted (core.want_of b.core0) (core.want_of b.core1) (dma.want_of b.dma.write) now.sram notes)
-follows_by w s k now rests marks start notes b now' t h f calm e =
+follows_by w s k now rests marks start notes b now' t h f separate e =
     let v0 = core.want_of b.core0 in
     let v1 = core.want_of b.core1 in
     let v = dma.want_of b.dma.write in
     let d0 = write_of v0 in
     let d1 = write_of v1 in
     let d = write_of v in
-    let left = sram_next w s k now b now' h calm e in
+    let left = sram_next w s k now b now' h separate e in
     let u0 = undoes_on notes.originals now.sram now.sram s.sram d0 (record { at_start = f.restores; here = f.restores }) in
     let u1 = undoes_on (with_word (original_word now.sram d0) notes.originals) now.sram (stored d0 now.sram) s.sram d1 u0 in
     let u2 = undoes_on (with_word (original_word now.sram d1) (with_word (original_word now.sram d0) notes.originals)) now.sram (stored d1 (stored d0 now.sram)) s.sram d u1 in
@@ -540,7 +540,7 @@ passes_later w s k now start notes marks now' notes' marks' p lt goes e_now e_ma
     let b = begun_from start notes now in
     let h = begins_later w s k now start notes a in
     let g = gone_on w s k now p.rests marks b (differs_from start notes now) now' marks' p.stands h (differs_later w s k now p.rests start notes a) p.launching lt goes e_now e_marks in
-    let f = follows_by w s k now p.rests marks start notes b now' p.stands h p.follows g.calm e_now in
+    let f = follows_by w s k now p.rests marks start notes b now' p.stands h p.follows g.separate e_now in
     record {
       rests = g.rests;
       stands = g.stands;

@@ -155,12 +155,12 @@ quiet_window w s n i h long le =
       };
       long = ap (λ (x : State). length x.sram) at ∙ long;
     } in
-    let calm : is_launching t.core1 ≡ false = rw (offer ∙ h.agree.offer ∙ h.parts.launcher) (and-false t.core1.asleep) in
+    let unlaunched : is_launching t.core1 ≡ false = rw (offer ∙ h.agree.offer ∙ h.parts.launcher) (and-false t.core1.asleep) in
     let start : start_of t ≡ start_of s = ap start_of at ∙ starts w no_notes s n i h (omega (arith, le)) in
     let goes : GoesAsAlone w (start_of t) no_notes t 256 = subst (λ (x : Start). GoesAsAlone w x no_notes t 256) (sym start) (waits_as_alone w no_notes s n i 256 h le) in
     let gone : GoneOver w (start_of t) t no_notes [] 256 (states w t 256) (noted_in w (start_of t) no_notes t 256) (marks_in w t 256) =
     record { state = refl; goes = goes; noted = refl; marked = refl } in
-    sym (closed_full (along_first first gone calm (omega (arith, whole))) (sym whole)).length
+    sym (closed_full (along_first first gone unlaunched (omega (arith, whole))) (sym whole)).length
 
 pub no_window : (w : Setting) (s : State) → AreQuietWindows w s 0
 no_window w s = record { quiet = quiet_none w s; free = λ k lt. absurd (omega (arith, lt)); whole = λ k lt. absurd (omega (arith, lt)) }

@@ -33,7 +33,7 @@ use Rattle.window_merge.specs.declared.runs.Rests.{Rests}
 use Rattle.window_merge.specs.Merging.{begun_by, left_by, differs_by, wants_of, fits, marks_in, AreRunsAlone, logs_of, end_at}
 use Rattle.window_merge.specs.Inward.{IsWindow}
 use Rattle.window_merge.proofs.Agree.{six_false, itself}
-use Rattle.window_merge.proofs.Calm.{AreCalm, IsCalm, IsStepped, calm_next}
+use Rattle.window_merge.proofs.Separate.{AllGoOn, IsSeparate, IsStepped, separate_next}
 use Rattle.window_merge.proofs.Comparing.{clash_four}
 use Rattle.window_merge.proofs.InSram.{core_placed, dma_placed}
 use Rattle.window_merge.proofs.Lanes.{run, cycles_of, tree, LaneStands, lane_first, log_alone, LaneTold, lane_told, lane_next}
@@ -166,18 +166,18 @@ first_ends v u e =
     let b = or_parts (ends_want u) _ a.1 in
     (a.0, b.0)
 
-all_calm : (w : Setting) (s : State) (k : ℕ) (now : State) (rests : Rests) (marks : List Mark) → Tries w s k now rests marks
-    → AreCalm (begun_by rests now)
-all_calm w s k now rests marks t =
+all_go_on : (w : Setting) (s : State) (k : ℕ) (now : State) (rests : Rests) (marks : List Mark) → Tries w s k now rests marks
+    → AllGoOn (begun_by rests now)
+all_go_on w s k now rests marks t =
     let goes : Each w (λ S B l. ends_wants (l.m.wanted (told (l.log rests) (tree l now))) ≡ false) =
     on_each (all_told w s k now rests marks t) (on_each t.on (on_each t.stands.lanes (every (λ S B l h on t.
     lane_goes_on l w s k now rests h on t)))) in
     let d = first_ends (dma.want_of (begun_by rests now).dma.read) (dma.want_of (begun_by rests now).dma.write) goes.dma in
     record {
-      calm0 = (first_ends (core.want_of (begun_by rests now).core0) want.Nothing goes.core0).0;
-      calm1 = (first_ends (core.want_of (begun_by rests now).core1) want.Nothing goes.core1).0;
-      calm_read = d.0;
-      calm_write = d.1;
+      goes0 = (first_ends (core.want_of (begun_by rests now).core0) want.Nothing goes.core0).0;
+      goes1 = (first_ends (core.want_of (begun_by rests now).core1) want.Nothing goes.core1).0;
+      goes_read = d.0;
+      goes_write = d.1;
     }
 
 -- core 1 has no word of its launcher to take
@@ -193,14 +193,14 @@ not_launching w s k now rests marks t =
     rw (t.stands.asleep, t.stands.offer)
     (launching_by (is_launching s.core1) s (longest w s) k t.stands.lanes.core1.within t.on.core1)
 
--- such a cycle is calm
-calm_here : (w : Setting) (s : State) (k : ℕ) (now : State) (rests : Rests) (marks : List Mark) → Tries w s k now rests marks
-    → begun_by rests now ≡ begun now → clash (wants_of (begun_by rests now)) ≡ false → IsCalm (begun now) now
+-- such a cycle is separate
+separate_here : (w : Setting) (s : State) (k : ℕ) (now : State) (rests : Rests) (marks : List Mark) → Tries w s k now rests marks
+    → begun_by rests now ≡ begun now → clash (wants_of (begun_by rests now)) ≡ false → IsSeparate (begun now) now
 unfolding begun
-calm_here w s k now rests marks t same none =
+separate_here w s k now rests marks t same none =
     let apart = ap (λ b. clash (wants_of b)) (sym same) ∙ none in
     record {
-      calm = subst AreCalm same (all_calm w s k now rests marks t);
+      goes = subst AllGoOn same (all_go_on w s k now rests marks t);
       placed0 = core_placed (answer_of 0 now) now.core0 now.cycle;
       placed1 = core_placed (answer_of 1 now) now.core1 now.cycle;
       placed_read = (dma_placed (answer_of 2 now) now.dma.block).read;
@@ -220,17 +220,17 @@ no_cause w seen m (want.Outward request) s e = absurd (cc e)
 no_cause w seen m want.Signal s e = absurd (cc e)
 no_cause w seen m (want.Stopped cause) s e = absurd (cc e)
 
-pub none_stops : (w : Setting) (b : Begun) (s : State) → AreCalm b → cause_in w b (wanted b) s ≡ None
+pub none_stops : (w : Setting) (b : Begun) (s : State) → AllGoOn b → cause_in w b (wanted b) s ≡ None
 unfolding cause_in cause_of wanted
 none_stops w b s h =
     rw (
-      no_cause w b.outer _ (core.want_of b.core0) s h.calm0,
-      no_cause w b.outer _ (core.want_of b.core1) s h.calm1,
-      no_cause w b.outer _ (dma.want_of b.dma.read) s h.calm_read,
-      no_cause w b.outer _ (dma.want_of b.dma.write) s h.calm_write,
+      no_cause w b.outer _ (core.want_of b.core0) s h.goes0,
+      no_cause w b.outer _ (core.want_of b.core1) s h.goes1,
+      no_cause w b.outer _ (dma.want_of b.dma.read) s h.goes_read,
+      no_cause w b.outer _ (dma.want_of b.dma.write) s h.goes_write,
     ) refl
 
-pub runs_on : (w : Setting) (s : State) → s.cycle ≢ w.limit → AreCalm (begun s) → stop w s ≡ None
+pub runs_on : (w : Setting) (s : State) → s.cycle ≢ w.limit → AllGoOn (begun s) → stop w s ≡ None
 unfolding stop
 runs_on w s ne h = rw (ne_eqb s.cycle w.limit ne) (none_stops w (begun s) s h)
 
@@ -281,7 +281,7 @@ stands_first w s rests marks free knows logs e = record {
 -- what is known of a cycle that fits
 pub record Fitted (w : Setting) (now : State) (rests : Rests) : Type 0 where
   pub same : begun_by rests now ≡ begun now
-  pub calm : IsCalm (begun now) now
+  pub separate : IsSeparate (begun now) now
   pub runs : stop w now ≡ None
 
 pub fitted : (w : Setting) (s : State) (k : ℕ) (now : State) (rests : Rests) (marks : List Mark) → Tries w s k now rests marks
@@ -289,15 +289,15 @@ pub fitted : (w : Setting) (s : State) (k : ℕ) (now : State) (rests : Rests) (
 fitted w s k now rests marks t e =
     let parts = or_parts (differs_by rests now) (clash (wants_of (begun_by rests now))) (not-true _ e) in
     let same = begins_same w s k now rests (all_told w s k now rests marks t) (all_same w rests now parts.0) in
-    let calm = calm_here w s k now rests marks t same parts.1 in
+    let separate = separate_here w s k now rests marks t same parts.1 in
     let below = t.below in
     let least_limit = short w s in
     let at = t.stands.at in
     let ne : now.cycle ≢ w.limit = λ here. omega (arith, here) in
     record {
       same = same;
-      calm = calm;
-      runs = runs_on w now ne calm.calm;
+      separate = separate;
+      runs = runs_on w now ne separate.goes;
     }
 
 pub stands_next : (w : Setting) (s : State) (k : ℕ) (now : State) (rests : Rests) (marks : List Mark) (now' : State) (rests' : Rests)
@@ -308,7 +308,7 @@ unfolding next mark
 stands_next w s k now rests marks now' rests' marks' t fitting e_now e_rests e_marks =
     let b = begun_by rests now in
     let f = fitted w s k now rests marks t fitting in
-    let stepped = subst (IsStepped w b now) (sym e_now) (calm_next w b now (subst (λ b. IsCalm b now) (sym f.same) f.calm)) in
+    let stepped = subst (IsStepped w b now) (sym e_now) (separate_next w b now (subst (λ b. IsSeparate b now) (sym f.same) f.separate)) in
     let steps : Each w (λ S B l. l.of now' ≡ after_begun l.m tt (l.of now) (told (l.log rests) (tree l now))) = record {
       core0 = stepped.core0;
       core1 = stepped.core1;

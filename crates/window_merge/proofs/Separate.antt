@@ -1,5 +1,5 @@
--- A cycle in which every want is nothing or an access to SRAM, no two accesses name one port and none lasts: each lane steps as
--- if it ran alone.
+-- A separate cycle, in which every want is nothing or an access to SRAM, no two accesses name one port and none lasts: each lane
+-- steps as if it ran alone.
 use Rattle.std.proofs.Common.{◌≡◌, ◌&&◌, ℕ, ◌+◌, Bool, true, false, if◌then◌else◌, List, [], ◌∷◌, map, Option, Some, None, refl, sym, ap, ◌∙◌, subst}
 use Rattle.std.specs.Prelude.{is_some}
 use Rattle.rp_base.specs.Map.{place_of}
@@ -58,20 +58,20 @@ asks_at request spot.Outside e = absurd (cc e)
 
 pub in_bank : (v : Want) → ends_want v ≡ false → IsPlaced v → InBank (asked_of v)
 unfolding asked_of
-in_bank want.Nothing calm placed = tt
-in_bank (want.Ram request) calm placed = in_bank_at request (place_of request.address) placed (has_bank request.address)
-in_bank (want.Outward request) calm placed = absurd (cc calm)
-in_bank want.Signal calm placed = tt
-in_bank (want.Stopped cause) calm placed = tt
+in_bank want.Nothing goes placed = tt
+in_bank (want.Ram request) goes placed = in_bank_at request (place_of request.address) placed (has_bank request.address)
+in_bank (want.Outward request) goes placed = absurd (cc goes)
+in_bank want.Signal goes placed = tt
+in_bank (want.Stopped cause) goes placed = tt
 
 -- its turn is that of a lane that runs alone, where each access is done
-turn_calm : (w : Setting) (seen : SeenOutputs) (rival : Want) (m : Master) (v : Want) (s : State) → ends_want v ≡ false → IsPlaced v → turn_of w seen rival (is_some (asked_of v)) m v s ≡ turn_alone v
+turn_goes : (w : Setting) (seen : SeenOutputs) (rival : Want) (m : Master) (v : Want) (s : State) → ends_want v ≡ false → IsPlaced v → turn_of w seen rival (is_some (asked_of v)) m v s ≡ turn_alone v
 unfolding turn_of asked_of
-turn_calm w seen rival m want.Nothing s calm placed = refl
-turn_calm w seen rival m (want.Ram request) s calm placed = rw (asks_at request (place_of request.address) placed) refl
-turn_calm w seen rival m (want.Outward request) s calm placed = absurd (cc calm)
-turn_calm w seen rival m want.Signal s calm placed = absurd (cc calm)
-turn_calm w seen rival m (want.Stopped cause) s calm placed = absurd (cc calm)
+turn_goes w seen rival m want.Nothing s goes placed = refl
+turn_goes w seen rival m (want.Ram request) s goes placed = rw (asks_at request (place_of request.address) placed) refl
+turn_goes w seen rival m (want.Outward request) s goes placed = absurd (cc goes)
+turn_goes w seen rival m want.Signal s goes placed = absurd (cc goes)
+turn_goes w seen rival m (want.Stopped cause) s goes placed = absurd (cc goes)
 
 -- nothing is to be done but to store
 abbrev pub IsStore : Deed → Type 0
@@ -79,25 +79,25 @@ IsStore deed.Nothing = Unit {0}
 IsStore (deed.Store index lanes value) = Unit {0}
 IsStore _ = ⊥
 
-stored_calm : (request : Request) (write : Option ℕ) (spot : Spot) → IsStore (stored_at request write spot)
-stored_calm request None spot = tt
-stored_calm request (Some value) (spot.Ram index bank) = tt
-stored_calm request (Some value) (spot.Reg block offset alias) = tt
-stored_calm request (Some value) (spot.Sio offset) = tt
-stored_calm request (Some value) (spot.Ppb offset) = tt
-stored_calm request (Some value) spot.Outside = tt
+stored_stores : (request : Request) (write : Option ℕ) (spot : Spot) → IsStore (stored_at request write spot)
+stored_stores request None spot = tt
+stored_stores request (Some value) (spot.Ram index bank) = tt
+stored_stores request (Some value) (spot.Reg block offset alias) = tt
+stored_stores request (Some value) (spot.Sio offset) = tt
+stored_stores request (Some value) (spot.Ppb offset) = tt
+stored_stores request (Some value) spot.Outside = tt
 
-either_calm : (c : Bool) (d : Deed) → IsStore d → IsStore (if c then d else deed.Nothing)
-either_calm true d h = h
-either_calm false d h = tt
+either_stores : (c : Bool) (d : Deed) → IsStore d → IsStore (if c then d else deed.Nothing)
+either_stores true d h = h
+either_stores false d h = tt
 
-deed_calm : (w : Setting) (seen : SeenOutputs) (grant : Bool) (v : Want) (s : State) → ends_want v ≡ false → IsStore (deed_of w seen grant v s)
+deed_stores : (w : Setting) (seen : SeenOutputs) (grant : Bool) (v : Want) (s : State) → ends_want v ≡ false → IsStore (deed_of w seen grant v s)
 unfolding deed_of
-deed_calm w seen grant want.Nothing s calm = tt
-deed_calm w seen grant (want.Ram request) s calm = either_calm grant _ (stored_calm request request.write (place_of request.address))
-deed_calm w seen grant (want.Outward request) s calm = absurd (cc calm)
-deed_calm w seen grant want.Signal s calm = absurd (cc calm)
-deed_calm w seen grant (want.Stopped cause) s calm = absurd (cc calm)
+deed_stores w seen grant want.Nothing s goes = tt
+deed_stores w seen grant (want.Ram request) s goes = either_stores grant _ (stored_stores request request.write (place_of request.address))
+deed_stores w seen grant (want.Outward request) s goes = absurd (cc goes)
+deed_stores w seen grant want.Signal s goes = absurd (cc goes)
+deed_stores w seen grant (want.Stopped cause) s goes = absurd (cc goes)
 
 nothing_done : (w : Setting) (found : Bool) (m : Master) (d : Deed) (s : State) → IsStore d → after_deed w found m d s ≡ s
 unfolding after_deed
@@ -119,15 +119,15 @@ core1_rests_by false offered s none = refl
 -- ---- the cycle
 
 -- what is wanted is nothing, or an access to SRAM
-pub record AreCalm (b : Begun) : Type 0 where
-  pub calm0 : ends_want (core.want_of b.core0) ≡ false
-  pub calm1 : ends_want (core.want_of b.core1) ≡ false
-  pub calm_read : ends_want (dma.want_of b.dma.read) ≡ false
-  pub calm_write : ends_want (dma.want_of b.dma.write) ≡ false
+pub record AllGoOn (b : Begun) : Type 0 where
+  pub goes0 : ends_want (core.want_of b.core0) ≡ false
+  pub goes1 : ends_want (core.want_of b.core1) ≡ false
+  pub goes_read : ends_want (dma.want_of b.dma.read) ≡ false
+  pub goes_write : ends_want (dma.want_of b.dma.write) ≡ false
 
--- what is known of a cycle in which this is begun
-pub record IsCalm (b : Begun) (s : State) : Type 0 where
-  pub calm : AreCalm b
+-- what is known of a separate cycle in which this is begun
+pub record IsSeparate (b : Begun) (s : State) : Type 0 where
+  pub goes : AllGoOn b
   pub placed0 : IsPlaced (core.want_of b.core0)
   pub placed1 : IsPlaced (core.want_of b.core1)
   pub placed_read : IsPlaced (dma.want_of b.dma.read)
@@ -151,40 +151,40 @@ pub record IsStepped (w : Setting) (b : Begun) (s t : State) : Type 0 where
   pub offer : t.core1.offer ≡ s.core1.offer
   pub knows : KnowsSio t
 
-granted_calm : (b : Begun) (s : State) → IsCalm b s → granted (wanted b) s ≡
+granted_separate : (b : Begun) (s : State) → IsSeparate b s → granted (wanted b) s ≡
     is_some (asked_of (core.want_of b.core0)) ∷ is_some (asked_of (core.want_of b.core1)) ∷ is_some (asked_of (dma.want_of b.dma.read)) ∷ is_some (asked_of (dma.want_of b.dma.write)) ∷ []
 unfolding granted asked wanted
-granted_calm b s h = free_done _ _ _ _ s.fabric h.apart
-    (in_bank (core.want_of b.core0) h.calm.calm0 h.placed0) (in_bank (core.want_of b.core1) h.calm.calm1 h.placed1)
-    (in_bank (dma.want_of b.dma.read) h.calm.calm_read h.placed_read)
-    (in_bank (dma.want_of b.dma.write) h.calm.calm_write h.placed_write)
+granted_separate b s h = free_done _ _ _ _ s.fabric h.apart
+    (in_bank (core.want_of b.core0) h.goes.goes0 h.placed0) (in_bank (core.want_of b.core1) h.goes.goes1 h.placed1)
+    (in_bank (dma.want_of b.dma.read) h.goes.goes_read h.placed_read)
+    (in_bank (dma.want_of b.dma.write) h.goes.goes_write h.placed_write)
 
-still_free : (b : Begun) (s : State) → IsCalm b s → has_hold (with_grants (wanted b) s).fabric ≡ false
+still_free : (b : Begun) (s : State) → IsSeparate b s → has_hold (with_grants (wanted b) s).fabric ≡ false
 unfolding asked wanted
 still_free b s h = free_after (asked_of (core.want_of b.core0)) (asked_of (core.want_of b.core1)) (asked_of (dma.want_of b.dma.read)) (asked_of (dma.want_of b.dma.write)) s.fabric h.free
-    (in_bank (core.want_of b.core0) h.calm.calm0 h.placed0) (in_bank (core.want_of b.core1) h.calm.calm1 h.placed1)
-    (in_bank (dma.want_of b.dma.read) h.calm.calm_read h.placed_read)
-    (in_bank (dma.want_of b.dma.write) h.calm.calm_write h.placed_write)
+    (in_bank (core.want_of b.core0) h.goes.goes0 h.placed0) (in_bank (core.want_of b.core1) h.goes.goes1 h.placed1)
+    (in_bank (dma.want_of b.dma.read) h.goes.goes_read h.placed_read)
+    (in_bank (dma.want_of b.dma.write) h.goes.goes_write h.placed_write)
 
-abbrev calm_turns : Begun → List Turn
-calm_turns b = turn_alone (core.want_of b.core0) ∷ turn_alone (core.want_of b.core1) ∷ turn_alone (dma.want_of b.dma.read) ∷ turn_alone (dma.want_of b.dma.write) ∷ []
+abbrev separate_turns : Begun → List Turn
+separate_turns b = turn_alone (core.want_of b.core0) ∷ turn_alone (core.want_of b.core1) ∷ turn_alone (dma.want_of b.dma.read) ∷ turn_alone (dma.want_of b.dma.write) ∷ []
 
-turns_calm : (w : Setting) (b : Begun) (s : State) → IsCalm b s → turns w b (wanted b) s (granted (wanted b) s) ≡ calm_turns b
+turns_separate : (w : Setting) (b : Begun) (s : State) → IsSeparate b s → turns w b (wanted b) s (granted (wanted b) s) ≡ separate_turns b
 unfolding turns wanted
-turns_calm w b s h =
-    ap (turns w b (wanted b) s) (granted_calm b s h)
+turns_separate w b s h =
+    ap (turns w b (wanted b) s) (granted_separate b s h)
     ∙ rw (
-      turn_calm w b.outer (core.want_of b.core0) master.Core0 (core.want_of b.core0) s h.calm.calm0 h.placed0,
-      turn_calm w b.outer (core.want_of b.core0) master.Core1 (core.want_of b.core1) s h.calm.calm1 h.placed1,
-      turn_calm w b.outer (core.want_of b.core0) master.DmaRead (dma.want_of b.dma.read) s h.calm.calm_read h.placed_read,
-      turn_calm w b.outer (core.want_of b.core0) master.DmaWrite (dma.want_of b.dma.write) s h.calm.calm_write h.placed_write,
+      turn_goes w b.outer (core.want_of b.core0) master.Core0 (core.want_of b.core0) s h.goes.goes0 h.placed0,
+      turn_goes w b.outer (core.want_of b.core0) master.Core1 (core.want_of b.core1) s h.goes.goes1 h.placed1,
+      turn_goes w b.outer (core.want_of b.core0) master.DmaRead (dma.want_of b.dma.read) s h.goes.goes_read h.placed_read,
+      turn_goes w b.outer (core.want_of b.core0) master.DmaWrite (dma.want_of b.dma.write) s h.goes.goes_write h.placed_write,
     ) refl
 
 -- the deeds of the masters but for what they store
-masters_calm : (w : Setting) (start : SioState) (d0 d1 d2 d3 : Deed) (t : State) → IsStore d0 → IsStore d1 → IsStore d2 → IsStore d3
+masters_separate : (w : Setting) (start : SioState) (d0 d1 d2 d3 : Deed) (t : State) → IsStore d0 → IsStore d1 → IsStore d2 → IsStore d3
     → (if t.core1.asleep then launched_where (offers_of start) t else t) ≡ t
     → after_masters w start (master.Core0 ∷ master.Core1 ∷ master.DmaRead ∷ master.DmaWrite ∷ []) (d0 ∷ d1 ∷ d2 ∷ d3 ∷ []) t ≡ t
-masters_calm w start d0 d1 d2 d3 t h0 h1 h2 h3 rests =
+masters_separate w start d0 d1 d2 d3 t h0 h1 h2 h3 rests =
     rw (
       nothing_done w (found_by master.Core0 d0 start) master.Core0 d0 t h0,
       nothing_done w (found_by master.Core1 d1 start) master.Core1 d1 t h1,
@@ -201,7 +201,7 @@ pins_same pins o e = rw e refl
 
 -- the state in which the lanes have stepped
 abbrev after_lanes : Setting → Begun → State → State
-after_lanes w b s = with_turns w b (calm_turns b) (with_grants (wanted b) s)
+after_lanes w b s = with_turns w b (separate_turns b) (with_grants (wanted b) s)
 
 -- core 1 and the pads know of SIO what they have to know
 record KnowsOn (w : Setting) (b : Begun) (s t : State) : Type 0 where
@@ -216,72 +216,72 @@ knows_on w b s =
     let k = core_keeps s.core1 b.core1 (turn_alone (core.want_of b.core1) ∷ turn.Nothing ∷ []) in
     record { asleep = k.asleep; offer = k.offer; pins = outer_keeps w s.outer b.outer; sio = refl }
 
-rests_on : (w : Setting) (b : Begun) (s : State) → IsCalm b s
+rests_on : (w : Setting) (b : Begun) (s : State) → IsSeparate b s
     → (if (after_lanes w b s).core1.asleep then launched_where (offers_of (after_lanes w b s).sio) (after_lanes w b s) else after_lanes w b s) ≡ after_lanes w b s
 rests_on w b s h =
     let k = knows_on w b s in
     let offered : offers_of (after_lanes w b s).sio ≡ s.core1.offer = ap offers_of k.sio ∙ sym h.knows.offer in
     core1_rests_by (after_lanes w b s).core1.asleep (offers_of (after_lanes w b s).sio) (after_lanes w b s) (rw (k.asleep, offered) h.launcher)
 
-abbrev calm_deeds : Setting → Begun → State → List Deed
-calm_deeds w b s =
+abbrev separate_deeds : Setting → Begun → State → List Deed
+separate_deeds w b s =
     deed_of w b.outer (is_some (asked_of (core.want_of b.core0))) (core.want_of b.core0) s
     ∷ deed_of w b.outer (is_some (asked_of (core.want_of b.core1))) (core.want_of b.core1) s
     ∷ deed_of w b.outer (is_some (asked_of (dma.want_of b.dma.read))) (dma.want_of b.dma.read) s
     ∷ deed_of w b.outer (is_some (asked_of (dma.want_of b.dma.write))) (dma.want_of b.dma.write) s
     ∷ []
 
-deeds_calm : (w : Setting) (b : Begun) (s : State) → IsCalm b s → deeds w b (wanted b) s (granted (wanted b) s) ≡ calm_deeds w b s
+deeds_separate : (w : Setting) (b : Begun) (s : State) → IsSeparate b s → deeds w b (wanted b) s (granted (wanted b) s) ≡ separate_deeds w b s
 unfolding deeds wanted
-deeds_calm w b s h = ap (deeds w b (wanted b) s) (granted_calm b s h)
+deeds_separate w b s h = ap (deeds w b (wanted b) s) (granted_separate b s h)
 
-done_calm : (w : Setting) (b : Begun) (s : State) → IsCalm b s → after_deeds w (calm_deeds w b s) (after_lanes w b s) ≡ ended (with_stores (calm_deeds w b s) (after_lanes w b s))
+done_separate : (w : Setting) (b : Begun) (s : State) → IsSeparate b s → after_deeds w (separate_deeds w b s) (after_lanes w b s) ≡ ended (with_stores (separate_deeds w b s) (after_lanes w b s))
 unfolding after_deeds
-done_calm w b s h =
-    ap (λ t. ended (with_stores (calm_deeds w b s) t))
-    (masters_calm w (after_lanes w b s).sio _ _ _ _ (after_lanes w b s)
-    (deed_calm w b.outer _ (core.want_of b.core0) s h.calm.calm0) (deed_calm w b.outer _ (core.want_of b.core1) s h.calm.calm1)
-    (deed_calm w b.outer _ (dma.want_of b.dma.read) s h.calm.calm_read)
-    (deed_calm w b.outer _ (dma.want_of b.dma.write) s h.calm.calm_write)
+done_separate w b s h =
+    ap (λ t. ended (with_stores (separate_deeds w b s) t))
+    (masters_separate w (after_lanes w b s).sio _ _ _ _ (after_lanes w b s)
+    (deed_stores w b.outer _ (core.want_of b.core0) s h.goes.goes0) (deed_stores w b.outer _ (core.want_of b.core1) s h.goes.goes1)
+    (deed_stores w b.outer _ (dma.want_of b.dma.read) s h.goes.goes_read)
+    (deed_stores w b.outer _ (dma.want_of b.dma.write) s h.goes.goes_write)
     (rests_on w b s h))
 
 -- the state after the cycle
-abbrev after_calm : Setting → Begun → State → State
-after_calm w b s = record (ended (with_stores (calm_deeds w b s) (after_lanes w b s))) { cycle = s.cycle + 1 }
+abbrev after_separate : Setting → Begun → State → State
+after_separate w b s = record (ended (with_stores (separate_deeds w b s) (after_lanes w b s))) { cycle = s.cycle + 1 }
 
-stepped_calm : (w : Setting) (b : Begun) (s : State) → IsCalm b s → next_by w b (wanted b) s ≡ after_calm w b s
+stepped_separate : (w : Setting) (b : Begun) (s : State) → IsSeparate b s → next_by w b (wanted b) s ≡ after_separate w b s
 unfolding next_by stepped
-stepped_calm w b s h =
-    ap (λ ts. record (after_deeds w (deeds w b (wanted b) s (granted (wanted b) s)) (with_turns w b ts (with_grants (wanted b) s))) { cycle = s.cycle + 1 }) (turns_calm w b s h)
-    ∙ ap (λ ds. record (after_deeds w ds (after_lanes w b s)) { cycle = s.cycle + 1 }) (deeds_calm w b s h)
-    ∙ ap (λ (t : State). record t { cycle = s.cycle + 1 }) (done_calm w b s h)
+stepped_separate w b s h =
+    ap (λ ts. record (after_deeds w (deeds w b (wanted b) s (granted (wanted b) s)) (with_turns w b ts (with_grants (wanted b) s))) { cycle = s.cycle + 1 }) (turns_separate w b s h)
+    ∙ ap (λ ds. record (after_deeds w ds (after_lanes w b s)) { cycle = s.cycle + 1 }) (deeds_separate w b s h)
+    ∙ ap (λ (t : State). record t { cycle = s.cycle + 1 }) (done_separate w b s h)
 
-core1_calm : (w : Setting) (b : Begun) (s : State) → IsCalm b s → (after_calm w b s).core1 ≡ (after_lanes w b s).core1
+core1_separate : (w : Setting) (b : Begun) (s : State) → IsSeparate b s → (after_separate w b s).core1 ≡ (after_lanes w b s).core1
 unfolding ended with_sio
-core1_calm w b s h =
+core1_separate w b s h =
     let k = knows_on w b s in
     same_offer (offers_of (after_cycle (after_lanes w b s).sio)) (after_lanes w b s).core1
     (ap (λ sio. offers_of (after_cycle sio)) k.sio ∙ sym h.knows.offer ∙ sym k.offer)
 
-same_pins : (w : Setting) (b : Begun) (s : State) → IsCalm b s → (after_calm w b s).outer ≡ (after_lanes w b s).outer
+same_pins : (w : Setting) (b : Begun) (s : State) → IsSeparate b s → (after_separate w b s).outer ≡ (after_lanes w b s).outer
 unfolding ended with_sio
 same_pins w b s h =
     let k = knows_on w b s in
     pins_same (pins_of (after_lanes w b s).sio) (after_lanes w b s).outer (ap pins_of k.sio ∙ sym h.knows.pins ∙ sym k.pins)
 
-knows_calm : (w : Setting) (b : Begun) (s : State) → KnowsSio (after_calm w b s)
+knows_separate : (w : Setting) (b : Begun) (s : State) → KnowsSio (after_separate w b s)
 unfolding ended with_sio
-knows_calm w b s = record { pins = refl; offer = refl }
+knows_separate w b s = record { pins = refl; offer = refl }
 
-free_calm : (w : Setting) (b : Begun) (s : State) → IsCalm b s → has_hold (after_calm w b s).fabric ≡ false
+free_separate : (w : Setting) (b : Begun) (s : State) → IsSeparate b s → has_hold (after_separate w b s).fabric ≡ false
 unfolding ended with_sio with_turns
-free_calm w b s h = still_free b s h
+free_separate w b s h = still_free b s h
 
-lanes_calm : (w : Setting) (b : Begun) (s : State) → IsCalm b s → IsStepped w b s (after_calm w b s)
+lanes_separate : (w : Setting) (b : Begun) (s : State) → IsSeparate b s → IsStepped w b s (after_separate w b s)
 unfolding ended with_sio with_turns
-lanes_calm w b s h =
+lanes_separate w b s h =
     let k = knows_on w b s in
-    let c1 = core1_calm w b s h in
+    let c1 = core1_separate w b s h in
     record {
       cycle = refl;
       core0 = refl;
@@ -290,44 +290,44 @@ lanes_calm w b s h =
       pio0 = refl;
       pio1 = refl;
       outer = same_pins w b s h;
-      free = free_calm w b s h;
+      free = free_separate w b s h;
       asleep = ap (λ (c : Core). c.asleep) c1 ∙ k.asleep;
       offer = ap (λ (c : Core). c.offer) c1 ∙ k.offer;
-      knows = knows_calm w b s;
+      knows = knows_separate w b s;
     }
 
-pub calm_next : (w : Setting) (b : Begun) (s : State) → IsCalm b s → IsStepped w b s (next_by w b (wanted b) s)
-calm_next w b s h = subst (IsStepped w b s) (sym (stepped_calm w b s h)) (lanes_calm w b s h)
+pub separate_next : (w : Setting) (b : Begun) (s : State) → IsSeparate b s → IsStepped w b s (next_by w b (wanted b) s)
+separate_next w b s h = subst (IsStepped w b s) (sym (stepped_separate w b s h)) (lanes_separate w b s h)
 
 -- ---- SRAM
 
-stored_calm_by : (w : Setting) (seen : SeenOutputs) (v : Want) (s : State) (sram : List ℕ) → ends_want v ≡ false → IsPlaced v
+stored_goes : (w : Setting) (seen : SeenOutputs) (v : Want) (s : State) (sram : List ℕ) → ends_want v ≡ false → IsPlaced v
     → stored (deed_of w seen (is_some (asked_of v)) v s) sram ≡ sram_after v sram
 unfolding deed_of asked_of
-stored_calm_by w seen want.Nothing s sram calm placed = refl
-stored_calm_by w seen (want.Ram request) s sram calm placed = rw (asks_at request (place_of request.address) placed) refl
-stored_calm_by w seen (want.Outward request) s sram calm placed = absurd (cc calm)
-stored_calm_by w seen want.Signal s sram calm placed = absurd (cc calm)
-stored_calm_by w seen (want.Stopped cause) s sram calm placed = absurd (cc calm)
+stored_goes w seen want.Nothing s sram goes placed = refl
+stored_goes w seen (want.Ram request) s sram goes placed = rw (asks_at request (place_of request.address) placed) refl
+stored_goes w seen (want.Outward request) s sram goes placed = absurd (cc goes)
+stored_goes w seen want.Signal s sram goes placed = absurd (cc goes)
+stored_goes w seen (want.Stopped cause) s sram goes placed = absurd (cc goes)
 
 -- what the masters leave of SRAM, one after the other
 abbrev pub sram_left : Begun → List ℕ → List ℕ
 sram_left b sram =
     sram_after (dma.want_of b.dma.write) (sram_after (dma.want_of b.dma.read) (sram_after (core.want_of b.core1) (sram_after (core.want_of b.core0) sram)))
 
-after_sram : (w : Setting) (b : Begun) (s : State) → (after_calm w b s).sram ≡ all_stored (calm_deeds w b s) s.sram
+after_sram : (w : Setting) (b : Begun) (s : State) → (after_separate w b s).sram ≡ all_stored (separate_deeds w b s) s.sram
 unfolding ended with_sio with_turns
 after_sram w b s = refl
 
-pub calm_sram : (w : Setting) (b : Begun) (s : State) → IsCalm b s → (next_by w b (wanted b) s).sram ≡ sram_left b s.sram
-calm_sram w b s h =
-    ap (λ (t : State). t.sram) (stepped_calm w b s h) ∙ after_sram w b s
+pub separate_sram : (w : Setting) (b : Begun) (s : State) → IsSeparate b s → (next_by w b (wanted b) s).sram ≡ sram_left b s.sram
+separate_sram w b s h =
+    ap (λ (t : State). t.sram) (stepped_separate w b s h) ∙ after_sram w b s
     ∙ rw (
-      stored_calm_by w b.outer (core.want_of b.core0) s s.sram h.calm.calm0 h.placed0,
-      stored_calm_by w b.outer (core.want_of b.core1) s (sram_after (core.want_of b.core0) s.sram) h.calm.calm1 h.placed1,
-      stored_calm_by w b.outer (dma.want_of b.dma.read) s
-          (sram_after (core.want_of b.core1) (sram_after (core.want_of b.core0) s.sram)) h.calm.calm_read h.placed_read,
-      stored_calm_by w b.outer (dma.want_of b.dma.write) s
+      stored_goes w b.outer (core.want_of b.core0) s s.sram h.goes.goes0 h.placed0,
+      stored_goes w b.outer (core.want_of b.core1) s (sram_after (core.want_of b.core0) s.sram) h.goes.goes1 h.placed1,
+      stored_goes w b.outer (dma.want_of b.dma.read) s
+          (sram_after (core.want_of b.core1) (sram_after (core.want_of b.core0) s.sram)) h.goes.goes_read h.placed_read,
+      stored_goes w b.outer (dma.want_of b.dma.write) s
           (sram_after (dma.want_of b.dma.read) (sram_after (core.want_of b.core1) (sram_after (core.want_of b.core0) s.sram)))
-          h.calm.calm_write h.placed_write,
+          h.goes.goes_write h.placed_write,
     ) refl
