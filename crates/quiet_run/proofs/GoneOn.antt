@@ -24,7 +24,7 @@ use Rattle.rp_machine.proofs.Inward.{stays_after, core0_goes_on_alone, went_onwa
 use Rattle.rp_machine.proofs.Quietly.{seen_number}
 use Rattle.quiet_run.specs.Parts.{MayBringUp, MayGoAlone}
 use Rattle.quiet_run.proofs.Passing.{fewer}
-use Rattle.quiet_run.proofs.Idle.{begins_none}
+use Rattle.quiet_run.proofs.NoWork.{begins_none}
 
 -- what the tests and the calls have shown
 pub may_go : (w : Setting) (i s : State) (seen : SeenOutputs) (offered : Bool) (r c q n : ℕ) → i ≡ s → CopiesAgree i → offered ≡ offers_of i.sio → offered ≡ false

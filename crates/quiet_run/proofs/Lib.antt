@@ -1,3 +1,3 @@
 pub mod GoneOn
-pub mod Idle
+pub mod NoWork
 pub mod Passing

@@ -65,7 +65,7 @@ passed w s n = record s {
 }
 
 -- SRAM is as it was, and no core begins an instruction
-pub record IsIdle (old new : State) : Type 0 where
+pub record HasNoWork (old new : State) : Type 0 where
   pub sram : new.sram ≡ old.sram
   pub core0 : begins new.core0 ≡ None
   pub core1 : begins new.core1 ≡ None

@@ -6,7 +6,7 @@ ghost use Rattle.rp_machine.specs.Alone.{AreBlocksQuiet};
 ghost use Rattle.rp_machine.specs.Cycle.{begun};
 ghost use Rattle.rp_machine.specs.Quiet.{IsQuiet};
 ghost use Rattle.rp_machine.specs.Run.{states};
-ghost use Rattle.quiet_run.specs.Parts.{AreOthersQuiet, ArePartsQuiet, IsIdle};
+ghost use Rattle.quiet_run.specs.Parts.{AreOthersQuiet, ArePartsQuiet, HasNoWork};
 
 use lane_look::Device;
 use outer_lane::SeenOutputs;
@@ -108,7 +108,7 @@ pub fn pass_waiting<X: Device, L: Ledger>(
     ensures quiet { IsQuiet (setting X.meaning world.now) machine.old result }
     ensures within { 0 < result → machine.old.cycle + result ≤ to }
     ensures parts { 0 < result → ArePartsQuiet (setting X.meaning world.now) machine.old result }
-    ensures idle { (k : ℕ) → k < result → IsIdle machine.old (states (setting X.meaning world.now) machine.old k) }
+    ensures no_work { (k : ℕ) → k < result → HasNoWork machine.old (states (setting X.meaning world.now) machine.old k) }
     ensures steps { steps.new ≡ steps.old + result }
 {
     if !machine.core0.is_waiting() {

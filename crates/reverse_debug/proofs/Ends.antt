@@ -16,7 +16,7 @@ use Rattle.rp_machine.specs.Reads.{begins_of}
 use Rattle.rp_machine.specs.Sram.{ram_word}
 use Rattle.rp_machine.specs.Run.{states}
 use Rattle.rp_machine.proofs.Runs.{states_here}
-use Rattle.quiet_run.specs.Parts.{IsIdle}
+use Rattle.quiet_run.specs.Parts.{HasNoWork}
 use Rattle.reverse_debug.specs.declared.watch.Watched.{Watched as Written}
 use Rattle.reverse_debug.specs.declared.watch.Watched.TheVariants as written
 use Rattle.reverse_debug.specs.Command.{Watched}
@@ -62,12 +62,12 @@ pin_unended what pin b s t e same pads =
     subst (λ (x : Written). ends_by (sought x) b (seen (sought x) t) ≡ false) (sym e) (pin_stays pin b s t (subst (λ (x : Written). SeesAs (sought x) b s) e same) pads)
 
 -- nor while the cores wait
-pub idle_stays : (watched : Watched) (b : ℕ) (s t : State) → SeesAs watched b s → IsIdle s t → t.outer.pads ≡ s.outer.pads → ends_by watched b (seen watched t) ≡ false
-idle_stays (Word address) b s t same idle pads =
-    same (seen (Word address) t) ∙ same_level (seen (Word address) t) (seen (Word address) s) (ap (λ (sram : List ℕ). or_zero (ram_word sram (place_of address))) idle.sram)
-idle_stays (Pin pin) b s t same idle pads = pin_stays pin b s t same pads
-idle_stays (Begun core address) b s t same idle pads =
-    ap (λ begun. (if is_begun address begun then 1 else 0) == 1) (begins_neither core t idle.core0 idle.core1)
+pub waiting_stays : (watched : Watched) (b : ℕ) (s t : State) → SeesAs watched b s → HasNoWork s t → t.outer.pads ≡ s.outer.pads → ends_by watched b (seen watched t) ≡ false
+waiting_stays (Word address) b s t same none pads =
+    same (seen (Word address) t) ∙ same_level (seen (Word address) t) (seen (Word address) s) (ap (λ (sram : List ℕ). or_zero (ram_word sram (place_of address))) none.sram)
+waiting_stays (Pin pin) b s t same none pads = pin_stays pin b s t same pads
+waiting_stays (Begun core address) b s t same none pads =
+    ap (λ begun. (if is_begun address begun then 1 else 0) == 1) (begins_neither core t none.core0 none.core1)
 
 -- ---- the cycles on the way from one state to another have no stop
 

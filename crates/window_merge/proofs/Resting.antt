@@ -24,7 +24,7 @@ use Rattle.m0_core.specs.Cycle as core
 use Rattle.m0_core.specs.Fetch.{stopped, is_ram, is_locked, asks_fault, beat_of_work, in_ram, at_spot, in_beat, asks_beat, locks_last, asks_return, asks_second, asks_first, taken_of, asks_taken, asks_boundary, asks_work, asks_next, asks_awake, ends_with, carried, asks}
 use Rattle.m0_core.specs.Return.{is_bad}
 use Rattle.m0_core.specs.Quiet.{rested, IsQuiet}
-use Rattle.quiet_run.proofs.Idle.{breaks, stops_second}
+use Rattle.quiet_run.proofs.NoWork.{breaks, stops_second}
 
 -- no question
 abbrev pub IsReady : {B : Type 0} → Asking B → Type 0

@@ -1,7 +1,7 @@
 use Rattle.std.proofs.Common.{◌<◌, refl, sym, subst, arith}
 use Rattle.outer_lane.specs.Setting.{setting}
 use Rattle.rp_machine.specs.Copies.{CopiesAgree}
-use Rattle.quiet_run.proofs.Idle.{idle_cycles}
+use Rattle.quiet_run.proofs.NoWork.{no_work_within}
 use Rattle.quiet_run.proofs.Passing.{no_states, quiet_none, quiet_cycles}
 use Rattle.quiet_run.proofs.pass.pass_waiting.Goals as goal
 
@@ -23,8 +23,8 @@ returns-clause-quiet g c =
     quiet_cycles (setting g.X.Device.meaning c.args.world.now) c.args.machine.now c.quiet-n.result
     (subst CopiesAgree c.machine.view_is c.machine.invariant) (c.quiet-n.ensures.parts some)
 
-pub returns-clause-idle : goal.returns-clause-idle
-returns-clause-idle g c =
+pub returns-clause-no_work : goal.returns-clause-no_work
+returns-clause-no_work g c =
     let some : 0 < c.quiet-n.result = let no = c.if-n-eq0.false in omega (arith, no) in
-    idle_cycles (setting g.X.Device.meaning c.args.world.now) c.args.machine.now c.quiet-n.result
+    no_work_within (setting g.X.Device.meaning c.args.world.now) c.args.machine.now c.quiet-n.result
     (subst CopiesAgree c.machine.view_is c.machine.invariant) (c.quiet-n.ensures.parts some)

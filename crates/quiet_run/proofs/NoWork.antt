@@ -23,7 +23,7 @@ use Rattle.rp_machine.specs.State.{State}
 use Rattle.rp_machine.specs.Answers.{lines_of}
 use Rattle.rp_machine.specs.Copies.{CopiesAgree}
 use Rattle.rp_machine.specs.Run.{states}
-use Rattle.quiet_run.specs.Parts.{ArePartsQuiet, IsIdle, passed}
+use Rattle.quiet_run.specs.Parts.{ArePartsQuiet, HasNoWork, passed}
 use Rattle.quiet_run.proofs.Passing.{states_passed}
 
 -- every halfword is BKPT
@@ -81,8 +81,8 @@ begins_none lines first n k s q lt =
     let bad : want.Stopped (why.Bkpt u.number) ≡ want.Nothing = sym stops ∙ same in
     cc bad)
 
-pub idle_cycles : (w : Setting) (s : State) (n : ℕ) → CopiesAgree s → ArePartsQuiet w s n → (k : ℕ) → k < n → IsIdle s (states w s k)
-idle_cycles w s n agree q k lt =
+pub no_work_within : (w : Setting) (s : State) (n : ℕ) → CopiesAgree s → ArePartsQuiet w s n → (k : ℕ) → k < n → HasNoWork s (states w s k)
+no_work_within w s n agree q k lt =
     let at : states w s k ≡ passed w s k = states_passed w s n k agree q (omega arith) in
     record {
       sram = ap (λ (x : State). x.sram) at;
