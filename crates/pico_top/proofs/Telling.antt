@@ -1,5 +1,5 @@
 -- What was opened and told, the whole call, and what a run puts.
-use Rattle.pico_top.proofs.Names.{◌<◌, ◌≡◌, ℕ, ◌+◌, ◌≤◌, List, [], ◌∷◌, ◌++◌, length, map, arith, Option, Some, Result, Ok, Err, refl, sym, ap, ap₂, inl, inr, ◌∙◌, subst, Bool, false, DeviceMeaning, paired, Aim, Wired, placed_by, wired_in, Setting, SinkFault, part_of_longer, part_behind, sends_part, sends_then, asked_by, State, Standing, first_of, OpensAt, Way, Closed, Ended, Broken, Full, lines_heard, way_line, way_status, BearsOut, IsTaken, quits, talk_of, Subcommand, Opened, Unopened, Refusing, Memory, Board, Drawn, Sunk, Outside, Dialogue, Reply, aims_in, beside, device_in, dialogue_of, hear, input_limit, plain, run_reply, say, session_reply, Ending, heard_as, Said, Heard, Refused, NoMemory, Puts, RunsOut, Takes, Ends, Counts, IsCounted, Writes, ConversesIn, ConversesFor, Converses, opened_dialogue, EndsAs, EndsUnopened, Leads, PutsRefusal, Concludes}
+use Rattle.pico_top.proofs.Names.{◌<◌, ◌≡◌, ℕ, ◌+◌, ◌≤◌, List, [], ◌∷◌, ◌++◌, length, map, arith, Option, Some, Result, Ok, Err, refl, sym, ap, ap₂, inl, inr, ◌∙◌, subst, Bool, true, false, DeviceMeaning, paired, Aim, Wired, placed_by, wired_in, Setting, SinkFault, part_of_longer, part_behind, sends_part, sends_then, asked_by, State, Standing, first_of, OpensAt, Way, Closed, Ended, Broken, Full, lines_heard, way_line, way_status, BearsOut, IsTaken, quits, talk_of, Subcommand, Opened, Unopened, Refusing, Memory, Board, Drawn, Sunk, Outside, Dialogue, Reply, aims_in, beside, device_in, dialogue_of, hear, input_limit, plain, run_reply, say, session_reply, Ending, heard_as, Said, Heard, Refused, NoMemory, Puts, RunsOut, Takes, Ends, Counts, IsCounted, Writes, ConversesIn, ConversesFor, Converses, opened_dialogue, EndsAs, EndsUnopened, Leads, PutsRefusal, Concludes}
 use Rattle.board_parts.specs.declared.wiring.Wiring.{Wiring}
 use Rattle.board_parts.specs.Part.{PartMeaning}
 use Rattle.board_parts.specs.Parts.{parts_device}
@@ -11,11 +11,11 @@ use Rattle.rp_base.specs.declared.Why.{Why}
 use Rattle.rp_machine.specs.Cycle.{stop}
 use Rattle.rp_machine.specs.Run.{last_state}
 use Rattle.window_runner.specs.declared.alone.Ran.{Ran}
-use Rattle.window_runner.specs.Alone.{IsRan, IsOnRun}
+use Rattle.window_runner.specs.Alone.{IsRan, IsRanFor, IsOnRun}
 use Rattle.window_runner.specs.Told.{run_shown}
 use Rattle.reverse_debug.specs.Talk.{text_from, Hears}
 use Rattle.pico_top.specs.Dialogue.Cost.{Exactly}
-use Rattle.pico_top.specs.Teller.{IsRanFor, HasTold}
+use Rattle.pico_top.specs.Teller.{HasTold}
 use Rattle.pico_top.specs.RunText.{event_lines, after_events, counts_text, stats_text, run_text, run_cycles, end_text}
 use Rattle.std.proofs.lemmas.List.Concat.{flat_map-append}
 use Rattle.pico_top.proofs.Walking.{no_memory}
@@ -153,25 +153,30 @@ run_begins : (stats : Bool) (w : Setting) (aims : List Aim) (s : State) → even
 unfolding run_text
 run_begins stats w aims s = refl
 
+-- the counts are those of the run, where they are asked for
+no_counts : (windows cycles : ℕ) (w : Setting) (s : State) → counts_text false windows cycles ≡ stats_text false w s
+unfolding counts_text
+no_counts windows cycles w s = refl
+
+counts_of : (stats : Bool) (w : Setting) (s : State) (ran : Ran) → (stats ≡ true → IsRan w s ran) → counts_text stats ran.windows ran.cycles ≡ stats_text stats w s
+counts_of true w s ran is = let r = is refl in ap₂ (counts_text true) r.windows r.cycles
+counts_of false w s ran is = no_counts ran.windows ran.cycles w s
+
 -- and ends with the lines of the last state, those of the probes and that of the counts
 text_of_run : (stats : Bool) (w : Setting) (aims heard : List Aim) (s t : State) (ran : Ran) → t ≡ last_state w s → IsRanFor stats w s ran → heard ≡ after_events (run_shown w s) aims → event_lines (run_shown w s) ++ end_text (Some ran.why) t heard (counts_text stats ran.windows ran.cycles) ≡ run_text stats w aims s
 text_of_run stats w aims heard s t ran e is h =
     ap (λ x. event_lines (run_shown w s) ++ x)
     (ap₂ (λ (why : Option Why) (x : State). end_text why x heard (counts_text stats ran.windows ran.cycles)) (sym is.why) e
-    ∙ ap₂ (λ (a : List Aim) (n : List ℕ). end_text (stop w (last_state w s)) (last_state w s) a n) h is.counts) ∙ run_begins stats w aims s
+    ∙ ap₂ (λ (a : List Aim) (n : List ℕ). end_text (stop w (last_state w s)) (last_state w s) a n) h (counts_of stats w s ran is.counts)) ∙ run_begins stats w aims s
 
 -- a run by windows found the counts, whether they are asked for or not
 pub ran_for : (stats : Bool) (w : Setting) (s : State) (ran : Ran) → IsRan w s ran → IsRanFor stats w s ran
-ran_for stats w s ran is = record { why = is.why; counts = ap₂ (counts_text stats) is.windows is.cycles }
+ran_for stats w s ran is = record { why = is.why; counts = λ asked. is }
 
 -- where they are not asked for, no run has to find them
-no_counts : (windows cycles : ℕ) (w : Setting) (s : State) → counts_text false windows cycles ≡ stats_text false w s
-unfolding counts_text
-no_counts windows cycles w s = refl
-
 pub uncounted_for : (stats : Bool) (w : Setting) (s : State) (why : Why) → stats ≡ false → stop w (last_state w s) ≡ Some why
     → IsRanFor stats w s (record { why = why; windows = 0; cycles = 0 })
-uncounted_for stats w s why none stops = record { why = stops; counts = rw none (no_counts 0 0 w s) }
+uncounted_for stats w s why none stops = record { why = stops; counts = λ asked. absurd (cc (none, asked)) }
 
 -- what was counted at a state of the run, and at its last one
 run_counted : (w : Setting) (s t : State) (steps steps' status : ℕ) → IsOnRun w s t → steps' + s.cycle ≡ steps + t.cycle → (status ≡ 0 → t ≡ last_state w s)

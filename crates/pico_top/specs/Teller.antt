@@ -1,6 +1,5 @@
--- What the events of a run leave in a sink, and with the probes that hear its pins; and that a run answers the cause of its stop, and the
--- counts of its windows where they are asked for. The project's own.
-use Rattle.std.specs.Prelude.{◌≡◌, ℕ, List, [], ◌∷◌, ◌++◌, Option, None, Some, flat_map, map, Bool}
+-- What the events of a run leave in a sink, and with the probes that hear its pins. The project's own.
+use Rattle.std.specs.Prelude.{◌≡◌, ℕ, List, [], ◌∷◌, ◌++◌, Option, None, Some, flat_map, map}
 use Rattle.std.proofs.Common.{refl, sym, ap, ap₂, ◌∙◌}
 use Rattle.std.proofs.lemmas.List.{append-nil, map-id}
 use Rattle.std.proofs.lemmas.List.Concat.{flat_map-append}
@@ -12,12 +11,7 @@ use Rattle.board_parts.specs.Hearing.{Aim, after_hearing}
 use Rattle.board_parts.specs.declared.change.PinChange.{PinChange}
 use Rattle.board_parts.proofs.Hearing.{hears_in_turn}
 use Rattle.pico_top.specs.Dialogue.{Sunk}
-use Rattle.pico_top.specs.RunText.{event_lines, change_in, after_events, counts_text, stats_text}
-use Rattle.outer_lane.specs.Setting.{Setting}
-use Rattle.rp_machine.specs.State.{State}
-use Rattle.rp_machine.specs.Cycle.{stop}
-use Rattle.rp_machine.specs.Run.{last_state}
-use Rattle.window_runner.specs.declared.alone.Ran.{Ran}
+use Rattle.pico_top.specs.RunText.{event_lines, change_in, after_events}
 
 -- Their lines stand behind what was written before, no put failed, and the probes heard the changes of pins among them.
 pub record HasTold (a b : Sunk) (before after : List Aim) (events : List Event) : Type 0 where
@@ -55,10 +49,3 @@ told_both a b c x y z first second h k = record {
 -- one event
 pub told_one : (a b : Sunk) (x y : List Aim) (event : Event) → Appends a.written b.written (event_text event) → b.faults ≡ a.faults → y ≡ after_events (event ∷ []) x → HasTold a b x y (event ∷ [])
 told_one a b x y event h s k = record { written = rw (append-nil (event_text event)) h; steady = s; heard = k }
-
--- ---- the run
-
--- a run answers the cause of the stop at its end, and where the counts are asked for, those of its windows
-pub record IsRanFor (stats : Bool) (w : Setting) (s : State) (ran : Ran) : Type 0 where
-  pub why : stop w (last_state w s) ≡ Some ran.why
-  pub counts : counts_text stats ran.windows ran.cycles ≡ stats_text stats w s

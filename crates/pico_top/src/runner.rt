@@ -12,9 +12,8 @@ ghost use Rattle.outer_lane.specs.Setting.{setting};
 ghost use Rattle.trace_text.specs.Tape.{Tells};
 ghost use Rattle.rp_machine.specs.Run.{last_state};
 ghost use Rattle.window_runner.specs.Told.{run_shown};
-ghost use Rattle.window_runner.specs.Alone.{IsOnRun};
+ghost use Rattle.window_runner.specs.Alone.{IsOnRun, IsRanFor};
 ghost use Rattle.window_runner.specs.Windows.{answered, OnMemory};
-ghost use Rattle.pico_top.specs.Teller.{IsRanFor};
 
 use crate::tell::put_line;
 use arrayvec::ArrayVec;

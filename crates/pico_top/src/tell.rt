@@ -33,7 +33,7 @@ use std::thread::Threads;
 use trace_text::line::{push_number, push_text, register_line, stop_line};
 use trace_text::writer::{SinkFault, Writer};
 use window_runner::alone::Ran;
-use window_runner::windows::{RunFault, run_windows};
+use window_runner::windows::{RunFault, run_beside};
 
 /// A block of a UF2 file has so many bytes.
 const BLOCK: usize = 512;
@@ -235,8 +235,9 @@ pub fn run_into_by<X: Device, O: Sink, G: Gate, L: Ledger, R: Threads + Wait + S
         limit,
     };
     let count = usize::from(workers.count);
-    match run_windows(
+    match run_beside(
         workers.rt,
+        stats,
         alloc,
         &mut machine,
         &world,

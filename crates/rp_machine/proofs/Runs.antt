@@ -61,22 +61,3 @@ below_limit w s h le = elim (eqb_tells s.cycle w.limit) [
   | inl e ↦ absurd (let h2 = rw e.0 at h in cc h2)
   | inr e ↦ let ne : s.cycle ≢ w.limit = e.1 in omega arith
 ]
-
--- a step comes nearer to the limit, and goes on with the same run
-pub step_nearer : (w : Setting) (s t : State) → stop w s ≡ None → t ≡ next w s → s.cycle ≤ w.limit → w.limit - t.cycle < w.limit - s.cycle
-step_nearer w s t h e le =
-    let lt = below_limit w s h le in
-    let count : t.cycle ≡ s.cycle + 1 = ap (λ (x : State). x.cycle) e ∙ next_cycle w s in
-    omega arith
-
-pub step_goes_on : (w : Setting) (s t u : State) → stop w s ≡ None → t ≡ next w s → s.cycle ≤ w.limit → last_state w s ≡ u → (t.cycle ≤ w.limit) × (last_state w t ≡ u)
-step_goes_on w s t u h e le same =
-    let lt = below_limit w s h le in
-    let count : t.cycle ≡ s.cycle + 1 = ap (λ (x : State). x.cycle) e ∙ next_cycle w s in
-    (omega arith, ap (last_state w) e ∙ sym (last_on w s h lt) ∙ same)
-
--- no cycle goes back
-pub step_forward : (w : Setting) (s t : State) (first : ℕ) → t ≡ next w s → first ≤ s.cycle → first ≤ t.cycle
-step_forward w s t first e le =
-    let cycle : t.cycle ≡ s.cycle + 1 = ap (λ (x : State). x.cycle) e ∙ next_cycle w s in
-    omega arith

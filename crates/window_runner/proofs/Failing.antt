@@ -28,7 +28,7 @@ taken_are took a b f g w first s n le here t =
     ∙ sym (shown_both (events_in w first n) (all_events w (states w first n))) ∙ ap all_shown (events_split w first n le) ∙ t.whole in
     subst (λ es. took a es b) (sym (append_cancel_right (all_shown (events_in w first n)) t.part (run_shown w s) same)) t.taken
 
-fails_within : {T : Type 0} (took : T → List Shown → T → Type 0) (missed : T → Shown → T → Type 0) (a b c : T) (f g : ℕ) (w : Setting) (most last : ℕ) (first s t : State)
+pub fails_within : {T : Type 0} (took : T → List Shown → T → Type 0) (missed : T → Shown → T → Type 0) (a b c : T) (f g : ℕ) (w : Setting) (most last : ℕ) (first s t : State)
     → first.cycle ≤ w.limit → GoesOn w first s → TakenBefore took a b f g (run_shown w first) (run_shown w s) → last ≤ most → t ≡ states w s last
     → FailsAmong took missed b c (all_shown (events_in w s last)) → FailsWithin took missed a c w most first t
 fails_within took missed a b c f g w most last first s t le way taken few stands fails = record {
@@ -41,22 +41,13 @@ fails_within took missed a b c f g w most last first s t le way taken few stands
   stands = stands ∙ ap (λ (x : State). states w x last) way.state;
 }
 
--- ---- at one of a cycle
-
 events_of_one : (w : Setting) (s : State) → stop w s ≡ None → events_in w s 1 ≡ events w s
 unfolding events_in
 events_of_one w s runs = events_more w s zero runs ∙ append-nil (events w s)
 
-pub fails_in_cycle : {T : Type 0} (took : T → List Shown → T → Type 0) (missed : T → Shown → T → Type 0) (a b c : T) (f g : ℕ) (w : Setting) (first s t : State)
-    → first.cycle ≤ w.limit → GoesOn w first s → TakenBefore took a b f g (run_shown w first) (run_shown w s) → stop w s ≡ None → t ≡ next w s
-    → FailsAmong took missed b c (all_shown (events w s)) → FailsWithin took missed a c w 1 first t
-fails_in_cycle took missed a b c f g w first s t le way taken runs same fails =
-    fails_within took missed a b c f g w 1 1 first s t le way taken (omega arith) (same ∙ sym (one_more w s runs))
-    (subst (λ es. FailsAmong took missed b c (all_shown es)) (sym (events_of_one w s runs)) fails)
-
 -- ---- at one of a step
 
-few_in_window : (w : Setting) (s : State) → window_length w s ≤ 256
+pub few_in_window : (w : Setting) (s : State) → window_length w s ≤ 256
 unfolding window_length
 few_in_window w s = let low = (least_meets (closes w s) (longest w s)).within in let most = at_most w s in omega (arith, low, most)
 

@@ -2,6 +2,7 @@ pub mod Accepted
 pub mod Accepting
 pub mod Along
 pub mod CycleEvents
+pub mod Courses
 pub mod Cycling
 pub mod Failing
 pub mod Finishing

@@ -8,7 +8,7 @@ use Rattle.rp_machine.specs.Events.{Event, events}
 use Rattle.rp_machine.specs.Run.{states, events_in, last_state, all_events}
 use Rattle.rp_machine.specs.Quiet.{IsQuiet}
 use Rattle.rp_machine.proofs.Joining.{join}
-use Rattle.rp_machine.proofs.Runs.{states_on, events_more, step_nearer}
+use Rattle.rp_machine.proofs.Runs.{states_on, events_more}
 use Rattle.window_merge.proofs.Positions.{along_states}
 use Rattle.window_runner.specs.Told.{all_shown, run_shown}
 use Rattle.window_runner.proofs.Along.{no_cycles}
@@ -28,7 +28,7 @@ no_events_in w s (suc n) goes silent =
     (λ k lt. ap (stop w) (sym (states_on w s k runs)) ∙ goes (suc k) (omega arith))
     (λ k lt. ap (events w) (sym (states_on w s k runs)) ∙ silent (suc k) (omega arith))
 
-number_over : (w : Setting) (s t : State) (n : ℕ) → t ≡ states w s n → IsQuiet w s n → t.cycle ≡ s.cycle + n
+pub number_over : (w : Setting) (s t : State) (n : ℕ) → t ≡ states w s n → IsQuiet w s n → t.cycle ≡ s.cycle + n
 number_over w s t n state h = ap (λ (u : State). u.cycle) state ∙ h.cycle n (omega arith)
 
 -- the events that are left are the same
@@ -58,11 +58,3 @@ way_over {T} {took} {a} {b} {f} {g} {w} {first} {s} {before} {now} t after n r s
       steps = omega (arith, so_far, number, count);
       taken = taken_same took a b f g (run_shown w first) (run_shown w s) (run_shown w t) r.taken (shown_over w s t n r.within state h);
     }
-
--- behind a cycle they bring the run nearer to its end
-pub nearer_over : (w : Setting) (s t u : State) (n : ℕ) → s.cycle ≤ w.limit → stop w s ≡ None → t ≡ next w s → u ≡ states w t n → IsQuiet w t n
-    → w.limit - u.cycle < w.limit - s.cycle
-nearer_over w s t u n le runs on state h =
-    let number = number_over w t u n state h in
-    let near = step_nearer w s t runs on le in
-    omega (arith, number, near)

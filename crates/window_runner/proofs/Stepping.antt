@@ -99,11 +99,6 @@ mark_behind w s cycle bound marks lt runs le at left =
     let below = below_limit w s runs le in
     omega arith
 
-pub cycle_counts : (w : Setting) (s t : State) (before now : ℕ) → t ≡ next w s → now ≡ before + 1 → now + s.cycle ≡ before + t.cycle
-cycle_counts w s t before now state more =
-    let one = ap (λ (x : State). x.cycle) state ∙ next_cycle w s in
-    omega arith
-
 -- ---- all of it
 
 pub stopped : {T : Type 0} (took : T → List Shown → T → Type 0) (missed : T → Shown → T → Type 0) (a : T) (f : ℕ) (w : Setting) (s t : State) (counts : Counts) (why : Why) (steps steps' : ℕ) → TakesNone took

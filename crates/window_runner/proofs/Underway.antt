@@ -1,5 +1,5 @@
 -- A run by windows on its way, with what its tape took and what was counted: from one step to the next, and at its end.
-use Rattle.std.proofs.Common.{◌≡◌, ℕ, ◌+◌, ◌<◌, ◌≤◌, List, ◌++◌, Option, Some, None, Ok, Err, refl, ap, sym, ◌∙◌, subst, arith}
+use Rattle.std.proofs.Common.{◌≡◌, ℕ, ◌+◌, ◌<◌, ◌≤◌, true, List, ◌++◌, Option, Some, None, Ok, Err, refl, ap, sym, ◌∙◌, subst, arith}
 use Rattle.rp_base.specs.declared.Why.{Why}
 use Rattle.outer_lane.specs.Setting.{Setting}
 use Rattle.trace_text.specs.declared.event.Event.{Event as Shown}
@@ -55,7 +55,7 @@ module _ {T : Type 0} {took : T → List Shown → T → Type 0} {missed : T →
   -- what was told and what is left at a stop
   pub underway_stops : (why : Why) → StepsTo took missed b c g h w p q now after (Ok (Some why))
       → (let ran : Ran = record { why = why; windows = q.windows; cycles = q.cycles } in
-      Tells {E = SinkFault} took missed a c f h (run_shown w first) (Ok ran) × Leaves took missed a c w first q.state before after (Ok ran))
+      Tells {E = SinkFault} took missed a c f h (run_shown w first) (Ok ran) × Leaves took missed a c true w first q.state before after (Ok ran))
   underway_stops why k =
       let at : last_state w first ≡ p.state = sym u.reached.last ∙ last_here w p.state why k.cause in
       let last : q ≡ last_position w first = k.position ∙ sym (reached_last w first p why u.reached k.cause) in
@@ -64,7 +64,7 @@ module _ {T : Type 0} {took : T → List Shown → T → Type 0} {missed : T →
       let ran : Ran = record { why = why; windows = q.windows; cycles = q.cycles } in (
         taken_to_stop took missed a b c f g h w first p.state why (Some why) ran turn u.taken k.cause k.told,
         record {
-          ran = record { why = ap (stop w) at ∙ k.cause; windows = ap (λ (x : Position). x.windows) last; cycles = ap (λ (x : Position). x.cycles) last };
+          ran = let why = ap (stop w) at ∙ k.cause in record { why = why; counts = λ asked. record { why = why; windows = ap (λ (x : Position). x.windows) last; cycles = ap (λ (x : Position). x.cycles) last } };
           state = ap (λ (x : Position). x.state) k.position ∙ sym at;
           failed = tt;
           on_run = is_on_run w first q (subst (Reached w first) (sym k.position) u.reached);
@@ -74,7 +74,7 @@ module _ {T : Type 0} {took : T → List Shown → T → Type 0} {missed : T →
 
   -- and where the tape failed
   pub underway_fails : (e : SinkFault) → StepsTo took missed b c g h w p q now after (Err e)
-      → Tells {A = Ran} took missed a c f h (run_shown w first) (Err e) × Leaves took missed a c w first q.state before after (Err e)
+      → Tells {A = Ran} took missed a c f h (run_shown w first) (Err e) × Leaves took missed a c true w first q.state before after (Err e)
   underway_fails e k =
       let within = u.reached.within in
       let forward = u.reached.forward in

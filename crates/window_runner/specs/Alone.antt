@@ -1,5 +1,5 @@
 -- A run that goes by windows: what it answers, and where its machine stands. The project's own.
-use Rattle.std.specs.Prelude.{◌≡◌, ℕ, ◌+◌, ◌-◌, ◌*◌, ◌<◌, ◌≤◌, false, List, [], Option, Some, None, Result, Ok, Err}
+use Rattle.std.specs.Prelude.{◌≡◌, ℕ, ◌+◌, ◌-◌, ◌*◌, ◌<◌, ◌≤◌, Bool, true, false, List, [], Option, Some, None, Result, Ok, Err}
 use Rattle.rp_base.specs.declared.Why.{Why}
 use Rattle.outer_lane.specs.Setting.{Setting}
 use Rattle.trace_text.specs.declared.event.Event.{Event as Shown}
@@ -19,6 +19,11 @@ pub record IsRan (w : Setting) (s : State) (ran : Ran) : Type 0 where
   pub why : stop w (last_state w s) ≡ Some ran.why
   pub windows : ran.windows ≡ (last_position w s).windows
   pub cycles : ran.cycles ≡ (last_position w s).cycles
+
+-- the same of one that counts its windows only where they are asked for
+pub record IsRanFor (counted : Bool) (w : Setting) (s : State) (ran : Ran) : Type 0 where
+  pub why : stop w (last_state w s) ≡ Some ran.why
+  pub counts : counted ≡ true → IsRan w s ran
 
 -- a state of the run from another, by its own cycle number
 pub record IsOnRun (w : Setting) (s t : State) : Type 0 where

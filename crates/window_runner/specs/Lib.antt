@@ -1,5 +1,6 @@
 pub mod AcceptLaws
 pub mod Alone
+pub mod Course
 pub mod Laws
 pub mod Merge
 pub mod Orders

@@ -1,6 +1,6 @@
 //! What the coordinator does: it opens the windows' numbers, helps with their pieces, and merges what was found.
 
-ghost use Rattle.std.specs.Prelude.{◌≡◌, ◌+◌, ◌≤◌, ◌^◌, false, true, length, IfSome, if◌then◌else◌};
+ghost use Rattle.std.specs.Prelude.{◌≡◌, ◌+◌, ◌<◌, ◌≤◌, ◌^◌, false, true, length, IfSome, IfNone, if◌then◌else◌};
 ghost use Rattle.outer_lane.specs.Setting.{setting};
 ghost use Rattle.bus_fabric.specs.State.{has_hold};
 ghost use Rattle.trace_text.specs.Tape.{Tells};
@@ -12,10 +12,13 @@ ghost use Rattle.window_merge.specs.Merging.{marks_in, IsStep};
 ghost use Rattle.window_merge.specs.Jobs.{AreAlone, IsJobFor, IsTrueIn};
 ghost use Rattle.window_runner.specs.Told.{run_shown};
 ghost use Rattle.window_runner.specs.Alone.{StepsTo, position_at};
+ghost use Rattle.window_runner.specs.Course.{Goes, IsOver};
 ghost use Rattle.window_runner.specs.Seated.{IsSeatAt, IsLed};
 ghost use Rattle.window_runner.specs.Windows.{Leaves};
 
 use crate::alone::{Counts, Ran, count_window, pass_quiet, tell_step};
+use crate::cycles::{first_told, go_by_cycle};
+use crate::events::tell_marks;
 use crate::piece::{Found, Piece};
 use crate::sets::{Sets, all_accepted, give_all_back, pieces_of};
 use crate::worker::pass;
@@ -36,13 +39,10 @@ use window_merge::{LaneJob, LaneReport, Moved};
 /// How many numbers may be open before a window, so that six more can be.
 const MOST: u64 = (1 << 62) - 6;
 
-/// A window of so many cycles is long.
-const LONG: u16 = 128;
-
-/// Behind the first window that goes over the board so many long ones are made by the coordinator alone, and behind each later one twice as
+/// Behind the first window that goes over the board so many cycles are made by the coordinator alone, and behind each later one twice as
 /// many as before it. A lane runs for 256 cycles at most, some ten microseconds; the copies that its job is made of, and two threads that
 /// wait for each other, take longer than that.
-pub(crate) const APART: u64 = 64;
+pub(crate) const APART: u64 = 0x4000;
 
 /// Draws tickets and passes those that are open, and keeps the first one that is not.
 fn help<'w, X: Device, G: Gate>(
@@ -91,9 +91,9 @@ pub(crate) struct Lead<'w, X: Device> {
     /// The ticket that its seat drew and that was not open yet.
     pub(crate) kept: Option<Ticket>,
     pub(crate) sets: Box<Sets>,
-    /// How many long windows are made here before one goes over the board.
-    pub(crate) left: u64,
-    /// How many will be behind that one.
+    /// From this cycle on a window goes over the board.
+    pub(crate) due: u64,
+    /// How many cycles behind it the next one is due.
     pub(crate) apart: u64,
 }
 
@@ -133,7 +133,9 @@ fn goes_over<'w, X: Device, G: Gate, H: Wait>(
     ensures words { result ≡ true → length machine.now.outer.device ≡ (X.meaning
         desk.now.world.now.device.now).count }
 {
-    lead.left == 0 && lead.opened <= MOST && machine.outer.has_device(desk.world.device)
+    lead.due <= machine.number()
+        && lead.opened <= MOST
+        && machine.outer.has_device(desk.world.device)
 }
 
 /// Moves the machine by a window of six reports, and gives its length.
@@ -185,7 +187,7 @@ fn window_over<'w, X: Device, G: Gate, H: Wait, L: Ledger>(
     ensures ready { IsLed desk.now lead.new }
     ensures begun { lead.new.sets.value.begun ≡ begun machine.new }
 {
-    lead.left = lead.apart;
+    lead.due = machine.number().saturating_add(lead.apart);
     lead.apart = lead.apart.saturating_mul(2);
     let pieces = pieces_of(machine, desk.world, &mut lead.sets.jobs);
     let found = gather(desk, lead, pieces);
@@ -233,11 +235,7 @@ fn next_window<'w, X: Device, G: Gate, H: Wait, L: Ledger>(
         begun,
         ..
     } = &mut *lead.sets;
-    let length = window(machine, desk.world, notes, pace, begun, marks, steps);
-    if length >= LONG {
-        lead.left = lead.left.saturating_sub(1);
-    }
-    length
+    window(machine, desk.world, notes, pace, begun, marks, steps)
 }
 
 /// Moves the machine to the next position of a run: by a window where no access lasts and the last step was not a window without a
@@ -323,7 +321,7 @@ pub(crate) fn run<'w, X: Device, G: Gate, H: Wait, T: Tape, L: Ledger>(
     requires ready { IsLed desk.now lead.old }
     ensures told { Tells T.took T.missed tape.old tape.new (T.faults tape.old) (T.faults tape.new)
         (run_shown (setting X.meaning desk.now.world.now) machine.old) result }
-    ensures left { Leaves T.took T.missed tape.old tape.new (setting X.meaning desk.now.world.now)
+    ensures left { Leaves T.took T.missed tape.old tape.new true (setting X.meaning desk.now.world.now)
         machine.old machine.new steps.old steps.new result }
     ensures ready { IsLed desk.now lead.new }
 {
@@ -348,6 +346,96 @@ pub(crate) fn run<'w, X: Device, G: Gate, H: Wait, T: Tape, L: Ledger>(
                 });
             }
             Err(fault) => return Err(fault),
+        }
+    }
+}
+
+/// Moves the machine by a window that goes over the board, where one goes and it has a cycle; None stands for that there is none.
+fn go_over<'w, X: Device, G: Gate, H: Wait, L: Ledger>(
+    desk: &Desk<'_, 'w, X, G, H>,
+    lead: &mut Lead<'w, X>,
+    machine: &mut Machine,
+    marks: &mut Marks,
+    steps: &mut Steps<L>,
+) -> Option<u16>
+    requires number { machine.old.cycle ≤ desk.now.world.now.limit }
+    requires ready { IsLed desk.now lead.old }
+    ensures over { IfSome result (λ n. IsOver (setting X.meaning desk.now.world.now) n machine.old machine.new marks.new steps.old steps.new) }
+    ensures none { IfNone result ((machine.new ≡ machine.old) × (steps.new ≡ steps.old)) }
+    ensures ready { IsLed desk.now lead.new }
+{
+    if machine.fabric.holds() || !goes_over(desk, lead, machine) {
+        return None;
+    }
+    machine.begin_into(desk.world, &mut lead.sets.begun);
+    if machine.stop_of(desk.world, &lead.sets.begun).is_some() {
+        return None;
+    }
+    let length = window_over(desk, lead, machine, marks, steps);
+    if length == 0 { None } else { Some(length) }
+}
+
+/// Moves the machine on, where no window is counted: by a window that goes over the board, where one goes, and else over cycles of which
+/// nothing is told and by one cycle; or finds a stop.
+fn go_on<'w, X: Device, G: Gate, H: Wait, L: Ledger>(
+    desk: &Desk<'_, 'w, X, G, H>,
+    lead: &mut Lead<'w, X>,
+    machine: &mut Machine,
+    marks: &mut Marks,
+    steps: &mut Steps<L>,
+) -> Option<Why>
+    requires number { machine.old.cycle ≤ desk.now.world.now.limit }
+    requires ready { IsLed desk.now lead.old }
+    ensures goes { Goes (setting X.meaning desk.now.world.now) 256 machine.old machine.new marks.new steps.old steps.new result }
+    ensures on { IfNone result (machine.old.cycle < machine.new.cycle) }
+    ensures within { machine.new.cycle ≤ desk.now.world.now.limit }
+    ensures ready { IsLed desk.now lead.new }
+{
+    match go_over(desk, lead, machine, marks, steps) {
+        Some(_) => None,
+        None => {
+            let Sets { begun, pace, .. } = &mut *lead.sets;
+            go_by_cycle(machine, desk.world, begun, pace, marks, steps)
+        }
+    }
+}
+
+/// Runs a machine up to its first stop, cycle by cycle with a window over the board now and then, tells the events of all its cycles to a
+/// tape, and answers the cause of the stop. Each cycle counts as a step.
+pub(crate) fn run_uncounted<'w, X: Device, G: Gate, H: Wait, T: Tape, L: Ledger>(
+    desk: &Desk<'_, 'w, X, G, H>,
+    lead: &mut Lead<'w, X>,
+    machine: &mut Machine,
+    tape: &mut T,
+    steps: &mut Steps<L>,
+) -> Result<Ran, SinkFault>
+    requires number { machine.old.cycle ≤ desk.now.world.now.limit }
+    requires ready { IsLed desk.now lead.old }
+    ensures told { Tells T.took T.missed tape.old tape.new (T.faults tape.old) (T.faults tape.new)
+        (run_shown (setting X.meaning desk.now.world.now) machine.old) result }
+    ensures left { Leaves T.took T.missed tape.old tape.new false (setting X.meaning desk.now.world.now)
+        machine.old machine.new steps.old steps.new result }
+    ensures ready { IsLed desk.now lead.new }
+{
+    let mut marks = Marks::new();
+    'cycles: loop {
+        fact_limit_is_bounded(desk.world);
+        let before = machine.pads();
+        match go_on(desk, lead, machine, &mut marks, steps) {
+            Some(why) => {
+                return Ok(Ran {
+                    why,
+                    windows: 0,
+                    cycles: 0,
+                });
+            }
+            None => {
+                let cycle = first_told(machine, &marks);
+                match tell_marks(cycle, before, &marks, tape) {
+                    Ok(()) => {}
+                    Err(fault) => return Err(fault),
+                }
+            }
         }
     }
 }

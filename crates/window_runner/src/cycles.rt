@@ -1,13 +1,15 @@
 //! A run cycle by cycle, which goes at once over cycles of which nothing is told: no window is made of it, and nothing is counted but
 //! its cycles.
 
-ghost use Rattle.std.specs.Prelude.{◌≡◌, ◌+◌, ◌≤◌, Some, IfOk, OnErr};
+ghost use Rattle.std.specs.Prelude.{◌≡◌, ◌+◌, ◌<◌, ◌≤◌, Some, length, IfOk, IfNone, OnErr};
 ghost use Rattle.outer_lane.specs.Setting.{setting};
 ghost use Rattle.trace_text.specs.Tape.{Tells};
 ghost use Rattle.rp_machine.specs.Cycle.{stop};
-ghost use Rattle.rp_machine.specs.Run.{last_state};
+ghost use Rattle.rp_machine.specs.Quiet.{IsQuiet};
+ghost use Rattle.rp_machine.specs.Run.{last_state, states};
 ghost use Rattle.window_runner.specs.Told.{run_shown};
 ghost use Rattle.window_runner.specs.Alone.{IsOnRun, FailsWithin};
+ghost use Rattle.window_runner.specs.Course.{Goes};
 
 use crate::events::tell_marks;
 use lane_look::{Device, Marks};
@@ -19,6 +21,54 @@ use rp_machine::{Machine, Steps, fact_limit_is_bounded};
 use std::sync::ledger::Ledger;
 use trace_text::tape::Tape;
 use trace_text::writer::SinkFault;
+
+/// Goes over as many cycles as nothing is told of, where a try is due. Gives how many.
+#[inline(always)]
+fn pass_due<X: Device, L: Ledger>(
+    machine: &mut Machine,
+    world: &World<'_, X>,
+    pace: &mut Pace,
+    marks: &mut Marks,
+    steps: &mut Steps<L>,
+) -> u64
+    ensures state { machine.new ≡ states (setting X.meaning world.now) machine.old result }
+    ensures quiet { IsQuiet (setting X.meaning world.now) machine.old result }
+    ensures steps { steps.new ≡ steps.old + result }
+{
+    if pace.is_due(machine) {
+        return pass_paced(machine, world, world.limit, pace, marks, steps);
+    }
+    0
+}
+
+/// Goes over cycles of which nothing is told, and by one cycle; or finds a stop. What the lanes began in that cycle is left behind.
+#[inline(always)]
+pub(crate) fn go_by_cycle<X: Device, L: Ledger>(
+    machine: &mut Machine,
+    world: &World<'_, X>,
+    begun: &mut Begun,
+    pace: &mut Pace,
+    marks: &mut Marks,
+    steps: &mut Steps<L>,
+) -> Option<Why>
+    requires number { machine.old.cycle ≤ world.now.limit }
+    ensures goes { Goes (setting X.meaning world.now) 1 machine.old machine.new marks.new steps.old steps.new result }
+    ensures on { IfNone result (machine.old.cycle < machine.new.cycle) }
+    ensures within { machine.new.cycle ≤ world.now.limit }
+{
+    pass_due(machine, world, pace, marks, steps);
+    machine.begin_into(world, begun);
+    machine.cycle_of(world, begun, marks, steps)
+}
+
+/// The number of the cycle that left the first of these marks.
+#[inline(always)]
+pub(crate) fn first_told(machine: &Machine, marks: &Marks) -> u64
+    requires { length marks.now ≤ machine.now.cycle }
+    ensures { result + length marks.now ≡ machine.now.cycle }
+{
+    machine.number() - u64::from(marks.count())
+}
 
 /// Runs a machine up to its first stop, tells the events of all its cycles to a tape, and answers the cause of the stop: cycle by cycle,
 /// and over as many as nobody has anything to do in at once. Each cycle counts as a step. It takes no memory.
@@ -50,18 +100,16 @@ pub fn run_cycles<X: Device, T: Tape, L: Ledger>(
     let mut pace = Pace::default();
     'cycles: loop {
         fact_limit_is_bounded(world);
-        let cycle = machine.number();
         let before = machine.pads();
-        machine.begin_into(world, &mut begun);
-        match machine.cycle_of(world, &begun, &mut marks, steps) {
+        match go_by_cycle(machine, world, &mut begun, &mut pace, &mut marks, steps) {
             Some(why) => return Ok(why),
-            None => match tell_marks(cycle, before, &marks, tape) {
-                Ok(()) => {}
-                Err(fault) => return Err(fault),
-            },
-        }
-        if pace.is_due(machine) {
-            pass_paced(machine, world, world.limit, &mut pace, &mut marks, steps);
+            None => {
+                let cycle = first_told(machine, &marks);
+                match tell_marks(cycle, before, &marks, tape) {
+                    Ok(()) => {}
+                    Err(fault) => return Err(fault),
+                }
+            }
         }
     }
 }

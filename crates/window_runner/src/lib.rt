@@ -15,4 +15,4 @@ mod worker;
 pub use alone::{Ran, run_alone};
 pub use cycles::run_cycles;
 pub use piece::{Found, Piece};
-pub use windows::{RunFault, run_windows};
+pub use windows::{RunFault, run_beside, run_windows};

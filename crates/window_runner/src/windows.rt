@@ -6,12 +6,12 @@ ghost use Rattle.trace_text.specs.Tape.{Tells};
 ghost use Rattle.rp_machine.specs.Run.{last_state};
 ghost use Rattle.turn_board.specs.Tickets.{IsFree};
 ghost use Rattle.window_runner.specs.Told.{run_shown};
-ghost use Rattle.window_runner.specs.Alone.{IsRan, IsOnRun, FailsWithin};
+ghost use Rattle.window_runner.specs.Alone.{IsRan, IsRanFor, IsOnRun, FailsWithin};
 ghost use Rattle.window_runner.specs.Seated.{IsReady};
 ghost use Rattle.window_runner.specs.Windows.{answered, OnMemory, OnSink, Leaves};
 
 use crate::alone::Ran;
-use crate::coordinator::{APART, Desk, Lead, run};
+use crate::coordinator::{APART, Desk, Lead, run, run_uncounted};
 use crate::piece::{Found, Piece};
 use crate::sets::sets_of;
 use crate::worker::Hall;
@@ -45,6 +45,7 @@ struct Bench<'b, 'w, X: Device, G: Gate> {
     lead: Lead<'w, X>,
     world: &'w World<'w, X>,
     gate: &'b G,
+    counted: bool,
 }
 
 impl<'b, 'w, X: Device, G: Gate> Bench<'b, 'w, X, G> {
@@ -61,7 +62,7 @@ impl<'b, 'w, X: Device, G: Gate> Bench<'b, 'w, X, G> {
             self.lead.kept self.lead.master self.lead.seat }
         ensures told { Tells T.took T.missed tape.old tape.new (T.faults tape.old) (T.faults
             tape.new) (run_shown (setting X.meaning self.entry.world.now) machine.old) result }
-        ensures left { Leaves T.took T.missed tape.old tape.new (setting X.meaning
+        ensures left { Leaves T.took T.missed tape.old tape.new self.entry.counted (setting X.meaning
             self.entry.world.now) machine.old machine.new steps.old steps.new result }
     {
         let Bench {
@@ -69,6 +70,7 @@ impl<'b, 'w, X: Device, G: Gate> Bench<'b, 'w, X, G> {
             mut lead,
             world,
             gate,
+            counted,
         } = self;
         let desk = Desk {
             rt,
@@ -76,7 +78,11 @@ impl<'b, 'w, X: Device, G: Gate> Bench<'b, 'w, X, G> {
             world,
             gate,
         };
-        let ran = run(&desk, &mut lead, machine, tape, steps);
+        let ran = if counted {
+            run(&desk, &mut lead, machine, tape, steps)
+        } else {
+            run_uncounted(&desk, &mut lead, machine, tape, steps)
+        };
         board.close(&mut lead.master);
         drop(lead);
         ran
@@ -99,7 +105,7 @@ fn both<'b, 'w, X: Device, G: Gate, T: Tape, L: Ledger, R: Threads + Wait + Sync
         bench.lead.kept bench.lead.master bench.lead.seat }
     ensures told { Tells T.took T.missed tape.old tape.new (T.faults tape.old) (T.faults tape.new)
         (run_shown (setting X.meaning bench.entry.world.now) machine.old) result }
-    ensures left { Leaves T.took T.missed tape.old tape.new (setting X.meaning
+    ensures left { Leaves T.took T.missed tape.old tape.new bench.entry.counted (setting X.meaning
         bench.entry.world.now) machine.old machine.new steps.old steps.new result }
 {
     let mut hall = Some(hall);
@@ -124,7 +130,7 @@ fn both<'b, 'w, X: Device, G: Gate, T: Tape, L: Ledger, R: Threads + Wait + Sync
                 tape.exit.now (T.faults tape.entry.now) (T.faults tape.exit.now) (run_shown (setting
                 X.meaning b.world.now) machine.entry.now) result) }
             ensures left { IfSome bench.entry (λ b. Leaves T.took T.missed tape.entry.now
-                tape.exit.now (setting X.meaning b.world.now) machine.entry.now machine.exit.now
+                tape.exit.now b.counted (setting X.meaning b.world.now) machine.entry.now machine.exit.now
                 steps.entry.now steps.exit.now result) }
         {
             match bench.take() {
@@ -139,6 +145,7 @@ fn both<'b, 'w, X: Device, G: Gate, T: Tape, L: Ledger, R: Threads + Wait + Sync
 /// Runs the machine with so many workers. None stands for want of memory, before anything has changed.
 fn run_at<'w, X: Device, G: Gate, T: Tape, L: Ledger, R: Threads + Wait + Sync>(
     rt: &R,
+    counted: bool,
     alloc: Global,
     machine: &mut Machine,
     world: &'w World<'w, X>,
@@ -151,7 +158,7 @@ fn run_at<'w, X: Device, G: Gate, T: Tape, L: Ledger, R: Threads + Wait + Sync>(
     requires workers { workers ≤ 8 }
     ensures told { IfSome result (Tells T.took T.missed tape.old tape.new (T.faults tape.old)
         (T.faults tape.new) (run_shown (setting X.meaning world.now) machine.old)) }
-    ensures left { IfSome result (Leaves T.took T.missed tape.old tape.new (setting X.meaning
+    ensures left { IfSome result (Leaves T.took T.missed tape.old tape.new counted (setting X.meaning
         world.now) machine.old machine.new steps.old steps.new) }
     ensures memory { is_none result ≡ true → (machine.new ≡ machine.old) × (tape.new ≡ tape.old)
         × (steps.new ≡ steps.old) }
@@ -186,7 +193,7 @@ fn run_at<'w, X: Device, G: Gate, T: Tape, L: Ledger, R: Threads + Wait + Sync>(
         seat,
         kept: None,
         sets,
-        left: 0,
+        due: 0,
         apart: APART,
     };
     let bench = Bench {
@@ -194,6 +201,7 @@ fn run_at<'w, X: Device, G: Gate, T: Tape, L: Ledger, R: Threads + Wait + Sync>(
         lead,
         world,
         gate,
+        counted,
     };
     if workers == 0 {
         // a value that only one way uses up is dear to check
@@ -203,14 +211,53 @@ fn run_at<'w, X: Device, G: Gate, T: Tape, L: Ledger, R: Threads + Wait + Sync>(
     Some(both(rt, hall, bench, machine, tape, steps))
 }
 
-/// Runs a machine by windows and single cycles up to its first stop, and tells the events of all its cycles to a tape. The lanes
-/// of each window are run by so many threads, 0 to 8, beside this one. Each cycle counts as a step. Whatever the number of
-/// workers, the gate and the order in which the threads go on, the answer is the same.
+/// Runs a machine up to its first stop, and tells the events of all its cycles to a tape. Where windows are counted it goes by windows and
+/// single cycles; elsewhere cycle by cycle, with a window now and then. The lanes of windows that go over the board are run by so many
+/// threads, 0 to 8, beside this one. Each cycle counts as a step. Whatever the number of workers, the gate and the order in which the
+/// threads go on, the answer is the same.
 ///
 /// # Errors
 ///
 /// `Sink`: the tape failed at an event, and its count of faults rose. It has the events before that one, and the machine stands
 /// behind the step of that event, at most 256 cycles behind it. `Memory`: there was none, before the first event; nothing has changed.
+pub fn run_beside<X: Device, G: Gate, T: Tape, L: Ledger, R: Threads + Wait + Sync>(
+    rt: &R,
+    counted: bool,
+    alloc: Global,
+    machine: &mut Machine,
+    world: &World<'_, X>,
+    workers: usize,
+    gate: &G,
+    tape: &mut T,
+    steps: &mut Steps<L>,
+) -> Result<Ran, RunFault>
+    requires number { machine.old.cycle ≤ world.now.limit }
+    requires workers { workers ≤ 8 }
+    ensures told { IfSome (answered result) (Tells T.took T.missed tape.old tape.new (T.faults
+        tape.old) (T.faults tape.new) (run_shown (setting X.meaning world.now) machine.old)) }
+    ensures ran { IfOk result (IsRanFor counted (setting X.meaning world.now) machine.old) }
+    ensures state { IfOk result (λ ran. machine.new ≡ last_state (setting X.meaning world.now)
+        machine.old) }
+    ensures failed { OnSink result (FailsWithin T.took T.missed tape.old tape.new (setting X.meaning
+        world.now) 256 machine.old machine.new) }
+    ensures on_run { IsOnRun (setting X.meaning world.now) machine.old machine.new }
+    ensures steps { steps.new + machine.old.cycle ≡ steps.old + machine.new.cycle }
+    ensures memory { OnMemory result ((machine.new ≡ machine.old) × (tape.new ≡ tape.old)) }
+{
+    match run_at(
+        rt, counted, alloc, machine, world, workers, gate, tape, steps,
+    ) {
+        Some(Ok(ran)) => Ok(ran),
+        Some(Err(_)) => Err(RunFault::Sink),
+        None => Err(RunFault::Memory),
+    }
+}
+
+/// The same with all windows counted.
+///
+/// # Errors
+///
+/// Those of `run_beside`.
 pub fn run_windows<X: Device, G: Gate, T: Tape, L: Ledger, R: Threads + Wait + Sync>(
     rt: &R,
     alloc: Global,
@@ -234,9 +281,5 @@ pub fn run_windows<X: Device, G: Gate, T: Tape, L: Ledger, R: Threads + Wait + S
     ensures steps { steps.new + machine.old.cycle ≡ steps.old + machine.new.cycle }
     ensures memory { OnMemory result ((machine.new ≡ machine.old) × (tape.new ≡ tape.old)) }
 {
-    match run_at(rt, alloc, machine, world, workers, gate, tape, steps) {
-        Some(Ok(ran)) => Ok(ran),
-        Some(Err(_)) => Err(RunFault::Sink),
-        None => Err(RunFault::Memory),
-    }
+    run_beside(rt, true, alloc, machine, world, workers, gate, tape, steps)
 }

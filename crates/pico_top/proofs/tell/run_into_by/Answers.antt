@@ -1,12 +1,12 @@
 use Rattle.pico_top.proofs.Names.{◌∙◌, ap}
-use Rattle.pico_top.proofs.Telling.{ran_for, run_ended, run_cut, run_none}
+use Rattle.pico_top.proofs.Telling.{run_ended, run_cut, run_none}
 use Rattle.pico_top.proofs.tell.run_into_by.Goals as goal
 
 pub returns-in-Ok : goal.returns-in-Ok
 returns-in-Ok g c =
     let h = c.in-Ok.ensures in
     record {
-      told = λ source. run_ended _ _ _ _ _ _ source _ _ _ _ _ _ _ h.told.ok.0 (ran_for _ _ _ _ h.ran) h.state h.on_run h.steps (_, c.send_last.ensures, c.sent_status.ensures);
+      told = λ source. run_ended _ _ _ _ _ _ source _ _ _ _ _ _ _ h.told.ok.0 h.ran h.state h.on_run h.steps (_, c.send_last.ensures, c.sent_status.ensures);
       same_sink = h.told.ok.1;
     }
 

@@ -34,7 +34,7 @@ steps-preserved g c =
 pub returns-in-Ok-Some : goal.returns-in-Ok-Some
 returns-in-Ok-Some g c =
     let k = underway_stops g.met.T.Tape.takes_in_turn c.steps.invariant.0 c.in-Ok-Some.why (rw c.in-Ok-Some.field-0-is at c.in-Ok-Some.ensures.step) in
-    record { told = k.0; ran = k.1.ran; state = k.1.state; failed = k.1.failed; on_run = k.1.on_run; steps = k.1.steps; jobs = c.in-Ok-Some.ensures.jobs ∙ c.steps.invariant.1 }
+    record { told = k.0; ran = k.1.ran.counts refl; state = k.1.state; failed = k.1.failed; on_run = k.1.on_run; steps = k.1.steps; jobs = c.in-Ok-Some.ensures.jobs ∙ c.steps.invariant.1 }
 
 pub returns-in-Err : goal.returns-in-Err
 returns-in-Err g c =

@@ -2,7 +2,7 @@ use Rattle.std.proofs.Common.{sym, refl, subst}
 use Rattle.outer_lane.specs.Setting.{setting_of}
 use Rattle.window_runner.specs.Alone.{IsOnRun}
 use Rattle.window_runner.proofs.Reaching.{on_run_first}
-use Rattle.window_runner.proofs.windows.run_windows.Goals as goal
+use Rattle.window_runner.proofs.windows.run_beside.Goals as goal
 
 pub returns-in-None-clause-on_run : goal.returns-in-None-clause-on_run
 returns-in-None-clause-on_run g c =
