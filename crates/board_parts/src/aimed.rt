@@ -1,6 +1,6 @@
 //! Probes that are aimed at pins.
 
-ghost use Rattle.std.specs.Prelude.{◌≡◌, ◌∷◌, ◌++◌, [], map};
+ghost use Rattle.std.specs.Prelude.{◌≡◌, ◌∷◌, [], map};
 ghost use Rattle.board_parts.specs.Hearing.{aim_of, aimed_at, after_hearing, aim_text, seen};
 
 use crate::change::PinChange;

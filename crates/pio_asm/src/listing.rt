@@ -1,6 +1,6 @@
 //! The programs of a PIO source file, and their listing.
 
-ghost use Rattle.std.specs.Prelude.{◌≡◌, ◌++◌, length, flat_map, take, IfOk, IfErr, OnOk, decimal};
+ghost use Rattle.std.specs.Prelude.{◌≡◌, ◌++◌, IfOk, IfErr, OnOk, decimal};
 ghost use Rattle.pio_asm.specs.Assembly.{Assembles, IsFaultOf};
 ghost use Rattle.pio_asm.specs.Fitting.{IsFirst};
 ghost use Rattle.pio_asm.specs.Listing.{plans_of, origin_text, flag_text, wrap_text, side_text, program_line, word_line, program_text, listing};

@@ -1,6 +1,6 @@
 //! Expressions, read into postfix order.
 
-ghost use Rattle.std.specs.Prelude.{◌≡◌, ◌++◌, ◌∷◌, [], List, ℕ, ◌<◌, ◌≤◌, ◌+◌, ◌^◌, length, IfOk, OnOk, OnSome, IfSome, IfErr};
+ghost use Rattle.std.specs.Prelude.{◌≡◌, ◌∷◌, [], List, ◌<◌, ◌+◌, ◌^◌, IfOk, OnOk};
 ghost use Rattle.pio_parse.specs.descent.Calls.{HasPopped, Reads, ReadsOperand, ReadsOperator, newest};
 ghost use Rattle.pio_parse.specs.descent.Expression.{expression_at, level_of, operand_at, operand_step, operator_step, reduced, token_step, with_binary, with_closed};
 ghost use Rattle.pio_parse.specs.Tokens.{name_at};

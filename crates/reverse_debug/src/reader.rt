@@ -1,6 +1,6 @@
 //! The lines of a source, one after another.
 
-ghost use Rattle.std.specs.Prelude.{◌≡◌, ◌++◌, length, position, take, ◌==◌};
+ghost use Rattle.std.specs.Prelude.{◌≡◌, ◌++◌, position, take, ◌==◌};
 ghost use Rattle.reverse_debug.specs.NextLine.{given_bytes};
 
 use arrayvec::ArrayVec;

@@ -1,6 +1,6 @@
 //! The tokens of a line.
 
-ghost use Rattle.std.specs.Prelude.{◌≡◌, ◌≤◌, ◌<◌, ◌+◌, ◌++◌, length, drop, slice_index, OnOk, MatchResult, ⊤};
+ghost use Rattle.std.specs.Prelude.{◌≡◌, ◌≤◌, ◌<◌, ◌+◌, ◌++◌, length, drop, OnOk, MatchResult, ⊤};
 ghost use Rattle.std.specs.List.{list_all};
 ghost use Rattle.thumb_parse.specs.Tokens.{begins_with_digit, begins_word, code_part, is_allowed, sign_of};
 ghost use Rattle.thumb_parse.specs.descent.Tokens.{sign_tokens, tokens_from, tokens_of, word_tokens};

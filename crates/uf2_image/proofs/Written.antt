@@ -1,8 +1,8 @@
 -- The file of an image: its blocks, and what they load.
-use Rattle.std.proofs.Common.{◌≡◌, ◌≤◌, ◌<◌, ℕ, zero, suc, ◌+◌, ◌-◌, ◌*◌, ◌/◌, ◌%◌, ◌^◌, Bool, true, false, cond, not, ◌&&◌, ◌||◌, ◌⊎◌, inl, inr, List, [], ◌∷◌, ◌++◌, length, take, drop, map, min, get_or, Option, Some, None, Ok, refl, sym, ap, ◌∙◌, subst, arith, append_assoc, length-append, ltb, leb, eqb, slice_get}
+use Rattle.std.proofs.Common.{◌≡◌, ◌≤◌, ◌<◌, ℕ, zero, suc, ◌+◌, ◌-◌, ◌*◌, ◌/◌, ◌%◌, ◌^◌, Bool, true, false, cond, not, ◌&&◌, ◌||◌, ◌⊎◌, inl, inr, List, [], ◌∷◌, ◌++◌, length, take, drop, map, min, get_or, Option, Some, None, Ok, refl, sym, ap, ◌∙◌, subst, arith, append_assoc, length-append, ltb, leb, eqb}
 use Rattle.std.specs.Prelude.{replicate}
 use Rattle.std.specs.List.{concat, enumerate_from, fold, find, filter, range_with_len, AllByRecursion, list_any}
-use Rattle.std.proofs.lemmas.Bool.{lt-ltb, le-ltb, ne_eqb, eq-eqb}
+use Rattle.std.proofs.lemmas.Bool.{le-ltb, ne_eqb, eq-eqb}
 use Rattle.std.proofs.lemmas.Bool.Decides.{nat_tests}
 use Rattle.std.proofs.lemmas.List.{length-replicate, append-nil, drop_more}
 use Rattle.std.proofs.Math.Seq.{drop-append_seam, take-append_seam}
@@ -13,9 +13,9 @@ use Rattle.byteorder.specs.Numbers.{little_number-reads_back}
 use Rattle.uf2_image.specs.declared.parts.Part.{Part}
 use Rattle.uf2_image.specs.declared.parts.Image.{Image}
 use Rattle.uf2_image.specs.declared.fault.ImageFault.{ImageFault}
-use Rattle.uf2_image.specs.Uf2.{any_address, block_at, block_fault, count_of, family_of, first_fault, first_kept, flags_of, has_flag, has_magic, has_number, image_of, in_order, insert_part, is_flash, is_kept, is_loaded, is_sram, kept, kept_fault, least_missing, number_of, part_of, payload_of, size_of, target_of, whole, word, LieFrom}
+use Rattle.uf2_image.specs.Uf2.{any_address, block_at, block_fault, count_of, family_of, first_fault, first_kept, flags_of, has_magic, has_number, image_of, in_order, insert_part, is_flash, is_kept, is_loaded, is_sram, kept, kept_fault, least_missing, number_of, part_of, payload_of, size_of, target_of, whole, word, LieFrom}
 use Rattle.uf2_image.specs.Reading.{HasPayload}
-use Rattle.uf2_image.specs.Writing.{block_of, blocks_from, blocks_of, file_of, first_address, words, IsSized, IsWritable}
+use Rattle.uf2_image.specs.Writing.{block_of, blocks_from, file_of, first_address, words, IsSized, IsWritable}
 use Rattle.uf2_image.proofs.Files.{image_whole, kept_more, kept_start, no_fault_more, no_fault_start}
 use Rattle.uf2_image.proofs.Images.{whole_image}
 use Rattle.uf2_image.proofs.Loading.{has_number-push, is_loaded-push}

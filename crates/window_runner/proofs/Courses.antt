@@ -1,5 +1,5 @@
 -- What takes a run on, from cycles of which nothing is told to those whose marks are left; and how a run by it goes on its way.
-use Rattle.std.proofs.Common.{◌≡◌, ℕ, ◌+◌, ◌*◌, ◌<◌, ◌≤◌, List, [], ◌∷◌, length, Option, Some, None, is_some, if◌then◌else◌, Result, Ok, Err, refl, ap, sym, ◌∙◌, subst, arith, IfNone}
+use Rattle.std.proofs.Common.{◌≡◌, ℕ, ◌+◌, ◌<◌, ◌≤◌, List, [], ◌∷◌, length, Option, Some, None, is_some, if◌then◌else◌, Ok, Err, refl, ap, sym, ◌∙◌, subst, arith, IfNone}
 use Rattle.rp_base.specs.declared.Why.{Why}
 use Rattle.lane_look.specs.declared.marks.Mark.{Mark}
 use Rattle.outer_lane.specs.Setting.{Setting}

@@ -5,7 +5,7 @@ use Rattle.outer_lane.specs.Setting.{Setting}
 use Rattle.trace_text.specs.declared.event.Event.{Event as Shown}
 use Rattle.trace_text.specs.Tape.{FailsAmong}
 use Rattle.rp_machine.specs.State.{State}
-use Rattle.rp_machine.specs.Cycle.{stop, next}
+use Rattle.rp_machine.specs.Cycle.{stop}
 use Rattle.rp_machine.specs.Events.{Event, events}
 use Rattle.rp_machine.specs.Run.{states, events_in, all_events}
 use Rattle.rp_machine.proofs.Runs.{events_more}
