@@ -169,14 +169,14 @@ text_of_run stats w aims heard s t ran e is h =
     (ap₂ (λ (why : Option Why) (x : State). end_text why x heard (counts_text stats ran.windows ran.cycles)) (sym is.why) e
     ∙ ap₂ (λ (a : List Aim) (n : List ℕ). end_text (stop w (last_state w s)) (last_state w s) a n) h (counts_of stats w s ran is.counts)) ∙ run_begins stats w aims s
 
--- a run by windows found the counts, whether they are asked for or not
-pub ran_for : (stats : Bool) (w : Setting) (s : State) (ran : Ran) → IsRan w s ran → IsRanFor stats w s ran
-ran_for stats w s ran is = record { why = is.why; counts = λ asked. is }
+-- a run by windows found the counts
+pub ran_for : (stats : Bool) (w : Setting) (s : State) (ran : Ran) → stats ≡ true → IsRan w s ran → IsRanFor stats w s ran
+ran_for stats w s ran asked is = record { why = is.why; counts = λ e. is; none = λ none. absurd (cc (none, asked)) }
 
 -- where they are not asked for, no run has to find them
 pub uncounted_for : (stats : Bool) (w : Setting) (s : State) (why : Why) → stats ≡ false → stop w (last_state w s) ≡ Some why
     → IsRanFor stats w s (record { why = why; windows = 0; cycles = 0 })
-uncounted_for stats w s why none stops = record { why = stops; counts = λ asked. absurd (cc (none, asked)) }
+uncounted_for stats w s why none stops = record { why = stops; counts = λ asked. absurd (cc (none, asked)); none = λ e. (refl, refl) }
 
 -- what was counted at a state of the run, and at its last one
 run_counted : (w : Setting) (s t : State) (steps steps' status : ℕ) → IsOnRun w s t → steps' + s.cycle ≡ steps + t.cycle → (status ≡ 0 → t ≡ last_state w s)

@@ -64,7 +64,7 @@ module _ {T : Type 0} {took : T → List Shown → T → Type 0} {missed : T →
       let ran : Ran = record { why = why; windows = q.windows; cycles = q.cycles } in (
         taken_to_stop took missed a b c f g h w first p.state why (Some why) ran turn u.taken k.cause k.told,
         record {
-          ran = let why = ap (stop w) at ∙ k.cause in record { why = why; counts = λ asked. record { why = why; windows = ap (λ (x : Position). x.windows) last; cycles = ap (λ (x : Position). x.cycles) last } };
+          ran = let why = ap (stop w) at ∙ k.cause in record { why = why; counts = λ asked. record { why = why; windows = ap (λ (x : Position). x.windows) last; cycles = ap (λ (x : Position). x.cycles) last }; none = λ e. absurd (cc e) };
           state = ap (λ (x : Position). x.state) k.position ∙ sym at;
           failed = tt;
           on_run = is_on_run w first q (subst (Reached w first) (sym k.position) u.reached);

@@ -20,10 +20,11 @@ pub record IsRan (w : Setting) (s : State) (ran : Ran) : Type 0 where
   pub windows : ran.windows ≡ (last_position w s).windows
   pub cycles : ran.cycles ≡ (last_position w s).cycles
 
--- the same of one that counts its windows only where they are asked for
+-- the same of one that counts its windows where they are asked for, and answers 0 elsewhere
 pub record IsRanFor (counted : Bool) (w : Setting) (s : State) (ran : Ran) : Type 0 where
   pub why : stop w (last_state w s) ≡ Some ran.why
   pub counts : counted ≡ true → IsRan w s ran
+  pub none : counted ≡ false → (ran.windows ≡ 0) × (ran.cycles ≡ 0)
 
 -- a state of the run from another, by its own cycle number
 pub record IsOnRun (w : Setting) (s t : State) : Type 0 where

@@ -41,7 +41,7 @@ const MOST: u64 = (1 << 62) - 6;
 
 /// Behind the first window that goes over the board so many cycles are made by the coordinator alone, and behind each later one twice as
 /// many as before it. A lane runs for 256 cycles at most, some ten microseconds; the copies that its job is made of, and two threads that
-/// wait for each other, take longer than that.
+/// wait for each other, take longer than that. Where no window is counted the first one waits as long, since many programs are over by then.
 pub(crate) const APART: u64 = 0x4000;
 
 /// Draws tickets and passes those that are open, and keeps the first one that is not.
@@ -124,7 +124,7 @@ fn gather<'w, X: Device, G: Gate, H: Wait>(
 
 /// The next window goes over the board: it is its turn, six more numbers can be opened, and the peripherals have as many words as the
 /// device, for whose world the jobs are made.
-fn goes_over<'w, X: Device, G: Gate, H: Wait>(
+fn is_due<'w, X: Device, G: Gate, H: Wait>(
     desk: &Desk<'_, 'w, X, G, H>,
     lead: &Lead<'w, X>,
     machine: &Machine,
@@ -226,7 +226,7 @@ fn next_window<'w, X: Device, G: Gate, H: Wait, L: Ledger>(
     ensures ready { IsLed desk.now lead.new }
     ensures begun { lead.new.sets.value.begun ≡ begun machine.new }
 {
-    if goes_over(desk, lead, machine) {
+    if is_due(desk, lead, machine) {
         return window_over(desk, lead, machine, marks, steps);
     }
     let Sets {
@@ -364,7 +364,7 @@ fn go_over<'w, X: Device, G: Gate, H: Wait, L: Ledger>(
     ensures none { IfNone result ((machine.new ≡ machine.old) × (steps.new ≡ steps.old)) }
     ensures ready { IsLed desk.now lead.new }
 {
-    if machine.fabric.holds() || !goes_over(desk, lead, machine) {
+    if machine.fabric.holds() || !is_due(desk, lead, machine) {
         return None;
     }
     machine.begin_into(desk.world, &mut lead.sets.begun);

@@ -142,6 +142,15 @@ fn both<'b, 'w, X: Device, G: Gate, T: Tape, L: Ledger, R: Threads + Wait + Sync
     ran
 }
 
+/// The cycle from which on the first window goes over the board: the first of all where windows are counted.
+fn first_due(counted: bool, machine: &Machine) -> u64 {
+    if counted {
+        0
+    } else {
+        machine.number().saturating_add(APART)
+    }
+}
+
 /// Runs the machine with so many workers. None stands for want of memory, before anything has changed.
 fn run_at<'w, X: Device, G: Gate, T: Tape, L: Ledger, R: Threads + Wait + Sync>(
     rt: &R,
@@ -193,7 +202,7 @@ fn run_at<'w, X: Device, G: Gate, T: Tape, L: Ledger, R: Threads + Wait + Sync>(
         seat,
         kept: None,
         sets,
-        due: 0,
+        due: first_due(counted, machine),
         apart: APART,
     };
     let bench = Bench {

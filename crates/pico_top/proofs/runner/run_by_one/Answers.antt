@@ -6,7 +6,7 @@ pub returns-in_default-clause-on_run : goal.returns-in_default-clause-on_run
 returns-in_default-clause-on_run g c = is_on_run _ _ _ (reached_first _ _ c.requires.number)
 
 pub returns-in-Ok-run_alone-clause-ran : goal.returns-in-Ok-run_alone-clause-ran
-returns-in-Ok-run_alone-clause-ran g c = ran_for _ _ _ c.in-Ok-run_alone.ran c.in-Ok-run_alone.ensures.ran
+returns-in-Ok-run_alone-clause-ran g c = ran_for _ _ _ c.in-Ok-run_alone.ran c.if-stats.true c.in-Ok-run_alone.ensures.ran
 
 pub returns-in-Ok-run_cycles-clause-ran : goal.returns-in-Ok-run_cycles-clause-ran
 returns-in-Ok-run_cycles-clause-ran g c = uncounted_for _ _ _ _ c.if-stats.false c.in-Ok-run_cycles.ensures.why

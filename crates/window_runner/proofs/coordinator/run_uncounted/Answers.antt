@@ -27,7 +27,7 @@ pub returns-in-Some : goal.returns-in-Some
 returns-in-Some g c =
     let h = c.in-Some.ensures in
     let k = goes_stops g.T.Tape.missed _ c.in-Some.why c.cycles.invariant.0 h.goes in
-    record { told = k.0; left = record { ran = record { why = k.1; counts = λ asked. absurd (cc asked) }; state = k.2; failed = tt; on_run = k.3; steps = k.4 }; ready = h.ready }
+    record { told = k.0; left = record { ran = record { why = k.1; counts = λ asked. absurd (cc asked); none = λ e. (refl, refl) }; state = k.2; failed = tt; on_run = k.3; steps = k.4 }; ready = h.ready }
 
 pub returns-in-Err : goal.returns-in-Err
 returns-in-Err g c =
