@@ -48,9 +48,7 @@ last_from-none asked s first (m ∷ ms) h =
 
 nobody_on : (port : ℕ) (m : Master) → asks_on nobody port m ≡ false
 nobody_on port Core0 = refl
-nobody_on port Core1 = refl
-nobody_on port DmaRead = refl
-nobody_on port DmaWrite = refl
+nobody_on port _ = refl
 
 pub nobody-after : (s : State) → has_hold s ≡ false → after_grant nobody s ≡ s
 nobody-after s free =
@@ -66,15 +64,11 @@ core0 a = at_most_core0 (Some a)
 
 others_do_not : (a : Access) (port : ℕ) (n : Master) → n ≢ Core0 → asks_on (core0 a) port n ≡ false
 others_do_not a port Core0 ne = absurd (ne refl)
-others_do_not a port Core1 ne = refl
-others_do_not a port DmaRead ne = refl
-others_do_not a port DmaWrite ne = refl
+others_do_not a port _ ne = refl
 
 none_elsewhere : (a : Access) (port : ℕ) (n : Master) → a.0 == port ≡ false → asks_on (core0 a) port n ≡ false
 none_elsewhere a port Core0 e = e
-none_elsewhere a port Core1 e = refl
-none_elsewhere a port DmaRead e = refl
-none_elsewhere a port DmaWrite e = refl
+none_elsewhere a port _ e = refl
 
 wins_there : (last : Master) (a : Access) (s : State) → wins (is_high s.priority) last (asks_on (core0 a) a.0) Core0 ≡ true
 wins_there last a s =

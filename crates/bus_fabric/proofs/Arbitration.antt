@@ -153,9 +153,7 @@ has_winner last a b c d h i j k =
 every_table : (last : Master) → for_both (λ a. for_both (λ b. for_both (λ c. for_both (λ d. for_both (λ h. for_both (λ i. for_both (λ j. for_both (has_winner last a b c d h i j)))))))) ≡ true
 unfolding for_both
 every_table Core0 = refl
-every_table Core1 = refl
-every_table DmaRead = refl
-every_table DmaWrite = refl
+every_table _ = refl
 
 winner_in_table : (last : Master) (a b c d h i j k : Bool) → has_winner last a b c d h i j k ≡ true
 winner_in_table last a b c d h i j k =

@@ -55,9 +55,7 @@ hold_goes_on asked s m writes left h later asks =
 
 is_itself : (m : Master) → (number_of m == number_of m) ≡ true
 is_itself Core0 = refl
-is_itself Core1 = refl
-is_itself DmaRead = refl
-is_itself DmaWrite = refl
+is_itself _ = refl
 
 below_2 : (test : ℕ → Bool) → test 0 ≡ false → test 1 ≡ false → (n : ℕ) → n < 2 → test n ≡ false
 below_2 test a b zero low = a
@@ -130,9 +128,7 @@ by_number (suc (suc (suc n))) = DmaWrite
 numbered : (m : Master) → by_number (number_of m) ≡ m
 unfolding by_number
 numbered Core0 = refl
-numbered Core1 = refl
-numbered DmaRead = refl
-numbered DmaWrite = refl
+numbered _ = refl
 
 same_number : (m n : Master) → (number_of m == number_of n) ≡ true → m ≡ n
 same_number m n h = sym (numbered m) ∙ ap by_number (eqb-true (number_of m) (number_of n) h) ∙ numbered n

@@ -530,8 +530,7 @@ goes_outward (Some word) w request s h g = passes_going w (value_of request requ
 
 going_nvic : (w : Work) (s : State) (e : Exceptions) → IsGoing w s → IsGoing w (record s { nvic = e })
 going_nvic (works.Instruction op) s e g = g
-going_nvic (works.Entry n) s e g = g
-going_nvic (works.Return v) s e g = g
+going_nvic _ s e g = g
 
 goes_private : (w : Work) (request : Request) (offset : ℕ) (s : State) → IsFormed s → IsGoing w s → KeepsSound s (after_private w request offset s)
 unfolding after_private

@@ -62,9 +62,7 @@ a_run_alone_chains cycle n k s m = record { both = run_both cycle n k s m; ends 
 turn_same : (w : Want) → ends_want w ≡ false → turn_alone w ≡ turn_of w 0
 turn_same want.Nothing e = refl
 turn_same (want.Ram request) e = refl
-turn_same (want.Outward request) e = absurd (true≢false e)
-turn_same want.Signal e = absurd (true≢false e)
-turn_same (want.Stopped cause) e = absurd (true≢false e)
+turn_same _ e = absurd (true≢false e)
 
 -- the first cycle
 pub record IsFirst (cycle : ℕ) (s : State) (m : List ℕ) : Type 0 where

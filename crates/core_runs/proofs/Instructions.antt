@@ -81,9 +81,7 @@ ordinary_parts op e =
 granted_spot : (request : Request) (p : Spot) → not (is_ram_spot p) ≡ false → is_refused_at request p ≡ false
 granted_spot request (spot.Ram index bank) h = refl
 granted_spot request (spot.Ppb offset) h = absurd (true≢false h)
-granted_spot request (spot.Sio offset) h = refl
-granted_spot request (spot.Reg block offset alias) h = refl
-granted_spot request spot.Outside h = refl
+granted_spot request _ h = refl
 
 granted_beat : (b : Beat) → is_elsewhere b ≡ false → is_refused b ≡ false
 granted_beat Inner h = refl
@@ -95,10 +93,7 @@ all_granted (b ∷ bs) h = let parts = or_parts _ _ h in ap₂ (λ x y. x || y) 
 
 ends_at_spot : (request : Request) (p : Spot) → not (is_ram_spot p) ≡ false → ends_want (want_at p request) ≡ false
 ends_at_spot request (spot.Ram index bank) e = refl
-ends_at_spot request (spot.Ppb offset) e = absurd (true≢false e)
-ends_at_spot request (spot.Sio offset) e = absurd (true≢false e)
-ends_at_spot request (spot.Reg block offset alias) e = absurd (true≢false e)
-ends_at_spot request spot.Outside e = absurd (true≢false e)
+ends_at_spot request _ e = absurd (true≢false e)
 
 ends_beat : (op : Op) (b : Beat) → is_signal op ≡ false → is_elsewhere b ≡ false → ends_want (want_of_beat op b) ≡ false
 ends_beat op Inner sig e = ap (λ x. ends_want (cond x want.Signal want.Nothing)) sig
@@ -110,10 +105,7 @@ none_ends op (b ∷ bs) sig e = let parts = or_parts _ _ e in ap₂ (λ x y. x |
 
 stored_spot : (request : Request) (m : List ℕ) (p : Spot) → not (is_ram_spot p) ≡ false → stored m (want_at p request) ≡ stored_by request m
 stored_spot request m (spot.Ram index bank) e = refl
-stored_spot request m (spot.Ppb offset) e = absurd (true≢false e)
-stored_spot request m (spot.Sio offset) e = absurd (true≢false e)
-stored_spot request m (spot.Reg block offset alias) e = absurd (true≢false e)
-stored_spot request m spot.Outside e = absurd (true≢false e)
+stored_spot request m _ e = absurd (true≢false e)
 
 stored_beat : (op : Op) (b : Beat) (m : List ℕ) → is_signal op ≡ false → is_elsewhere b ≡ false → stored m (want_of_beat op b) ≡ after_beat b m
 stored_beat op Inner m sig e = ap (λ x. stored m (cond x want.Signal want.Nothing)) sig
@@ -139,9 +131,7 @@ read_spot : (request : Request) (w : Option ℕ) (s : State) (m : List ℕ) (p :
 read_spot request None s m (spot.Ram index bank) e = refl
 read_spot request (Some write) s m (spot.Ram index bank) e = refl
 read_spot request w s m (spot.Ppb offset) e = absurd (true≢false e)
-read_spot request w s m (spot.Sio offset) e = absurd (true≢false e)
-read_spot request w s m (spot.Reg block offset alias) e = absurd (true≢false e)
-read_spot request w s m spot.Outside e = absurd (true≢false e)
+read_spot request w s m _ e = absurd (true≢false e)
 
 read_beat : (b : Beat) (s : State) (m : List ℕ) → is_elsewhere b ≡ false → read_in b (given_by m) s ≡ value_of b m
 read_beat Inner s m e = refl
@@ -162,9 +152,7 @@ read_beats op (b ∷ bs) cycle s m sig e wants =
 touched_same : (request : Request) (e : Exceptions) (p : Spot) → not (is_ram_spot p) ≡ false → touched_at p request e ≡ e
 touched_same request e (spot.Ram index bank) h = refl
 touched_same request e (spot.Ppb offset) h = absurd (true≢false h)
-touched_same request e (spot.Sio offset) h = refl
-touched_same request e (spot.Reg block offset alias) h = refl
-touched_same request e spot.Outside h = refl
+touched_same request e _ h = refl
 
 touched_beat : (b : Beat) (e : Exceptions) → is_elsewhere b ≡ false → touched_by b e ≡ e
 touched_beat Inner e h = refl

@@ -53,18 +53,12 @@ word_from_is (w ∷ ws) (suc i) small =
 
 word_same : (ws : List ℕ) (p : Spot) → AreWords ws → word_of ws p ≡ word_at (bytes_in ws) p
 word_same ws (spot.Ram index bank) are = sym (word_from_is ws index are.words)
-word_same ws (spot.Ppb offset) are = refl
-word_same ws (spot.Sio offset) are = refl
-word_same ws (spot.Reg block offset alias) are = refl
-word_same ws spot.Outside are = refl
+word_same ws _ are = refl
 
 answers_same : (ws : List ℕ) → AreWords ws → (a : Ask) → word_answer ws a ≡ answer (bytes_in ws) a
 answers_same ws are (ask.Half address) = ap (λ w. half_of w address) (word_same ws (place_of address) are)
 answers_same ws are (ask.Word address) = word_same ws (place_of address) are
-answers_same ws are ask.Lines = refl
-answers_same ws are ask.Pacing = refl
-answers_same ws are ask.Inputs = refl
-answers_same ws are (ask.Outs block) = refl
+answers_same ws are _ = refl
 
 answered_same : {B : Type 0} (f g : Ask → ℕ) → ((a : Ask) → f a ≡ g a) → (tree : Asking B) → answered f tree ≡ answered g tree
 answered_same f g same (Ready begun) = refl
@@ -154,8 +148,7 @@ four_by sizes.Word address word v = after_lanes 15 v word
 
 fits_in : (size : Size) (address v : ℕ) → begins_at size address + length (bytes_of size v) ≤ 4
 fits_in sizes.Byte address v = omega arith
-fits_in sizes.Half address v = omega arith
-fits_in sizes.Word address v = omega arith
+fits_in _ address v = omega arith
 
 -- ---- SRAM has 67,584 words
 
@@ -227,10 +220,7 @@ stored_at_same request None spot.Outside ws within are = record { words = are; b
 
 stored_same : (w : Want) (ws : List ℕ) → AreWords ws → StaysSame (stored_word ws w) (stored (bytes_in ws) w)
 stored_same (want.Ram request) ws are = stored_at_same request request.write (place_of request.address) ws (ram_within request.address) are
-stored_same want.Nothing ws are = record { words = are; bytes = refl }
-stored_same (want.Outward request) ws are = record { words = are; bytes = refl }
-stored_same want.Signal ws are = record { words = are; bytes = refl }
-stored_same (want.Stopped cause) ws are = record { words = are; bytes = refl }
+stored_same _ ws are = record { words = are; bytes = refl }
 
 -- ---- the runs
 

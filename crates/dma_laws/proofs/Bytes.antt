@@ -51,13 +51,11 @@ copies sizes.Word chain treq quiet c f h = record {
 
 width_is : (size : Size) → bytes_of size ≡ width size
 width_is sizes.Byte = refl
-width_is sizes.Half = refl
-width_is sizes.Word = refl
+width_is _ = refl
 
 whole : (size : Size) (address : ℕ) → address % width size ≡ 0 → rounded size address ≡ address
 whole sizes.Byte address h = omega (arith, h)
-whole sizes.Half address h = omega (arith, h)
-whole sizes.Word address h = omega (arith, h)
+whole _ address h = omega (arith, h)
 
 reads_one : (size : Size) (c : Channel) → Copies size c → c.read % width size ≡ 0 → read_of c ≡ record { address = c.read; size = size; write = None }
 unfolding read_of
@@ -178,18 +176,15 @@ writes_one k memory size c is small h i =
 -- where another one follows, the addresses go on
 aligned_on : (size : Size) (address : ℕ) → address % width size ≡ 0 → (address + width size) % width size ≡ 0
 aligned_on sizes.Byte address h = omega (arith, h)
-aligned_on sizes.Half address h = omega (arith, h)
-aligned_on sizes.Word address h = omega (arith, h)
+aligned_on _ address h = omega (arith, h)
 
 below_last : (size : Size) (n address : ℕ) → address + width size * suc (suc n) ≤ 2 ^ 32 → address + width size < 2 ^ 32
 below_last sizes.Byte n address h = omega (arith, h)
-below_last sizes.Half n address h = omega (arith, h)
-below_last sizes.Word n address h = omega (arith, h)
+below_last _ n address h = omega (arith, h)
 
 last_on : (size : Size) (n address : ℕ) → address + width size * suc n ≤ 2 ^ 32 → address + width size + width size * n ≤ 2 ^ 32
 last_on sizes.Byte n address h = omega (arith, h)
-last_on sizes.Half n address h = omega (arith, h)
-last_on sizes.Word n address h = omega (arith, h)
+last_on _ n address h = omega (arith, h)
 
 fit_on : (size : Size) (n address : ℕ) → Fit size (suc n) address → Fit size n (address + width size)
 fit_on size n address f = record { aligned = aligned_on size address f.aligned; last = last_on size n address f.last }

@@ -60,9 +60,7 @@ read_outside q false (Some x) = inl (refl, refl)
 read_elsewhere : (q : Request) (p : Spot) (u : Option ℕ) → ReadIs (Some q) (elsewhere DmaRead q p) u
 read_elsewhere q (spot.Reg block offset alias) u = read_outside q true u
 read_elsewhere q spot.Outside u = read_outside q (may_be_device q.address) u
-read_elsewhere q (spot.Ram index bank) u = read_outside q false u
-read_elsewhere q (spot.Sio offset) u = read_outside q false u
-read_elsewhere q (spot.Ppb offset) u = read_outside q false u
+read_elsewhere q _ u = read_outside q false u
 
 read_told : (q : Request) (word : ℕ) (u : Option ℕ) → ReadIs (Some q) (access.Read q word) u
 read_told q word None = inl (refl, refl)
@@ -111,8 +109,7 @@ write_place : (q : Request) (p : Spot) (u : Option ℕ) → WriteIs (Some q) (wr
 write_place q (spot.Ram index bank) u = write_in q u
 write_place q (spot.Reg block offset alias) u = write_out q true u
 write_place q spot.Outside u = write_out q (may_be_device q.address) u
-write_place q (spot.Sio offset) u = write_out q false u
-write_place q (spot.Ppb offset) u = write_out q false u
+write_place q _ u = write_out q false u
 
 write_is : (r : Option Request) (u : Option ℕ) → WriteIs r (write_for r) u
 write_is None u = no_write None u

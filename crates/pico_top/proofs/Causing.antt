@@ -211,8 +211,7 @@ says_all d before after status files h fine is = elim (whole d before after stat
 heard_way : (left : Option (List ℕ)) (before now status : ℕ) (way : Way) → status ≡ way_status way → IsStatus status 0 → BearsOut left before now status way → ((way ≡ Closed) ⊎ ((way ≡ Ended) × IsAtEnd left)) × (status ≡ 0)
 heard_way left before now status Closed e is borne = (inl refl, e)
 heard_way left before now status Ended e is borne = (inr (refl, elim borne.1 [ inl bad ↦ absurd (omega (arith, bad, e)) | inr end ↦ end ]), e)
-heard_way left before now status Broken e is borne = absurd (grind (arith, e, is))
-heard_way left before now status Full e is borne = absurd (grind (arith, e, is))
+heard_way left before now status _ e is borne = absurd (grind (arith, e, is))
 
 pub answers_all : AnswersAll
 answers_all d before after status files limit last bytes h fine is told rose zero = elim (whole d before after status files (Hears limit last) h fine is) [

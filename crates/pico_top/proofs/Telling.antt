@@ -103,8 +103,7 @@ tells_text text source a b steps status puts =
 bears : (left : Option (List ℕ)) (before now status : ℕ) (way : Way) → BearsOut left before now 0 way → BearsOut left before now status way
 bears left before now status Closed h = h
 bears left before now status Ended h = (h.0, elim h.1 [ inl bad ↦ absurd (omega (arith, bad)) | inr end ↦ inr end ])
-bears left before now status Broken h = h
-bears left before now status Full h = h
+bears left before now status _ h = h
 
 -- a session that was opened stands at cycle 0
 pub opened_cycle : (w : Setting) (session : Standing) (limit : ℕ) → w.limit ≡ limit → OpensAt (first_of session) limit session → session.now.cycle ≡ 0

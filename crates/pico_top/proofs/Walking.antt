@@ -30,9 +30,7 @@ use Rattle.pio_asm.specs.Placing.{placed, with_addresses}
 -- memory may run out in every dialogue
 pub no_memory : (files : Option Files) (d : Dialogue) → Walks files d NoMemory
 no_memory files (Load name limit next) = (Starved, [], tt, refl)
-no_memory files (Refuse refusal) = inr refl
-no_memory files (Say plans reply) = inr refl
-no_memory files (Hear plans limit last answers) = inr refl
+no_memory files _ = inr refl
 
 pub runs_out : (files : Option Files) (failed : List (List ℕ)) (d : Dialogue) → EndsUnopened files failed failed d Memory
 runs_out files failed d = (NoMemory, no_memory files d, refl, tt)
@@ -56,14 +54,11 @@ heard_with files plans programs limit last answers own e have is w = elim w [
 abbrev KeepsWords : Dialogue → Type 0
 KeepsWords (Load name limit next) = (bytes : List ℕ) → KeepsWords (next bytes)
 KeepsWords (Refuse refusal) = refusal ≡ BadWords → ⊥
-KeepsWords (Say plans reply) = Unit {0}
-KeepsWords (Hear plans limit last answers) = Unit {0}
+KeepsWords _ = Unit {0}
 
 after_load_keeps : (answer : Loaded) (name : List ℕ) (on : Type 0) → AfterLoad answer name (Refused BadWords) on → on
 after_load_keeps Done name on h = h
-after_load_keeps (Large long) name on h = absurd (cc h)
-after_load_keeps Failed name on h = absurd (cc h)
-after_load_keeps Starved name on h = absurd (cc h)
+after_load_keeps _ name on h = absurd (cc h)
 
 walk_keeps : (files : Option Files) (d : Dialogue) → KeepsWords d → Walks files d (Refused BadWords) → ⊥
 walk_keeps files (Load name limit next) keeps h = walk_keeps files (next h.1) (keeps h.1) (after_load_keeps h.0 name _ h.3)

@@ -40,8 +40,7 @@ stays m h a d = stays-by m.tx m refl h a d
 
 high_beside : (source : WaitSource) (number : ℕ) (seen : Seen) (m : Machine1) (a d : ℕ) → is_high source number seen (record m { acc = a; delay = d }) ≡ is_high source number seen m
 high_beside (source.Gpio pin) number seen m a d = refl
-high_beside (source.Pin pin) number seen m a d = refl
-high_beside (source.Irq index) number seen m a d = refl
+high_beside _ number seen m a d = refl
 
 pub stuck_wait : (polarity : Bool) (source : WaitSource) (number : ℕ) (seen : Seen) (m : Machine1)
     → is_met polarity source number seen m ≡ false → loads m.tx m ≡ false → IsStuck (Wait polarity source) number seen m

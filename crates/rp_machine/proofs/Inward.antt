@@ -145,26 +145,17 @@ done_there request (spot.Reg block offset alias) granted o e = refl
 done_there request (spot.Ram index bank) granted o e = refl
 done_there request (spot.Sio offset) true o e = refl
 done_there request (spot.Sio offset) false o e = absurd (cc e)
-done_there request (spot.Ppb offset) granted o e = refl
-done_there request spot.Outside granted o e = refl
+done_there request _ granted o e = refl
 
 -- and they have its word
 theirs : (w : Setting) (seen : SeenOutputs) (r : Request) (p : Part) (offset alias : ℕ) (s : State) → is_theirs p offset ≡ true → opens p r offset alias (part_word p offset w seen s) ≡ true
 unfolding part_word
 theirs w seen r (Outer block) offset alias s e = sym (opens_outer w seen r block offset alias s.outer) ∙ e
-theirs w seen r Resets offset alias s e = absurd (cc e)
-theirs w seen r Fabric offset alias s e = absurd (cc e)
-theirs w seen r Dma offset alias s e = absurd (cc e)
-theirs w seen r Pio0 offset alias s e = absurd (cc e)
-theirs w seen r Pio1 offset alias s e = absurd (cc e)
+theirs w seen r _ offset alias s e = absurd (cc e)
 
 last_theirs : (p : Part) (offset : ℕ) (o : OuterState) → lasts_at p offset o ≡ true → is_theirs p offset ≡ true
 last_theirs (Outer block) offset o e = (both (outer_allowed block offset) _ e).0
-last_theirs Resets offset o e = cc e
-last_theirs Fabric offset o e = cc e
-last_theirs Dma offset o e = cc e
-last_theirs Pio0 offset o e = cc e
-last_theirs Pio1 offset o e = cc e
+last_theirs _ offset o e = cc e
 
 reads_theirs : (granted : Bool) (r : Request) (p : Part) (offset : ℕ) (o : OuterState) → (if granted then is_none r.write && lasts_at p offset o else is_theirs p offset) ≡ true → is_theirs p offset ≡ true
 reads_theirs true r p offset o e = last_theirs p offset o (both (is_none r.write) _ e).1
@@ -178,10 +169,7 @@ has_word : (w : Setting) (seen : SeenOutputs) (m : Master) (r : Request) (at : S
     → is_open r at (word_for w seen m r.address at s) ≡ true
 unfolding word_for
 has_word w seen m r (spot.Reg block offset alias) granted s o e = theirs w seen r (part_of block) offset alias s (reads_theirs granted r (part_of block) offset o e)
-has_word w seen m r (spot.Ram index bank) granted s o e = absurd (nowhere granted e)
-has_word w seen m r (spot.Sio offset) granted s o e = absurd (nowhere granted e)
-has_word w seen m r (spot.Ppb offset) granted s o e = absurd (nowhere granted e)
-has_word w seen m r spot.Outside granted s o e = absurd (nowhere granted e)
+has_word w seen m r _ granted s o e = absurd (nowhere granted e)
 
 -- ---- a read that lasts
 
@@ -196,19 +184,13 @@ same_word w seen (Outer block) offset s u h e =
     let lasts = (both (outer_allowed block offset) _ e).1 in
     ap (λ (x : Option ℕ). unwrap_or x 0) (lasting_word w seen block offset s.outer u.outer lasts ∙ h.reads block offset lasts)
 same_word w seen Resets offset s u h e = cc e
-same_word w seen Fabric offset s u h e = cc e
-same_word w seen Dma offset s u h e = cc e
-same_word w seen Pio0 offset s u h e = cc e
-same_word w seen Pio1 offset s u h e = cc e
+same_word w seen _ offset s u h e = cc e
 
 told_same : (w : Setting) (seen : SeenOutputs) (r : Request) (at : Spot) (s u : State) → ReadsSame w u.outer seen s → is_lasting r at s.outer ≡ true
     → unwrap_or (word_for w seen master.Core0 r.address at u) 0 ≡ read_there at s.outer
 unfolding word_for
 told_same w seen r (spot.Reg block offset alias) s u h e = same_word w seen (part_of block) offset s u h (both (is_none r.write) _ e).1
-told_same w seen r (spot.Ram index bank) s u h e = cc e
-told_same w seen r (spot.Sio offset) s u h e = cc e
-told_same w seen r (spot.Ppb offset) s u h e = cc e
-told_same w seen r spot.Outside s u h e = cc e
+told_same w seen r _ s u h e = cc e
 
 -- it does nothing, neither to the peripherals nor to SRAM
 part_stays : (w : Setting) (o : OuterState) (seen : SeenOutputs) (p : Part) (offset : ℕ) (s q : State) → ReadsSame w o seen s → q.outer ≡ outer.next w o seen → lasts_at p offset s.outer ≡ true
@@ -218,10 +200,7 @@ part_stays w o seen (Outer block) offset s q h same e =
     ap (λ (x : OuterState). record q { outer = x })
     (lasting_stays block offset q.outer (ap (is_lasting_read block offset) same ∙ h.lasts block offset (both (outer_allowed block offset) _ e).1))
 part_stays w o seen Resets offset s q h same e = cc e
-part_stays w o seen Fabric offset s q h same e = cc e
-part_stays w o seen Dma offset s q h same e = cc e
-part_stays w o seen Pio0 offset s q h same e = cc e
-part_stays w o seen Pio1 offset s q h same e = cc e
+part_stays w o seen _ offset s q h same e = cc e
 
 no_write : (r : Request) (write : Option ℕ) (alias word : ℕ) → is_none write ≡ true → plain_write r write alias word ≡ None
 no_write r None alias word e = refl
@@ -235,16 +214,11 @@ read_does w o seen found r (spot.Reg block offset alias) s u q h same e =
     ap (λ (write : Option ℕ). part_accessed (part_of block) offset write q) (no_write r r.write alias _ parts.0)
     ∙ part_stays w o seen (part_of block) offset s q h same parts.1
 read_does w o seen found r (spot.Ram index bank) s u q h same e = cc e
-read_does w o seen found r (spot.Sio offset) s u q h same e = cc e
-read_does w o seen found r (spot.Ppb offset) s u q h same e = cc e
-read_does w o seen found r spot.Outside s u q h same e = cc e
+read_does w o seen found r _ s u q h same e = cc e
 
 read_stores : (w : Setting) (seen : SeenOutputs) (r : Request) (at : Spot) (u q : State) → with_store (accessed_at w seen r at u) q ≡ q
 read_stores w seen r (spot.Reg block offset alias) u q = refl
-read_stores w seen r (spot.Ram index bank) u q = refl
-read_stores w seen r (spot.Sio offset) u q = refl
-read_stores w seen r (spot.Ppb offset) u q = refl
-read_stores w seen r spot.Outside u q = refl
+read_stores w seen r _ u q = refl
 
 -- ---- an access to the peripherals
 
@@ -288,8 +262,7 @@ inward_same w p q c d o s b seen (want.Ram request) h r e =
     (no_deed_where w _ (granted_alone (want.Ram request) s) request (with_beside q d (outer.next w o seen) (reached b (want.Ram request) s)))
     ∙ inward_end w q d o s b seen (want.Ram request) h
 inward_same w p q c d o s b seen (want.Outward request) h r e = outward_by w p q c d o s b seen request (granted_alone (want.Outward request) s) h r refl e
-inward_same w p q c d o s b seen want.Signal h r e = cc
-inward_same w p q c d o s b seen (want.Stopped cause) h r e = cc
+inward_same w p q c d o s b seen _ h r e = cc
 
 pub onward : (w : Setting) (p q : Blocks) (c d : Core) (o : OuterState) (s : State) → AgreeWithSio d o s → IsCore0Alone (with_beside p c o s) q d → TellsSame p c o s
     → ReadsSame w o (begun (with_beside p c o s)).outer s → goes_inward s ≡ true → next w (with_beside p c o s) ≡ with_beside q d (outer.next w o (begun (with_beside p c o s)).outer) (inward_next (begun s).core0 (core0_want s) s)

@@ -22,10 +22,7 @@ both false b h = absurd (cc h)
 
 pub nothing : (v : Want) → is_nothing v ≡ true → v ≡ want.Nothing
 nothing want.Nothing h = refl
-nothing (want.Ram request) h = absurd (cc h)
-nothing (want.Outward request) h = absurd (cc h)
-nothing want.Signal h = absurd (cc h)
-nothing (want.Stopped cause) h = absurd (cc h)
+nothing _ h = absurd (cc h)
 
 -- where no want is left, nothing is wanted in the cycle
 pub wantless_four : (w : Setting) (b : Begun) (x0 x1 x2 x3 : Wanted) (s : State)

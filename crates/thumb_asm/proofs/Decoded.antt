@@ -82,8 +82,7 @@ item_exact address target (BranchIf condition name) r w = of_condition _ _ w
 item_exact address target (Word k) r w = refl
 item_exact address target (WordAt name k) r w = refl
 item_exact address target (Half k) r w = refl
-item_exact address target (Space k) r w = length-replicate _ _
-item_exact address target Align r w = length-replicate _ _
+item_exact address target _ r w = length-replicate _ _
 
 -- ---- lines without a fault
 
@@ -162,14 +161,7 @@ item_decoded bytes tail address target (Address d name) w = of_op bytes tail _ w
 item_decoded bytes tail address target (Branch name) w = of_op bytes tail _ w
 item_decoded bytes tail address target (Call name) w = of_op bytes tail _ w
 item_decoded bytes tail address target (BranchIf condition name) w = of_op bytes tail _ w
-item_decoded bytes tail address target Empty w = tt
-item_decoded bytes tail address target (OutOfRange size) w = tt
-item_decoded bytes tail address target (WrongRegister size) w = tt
-item_decoded bytes tail address target (Word k) w = tt
-item_decoded bytes tail address target (WordAt name k) w = tt
-item_decoded bytes tail address target (Half k) w = tt
-item_decoded bytes tail address target (Space k) w = tt
-item_decoded bytes tail address target Align w = tt
+item_decoded bytes tail address target _ w = tt
 
 -- ---- the lines of a source
 

@@ -61,8 +61,7 @@ item_fits address target (BranchIf condition name) = of_condition _ _
 item_fits address target (Word k) = lit≤ tt
 item_fits address target (WordAt name k) = lit≤ tt
 item_fits address target (Half k) = lit≤ tt
-item_fits address target (Space k) = rw length-replicate (omega arith)
-item_fits address target Align = rw length-replicate (omega arith)
+item_fits address target _ = rw length-replicate (omega arith)
 
 pub line_fits : (names : Names) (address : ℕ) (code : List ℕ) → address + length (line_bytes names address code) ≤ address_after address code
 unfolding line_bytes address_after

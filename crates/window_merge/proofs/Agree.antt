@@ -1,11 +1,6 @@
 -- Tests of numbers and of two parts; and two functions whose answers do not differ begin the same.
-use Rattle.std.proofs.Common.{◌≡◌, ℕ, Bool, true, false, not, ◌||◌, ◌&&◌, nat_eq, refl, ap, ◌∙◌}
-use Rattle.std.proofs.lemmas.Bool.{eq-eqb, eqb-true, not-false, or_parts}
-use Rattle.lane_look.specs.Asking.{Asking, answered}
-use Rattle.lane_look.specs.Asking.Asking.{Ready, Question}
-use Rattle.lane_look.specs.declared.lane.Ask.{Ask}
+use Rattle.window_merge.proofs.Shared.{Ask, Asking, Bool, Question, Ready, answered, ap, differs, eq-eqb, eqb-true, false, nat_eq, not, not-false, or_parts, refl, true, ℕ, ◌&&◌, ◌||◌, ◌∙◌, ◌≡◌}
 use Rattle.lane_look.specs.Replay.{asked}
-use Rattle.lane_look.specs.Alone.{differs}
 
 -- none of six is true
 pub six_false : (a b c d f g : Bool) → a || (b || (c || (d || (f || (g || false))))) ≡ false

@@ -1,20 +1,11 @@
 -- The peripherals that run alone ask the same in each cycle, and their run never ends early.
-use Rattle.std.proofs.Common.{◌≡◌, ℕ, zero, suc, ◌+◌, Bool, true, false, List, ◌∷◌, ◌++◌, refl, ap, sym, ◌∙◌}
-use Rattle.lane_look.specs.declared.lane.Ask.{Ask}
+use Rattle.window_merge.proofs.Shared.{Ask, Bool, List, Questions, SeenOutputs, Setting, alone, alone_length, answer_of, ap, around, asking_lane, begun_alone, ends_at, false, is_used, least, peripheral_lane, questions, questions_of, refl, second_question, suc, sym, true, zero, ℕ, ◌++◌, ◌+◌, ◌∙◌, ◌∷◌, ◌≡◌}
 use Rattle.lane_look.specs.declared.lane.Ask.TheVariants as ask
 use Rattle.lane_look.specs.Replay.{Entry, asked}
-use Rattle.lane_look.specs.Alone.{begun_alone, alone, ends_at, least, alone_length}
-use Rattle.io_bank.specs.Levels.{is_used}
-use Rattle.outer_lane.specs.Setting.{Setting}
-use Rattle.outer_lane.specs.declared.world.SeenOutputs.{SeenOutputs}
 use Rattle.outer_lane.specs.State.{State as OuterState}
 use Rattle.outer_lane.specs.Step.{next_by, next, pads_by, asks_second, asks, pins_in, no_pins}
 use Rattle.rp_machine.specs.State.{State}
-use Rattle.rp_machine.specs.Answers.{answer_of}
-use Rattle.window_merge.specs.declared.questions.Questions.{Questions}
-use Rattle.window_merge.specs.Lanes.{around, peripheral_lane}
 use Rattle.window_merge.proofs.Copying.{first_same}
-use Rattle.window_merge.specs.Questions.{questions_of, second_question, questions, asking_lane}
 
 -- a cycle changes no function of a pin
 uses_same : (w : Setting) (s : OuterState) (seen : SeenOutputs) → questions_of (next w s seen) ≡ questions_of s

@@ -1,8 +1,6 @@
 -- A spot in SRAM has the index of a word and is in one of the six banks, and is reached through its port.
 use Rattle.std.proofs.Common.{◌≡◌, ℕ, ◌<◌, ◌≤◌, ◌-◌, ◌&&◌, Bool, true, false, nat_le, if◌then◌else◌, List, [], ◌∷◌, refl, arith}
-use Rattle.std.proofs.lemmas.Bool.{leb-true, and_parts}
-use Rattle.rp_base.specs.Map.{Range, place_by, ranges, place_of}
-use Rattle.rp_base.specs.declared.map.Spot.{Spot}
+use Rattle.window_merge.proofs.Shared.{Range, Spot, and_parts, leb-true, place_by, place_of, ranges}
 use Rattle.rp_base.specs.declared.map.Spot.TheVariants as spot
 
 abbrev pub HasBank : Spot → Type 0

@@ -1,18 +1,10 @@
 -- A look that answers by a log, and compares its answers with the machine's.
-use Rattle.std.proofs.Common.{◌≡◌, ℕ, Bool, true, false, not, ◌&&◌, ◌||◌, nat_eq, [], ◌∷◌, Option, Some, None, refl, ap, sym, ◌∙◌, subst}
-use Rattle.std.proofs.Math.Bool.{and-true}
+use Rattle.window_merge.proofs.Shared.{Ask, Bool, None, Option, Question, Ready, Some, Want, [], and-true, answer_of, ap, asked_of, clash, differs, false, is_port_of, nat_eq, not, refl, share_port, subst, sym, true, ℕ, ◌&&◌, ◌||◌, ◌∙◌, ◌∷◌, ◌≡◌}
 use Rattle.lane_look.specs.Asking.{Asking, Runs}
-use Rattle.lane_look.specs.Asking.Asking.{Ready, Question}
-use Rattle.lane_look.specs.declared.lane.Ask.{Ask}
-use Rattle.lane_look.specs.declared.lane.Want.{Want}
 use Rattle.lane_look.specs.declared.lane.Want.TheVariants as want
 use Rattle.lane_look.specs.Replay.{first_answer, others, told, left, talk}
-use Rattle.lane_look.specs.Alone.{differs}
 use Rattle.rp_machine.specs.State.{State}
-use Rattle.rp_machine.specs.Answers.{answer_of}
-use Rattle.rp_machine.specs.Deeds.{asked_of}
 use Rattle.window_merge.specs.declared.compare.Comparer.{Comparer}
-use Rattle.window_merge.specs.Window.{is_port_of, share_port, clash}
 use Rattle.window_merge.proofs.Agree.{all_same}
 
 -- what was begun by the log, what is left of it, and whether the answers are the same
@@ -60,8 +52,7 @@ unfolding asked_of
 shares_none want.Nothing = refl
 shares_none (want.Ram request) = no_port (asked_of (want.Ram request))
 shares_none (want.Outward request) = no_port (asked_of (want.Outward request))
-shares_none want.Signal = refl
-shares_none (want.Stopped cause) = refl
+shares_none _ = refl
 
 bools : (a b c d e f : Bool) → ((a || (b || (c || false))) || ((d || (e || false)) || ((f || false) || false))) ≡ a || (b || (c || (d || (e || f))))
 bools true b c d e f = refl

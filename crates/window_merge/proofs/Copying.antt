@@ -1,36 +1,15 @@
 -- A lane that runs alone by copies goes the way of one that runs alone in the state that was copied.
-use Rattle.std.specs.Prelude.{is_some}
-use Rattle.std.proofs.Common.{◌≡◌, ◌==◌, ℕ, zero, suc, ◌+◌, Bool, true, false, if◌then◌else◌, List, [], ◌∷◌, Option, Some, None, refl, ap, ◌∙◌}
-use Rattle.rp_base.specs.declared.Request.{Request}
-use Rattle.rp_base.specs.Map.{place_of}
-use Rattle.lane_look.specs.Asking.{Asking, answered}
-use Rattle.lane_look.specs.Asking.Asking.{Ready, Question}
-use Rattle.lane_look.specs.declared.lane.Ask.{Ask}
+use Rattle.window_merge.proofs.Shared.{Ask, Asking, Bool, Copies, IsRunAlone, List, Mark, None, Option, Question, RanIn, Ready, Report, Request, Setting, Some, Want, [], answer_of, answered, answered_same, ap, around, asks_sram, block_lines, copied, copied_answer, copied_store, copies_of, false, if◌then◌else◌, inputs_of, is_some, is_used, lines_of, outs_of, pacing_of, packed_pair, peripheral_lane, pio_lane, place_of, refl, stored, stored_at, stored_by, stored_in, suc, true, zero, ℕ, ◌+◌, ◌==◌, ◌∙◌, ◌∷◌, ◌≡◌}
 use Rattle.lane_look.specs.declared.lane.Ask.TheVariants as ask
-use Rattle.lane_look.specs.declared.lane.Want.{Want}
 use Rattle.lane_look.specs.declared.lane.Want.TheVariants as want
-use Rattle.lane_look.specs.declared.marks.Mark.{Mark}
 use Rattle.lane_look.specs.Replay.{Meaning, Entry, asked, after_begun, marks_with}
 use Rattle.lane_look.specs.Alone.{Surroundings, Alone, all_stored, begun_alone, alone_cycle, alone, ends_wants, ends_now, ends_at, first_from, least, alone_length}
 use Rattle.rp_machine.specs.State.{State}
-use Rattle.rp_machine.specs.Cycle.{stored}
-use Rattle.rp_machine.specs.Deeds.{stored_at}
-use Rattle.io_bank.specs.Levels.{is_used}
-use Rattle.outer_lane.specs.Setting.{Setting}
 use Rattle.outer_lane.specs.State.{State as OuterState}
 use Rattle.outer_lane.specs.Step as outer
 use Rattle.pio_block.specs.State.{State as Pio, is_busy}
 use Rattle.pio_block.specs.Cycle as pio_cycle
 use Rattle.pio_block.specs.Words as pio
-use Rattle.rp_machine.specs.Answers.{packed_pair, block_lines, lines_of, pacing_of, inputs_of, outs_of, answer_of}
-use Rattle.rp_machine.proofs.Inward.{answered_same}
-use Rattle.window_merge.specs.Lanes.{stored_by, around, pio_lane, peripheral_lane}
-use Rattle.window_merge.specs.Kinds.{asks_sram}
-use Rattle.window_merge.specs.declared.copies.Copies.{Copies}
-use Rattle.window_merge.specs.Around.{copies_of, copied_answer, stored_in, copied_store, copied}
-use Rattle.window_merge.specs.Merging.{IsRunAlone}
-use Rattle.window_merge.specs.Jobs.{RanIn}
-use Rattle.lane_look.specs.declared.replay.Report.{Report}
 
 -- ---- two functions that answer the same
 
@@ -145,9 +124,7 @@ stores_copied : (lane : ℕ) (s : State) (v : Want) → copied_store (copies_of 
 unfolding lines_of block_lines pacing_of inputs_of outs_of
 stores_copied lane s want.Nothing = refl
 stores_copied lane s (want.Ram request) = ap (λ (ram : Option (List ℕ)). record (copies_of lane s) { ram = ram }) (stored_if (asks_sram lane) s.sram request)
-stores_copied lane s (want.Outward request) = refl
-stores_copied lane s want.Signal = refl
-stores_copied lane s (want.Stopped cause) = refl
+stores_copied lane s _ = refl
 
 -- a lane that asks for words of SRAM has a copy of it
 pub with_sram : {S B : Type 0} (m : Meaning (Unit {0}) S B) (lane : ℕ) → asks_sram lane ≡ true → Copied copied (around lane) (copies_of lane) m tt
@@ -206,9 +183,7 @@ copy_kept request (Some ram) = refl
 store_kept : (c : Copies) (v : Want) → is_some (copied_store c v).ram ≡ is_some c.ram
 store_kept c want.Nothing = refl
 store_kept c (want.Ram request) = copy_kept request c.ram
-store_kept c (want.Outward request) = refl
-store_kept c want.Signal = refl
-store_kept c (want.Stopped cause) = refl
+store_kept c _ = refl
 
 wants_kept : (c : Copies) (wants : List Want) → is_some (all_stored copied c wants).ram ≡ is_some c.ram
 wants_kept c [] = refl

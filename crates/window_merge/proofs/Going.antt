@@ -1,12 +1,8 @@
 -- The way to a cycle goes along the states of the run.
 use Rattle.std.proofs.Common.{◌≡◌, ℕ, ◌+◌, ◌-◌, ◌<◌, ◌≤◌, Some, None, refl, ap, sym, ◌∙◌, subst, arith}
-use Rattle.rp_base.specs.declared.Why.{Why}
-use Rattle.outer_lane.specs.Setting.{Setting}
+use Rattle.window_merge.proofs.Shared.{Setting, Why, next_cycle, runs_follow, states, states_here}
 use Rattle.rp_machine.specs.State.{State}
 use Rattle.rp_machine.specs.Cycle.{stop, next}
-use Rattle.rp_machine.specs.Run.{states}
-use Rattle.rp_machine.proofs.Joining.{runs_follow}
-use Rattle.rp_machine.proofs.Runs.{states_here, next_cycle}
 use Rattle.window_merge.proofs.Positions.{along_states}
 use Rattle.window_merge.proofs.Windows.{one_more}
 

@@ -1,34 +1,18 @@
 -- What a core and the DMA engine want of SRAM is in SRAM.
-use Rattle.std.proofs.Common.{◌≡◌, ℕ, ◌%◌, ◌^◌, Bool, true, false, if◌then◌else◌, Option, Some, None, refl, ap}
-use Rattle.rp_base.specs.declared.Request.{Request}
-use Rattle.rp_base.specs.declared.Why.{Why}
-use Rattle.rp_base.specs.declared.map.Spot.{Spot}
+use Rattle.window_merge.proofs.Shared.{Act, Ask, Asking, Beat, Bool, DmaRead, DmaWrite, Doing, Master, None, Option, Pacing, Question, Ready, Request, Some, Spot, Want, Why, Work, answered, ap, false, if◌then◌else◌, list_any, place_of, refl, true, ℕ, ◌%◌, ◌^◌, ◌≡◌}
 use Rattle.rp_base.specs.declared.map.Spot.TheVariants as spot
 use Rattle.rp_base.specs.declared.op.Op.{Op}
-use Rattle.rp_base.specs.Map.{place_of}
 use Rattle.thumb_rows.specs.Rows.{operation_of}
-use Rattle.m0_beats.specs.declared.timing.Beat.{Beat}
 use Rattle.m0_beats.specs.declared.timing.Beat.TheVariants.{Inner, Access}
-use Rattle.lane_look.specs.Asking.{Asking, answered}
-use Rattle.lane_look.specs.Asking.Asking.{Ready, Question}
-use Rattle.lane_look.specs.declared.lane.Ask.{Ask}
-use Rattle.lane_look.specs.declared.lane.Ask.TheVariants.{Pacing}
-use Rattle.std.specs.List.{list_any}
-use Rattle.lane_look.specs.declared.lane.Want.{Want}
 use Rattle.lane_look.specs.declared.lane.Want.TheVariants as want
-use Rattle.m0_core.specs.declared.doing.Act.{Act}
 use Rattle.m0_core.specs.declared.doing.Act.TheVariants as act
-use Rattle.m0_core.specs.declared.doing.Work.{Work}
 use Rattle.m0_core.specs.declared.doing.Work.TheVariants as works
-use Rattle.m0_core.specs.declared.doing.Doing.{Doing}
 use Rattle.m0_core.specs.State.{State}
 use Rattle.m0_core.specs.Fetch.{is_ram_spot, in_ram, at_spot, in_beat, beat_of_work, asks_fault, asks_beat, asks_return, asks_decoded, asks_half, asks_second, asks_first, asks_taken, asks_boundary, asks_work, asks_next, asks_awake, carried, asks, taken_of}
 use Rattle.m0_core.specs.Cycle as core
 use Rattle.dma_engine.specs.declared.begun.Access.{Access as DmaAccess}
 use Rattle.dma_engine.specs.declared.begun.Access.TheVariants as access
 use Rattle.dma_engine.specs.declared.begun.BegunTransfer.{BegunTransfer as DmaDoing}
-use Rattle.rp_base.specs.declared.Master.{Master}
-use Rattle.rp_base.specs.declared.Master.TheVariants.{DmaRead, DmaWrite}
 use Rattle.dma_engine.specs.State.{State as Engine}
 use Rattle.dma_engine.specs.Asks as dma_asks
 use Rattle.dma_engine.specs.Cycle as dma
@@ -77,9 +61,7 @@ in_ram_placed f work request (Some value) e = record { met = record { placed = e
 at_spot_placed : (f : Ask → ℕ) (work : Work) (request : Request) (s : State) (spot : Spot) → place_of request.address ≡ spot → Begins Placed f (at_spot work request s spot)
 at_spot_placed f work request s (spot.Ram index bank) e = in_ram_placed f work request request.write (ap is_ram_spot e)
 at_spot_placed f work request s (spot.Ppb offset) e = either Placed f _ _ _ (ready f _ (private_act_placed work request offset)) (ready f _ (stop_placed _))
-at_spot_placed f work request s (spot.Reg block offset alias) e = ready f _ (outward_act_placed work request)
-at_spot_placed f work request s (spot.Sio offset) e = ready f _ (outward_act_placed work request)
-at_spot_placed f work request s spot.Outside e = ready f _ (outward_act_placed work request)
+at_spot_placed f work request s _ e = ready f _ (outward_act_placed work request)
 
 in_beat_placed : (f : Ask → ℕ) (work : Work) (s : State) (beat : Beat) → Begins Placed f (in_beat work s beat)
 in_beat_placed f work s Inner = ready f (act.Inner work) (record { placed = signal_or_nothing (core.signals work) })
@@ -165,8 +147,7 @@ write_placed : (request : Request) (spot : Spot) → place_of request.address �
 write_placed request (spot.Ram index bank) e = ap is_ram_spot e
 write_placed request (spot.Reg block offset alias) e = tt
 write_placed request spot.Outside e = outside_placed DmaWrite request
-write_placed request (spot.Sio offset) e = tt
-write_placed request (spot.Ppb offset) e = tt
+write_placed request _ e = tt
 
 write_for_placed : (request : Option Request) → AccessIsPlaced (dma_asks.write_for request)
 write_for_placed None = tt
@@ -180,8 +161,7 @@ read_at_placed : (f : Ask → ℕ) (counts : ℕ) (write : DmaAccess) (request :
 read_at_placed f counts write request (spot.Ram index bank) e w = record { met = record { read = ap is_ram_spot e; write = w } }
 read_at_placed f counts write request (spot.Reg block offset alias) e w = record { met = record { read = tt; write = w } }
 read_at_placed f counts write request spot.Outside e w = record { met = record { read = outside_placed DmaRead request; write = w } }
-read_at_placed f counts write request (spot.Sio offset) e w = record { met = record { read = tt; write = w } }
-read_at_placed f counts write request (spot.Ppb offset) e w = record { met = record { read = tt; write = w } }
+read_at_placed f counts write request _ e w = record { met = record { read = tt; write = w } }
 
 read_for_placed : (f : Ask → ℕ) (counts : ℕ) (write : DmaAccess) (request : Option Request) → AccessIsPlaced write → Begins ArePlaced f (dma_asks.asks_for counts write request)
 read_for_placed f counts write None w = record { met = record { read = tt; write = w } }

@@ -1,26 +1,12 @@
 -- Cycles of a window as long as core 0 alone is at work in SRAM beside lanes that are quiet: the start answers each lane as the machine does.
 use Rattle.std.proofs.Common.{◌≡◌, ℕ, zero, suc, ◌+◌, ◌%◌, ◌^◌, ◌<◌, ◌≤◌, ◌==◌, ◌||◌, ◌&&◌, nat_eq, not, add-one, Bool, true, false, if◌then◌else◌, List, [], ◌∷◌, ◌++◌, length, length-append, Option, Some, None, refl, sym, ap, subst, ◌∙◌, below_more, arith}
-use Rattle.std.specs.Prelude.{slice_index}
-use Rattle.std.specs.List.{list_any}
-use Rattle.std.proofs.Math.Bool.{or-true, not-not}
-use Rattle.std.proofs.lemmas.Bool.{eqb-true, and_parts}
+use Rattle.window_merge.proofs.Shared.{Act, AreBlocksQuiet, Ask, Asking, Begun, Blocks, DmaRead, GoesAsAlone, HasRoom, IsCore0Alone, IsCore1Quiet, KeepsInward, Mark, MayGoAlone, Notes, Question, Ready, Request, SeenOutputs, Setting, Spot, Start, Want, Wanted, alone_by, and_parts, answer_of, answered, begun, begun_same, beside, beside_after, blocks_after, clash, core0_goes_on_alone, core1_after, differs, ends_want, eqb-true, fewer, inputs_of, is_clean, is_first_alone, lines_of, lines_on, lines_stay, list_any, mark, marks_in, no_notes, not-not, noted_by, noted_core0, noted_in, noted_inward, or-true, outs_on, pacing_on, packed_pair, place_of, same_marks, seen_later, seen_number, seen_of, slice_index, states, stayed, stays_after, tell_on, told_both, wanted, wants_of}
 use Rattle.std.proofs.lemmas.List.{append-nil, append_assoc}
-use Rattle.rp_base.specs.declared.Request.{Request}
-use Rattle.rp_base.specs.declared.Master.TheVariants.{DmaRead}
-use Rattle.rp_base.specs.declared.map.Spot.{Spot}
 use Rattle.rp_base.specs.declared.map.Spot.TheVariants as spot
-use Rattle.rp_base.specs.Map.{place_of}
-use Rattle.lane_look.specs.Asking.{Asking, answered}
-use Rattle.lane_look.specs.Asking.Asking.{Ready, Question}
-use Rattle.lane_look.specs.declared.lane.Ask.{Ask}
 use Rattle.lane_look.specs.declared.lane.Ask.TheVariants as ask
-use Rattle.lane_look.specs.declared.lane.Want.{Want}
 use Rattle.lane_look.specs.declared.lane.Want.TheVariants as want
-use Rattle.lane_look.specs.declared.marks.Mark.{Mark}
 use Rattle.lane_look.specs.Replay.{asked}
-use Rattle.lane_look.specs.Alone.{differs, ends_want}
 use Rattle.m0_core.specs.State.{State as Core}
-use Rattle.m0_core.specs.declared.doing.Act.{Act}
 use Rattle.m0_core.specs.declared.doing.Act.TheVariants.{Asleep}
 use Rattle.m0_core.specs.Fetch as core_asks
 use Rattle.m0_core.specs.Cycle as core
@@ -34,35 +20,16 @@ use Rattle.pio_block.specs.State.{State as Pio, is_busy}
 use Rattle.pio_block.specs.Cycle as pio
 use Rattle.io_bank.specs.State.{State as Bank}
 use Rattle.io_bank.specs.Levels.{is_used, inputs_of as inputs_of_pads}
-use Rattle.outer_lane.specs.Setting.{Setting}
 use Rattle.outer_lane.specs.State.{State as OuterState}
-use Rattle.outer_lane.specs.declared.world.SeenOutputs.{SeenOutputs}
 use Rattle.outer_lane.specs.Step as outer
 use Rattle.outer_lane.specs.Quiet.{IsQuiet, seen_in, outer_after}
-use Rattle.rp_machine.specs.declared.begun.Begun.{Begun}
-use Rattle.rp_machine.specs.declared.wanted.Wanted.{Wanted}
 use Rattle.rp_machine.specs.State.{State}
-use Rattle.rp_machine.specs.Answers.{answer_of, lines_of, packed_pair, inputs_of}
-use Rattle.rp_machine.specs.Cycle.{begun, wanted, mark}
-use Rattle.rp_machine.specs.Run.{states}
-use Rattle.rp_machine.specs.Alone.{Blocks, AreBlocksQuiet, IsCore1Quiet, IsCore0Alone, beside, blocks_after, core1_after, is_first_alone}
 use Rattle.rp_machine.specs.Wantless.{is_nothing}
 use Rattle.rp_machine.specs.Inward.{TellsSame, GoesAlone, StaysInward, core0_want, inward_after, onward_after}
 use Rattle.rp_machine.proofs.Going.{fewer_cycles, core_fewer}
 use Rattle.rp_machine.proofs.OneCore.{first_want, wanted_alone}
-use Rattle.rp_machine.proofs.Quietly.{seen_later, seen_number}
 use Rattle.rp_machine.proofs.Wantless.{nothing}
-use Rattle.rp_machine.proofs.Inward.{begun_same, stays_after, lines_on, pacing_on, outs_on, tell_on, stayed, told_both, alone_by, beside_after, core0_goes_on_alone, lines_stay}
-use Rattle.quiet_run.specs.Parts.{MayGoAlone}
-use Rattle.quiet_run.proofs.Passing.{fewer}
-use Rattle.window_merge.specs.declared.notes.Notes.{Notes}
-use Rattle.window_merge.specs.declared.start.Start.{Start}
-use Rattle.window_merge.specs.Notes.{is_clean, no_notes, noted_by, seen_of, HasRoom}
 use Rattle.window_merge.specs.Start.{start_of, guess, begun_from, differs_from, ends_wanted, goes_by, goes_first, goes_on}
-use Rattle.window_merge.specs.Window.{clash}
-use Rattle.window_merge.specs.Merging.{wants_of, marks_in}
-use Rattle.window_merge.specs.Inward.{noted_in, noted_core0, noted_inward, same_marks, GoesAsAlone}
-use Rattle.window_merge.specs.Inward.{KeepsInward}
 use Rattle.window_merge.proofs.Agree.{itself}
 use Rattle.window_merge.proofs.Comparing.{shares_none, clash_four}
 use Rattle.window_merge.proofs.Lanes.{tree, Each, every, on_each}

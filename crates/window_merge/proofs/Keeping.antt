@@ -1,20 +1,14 @@
 -- What a cycle of a lane leaves of the copies that it has of the rest of the machine.
 use Rattle.std.proofs.Common.{◌≡◌, ◌==◌, ◌+◌, nat_lt, slice_get, ℕ, Bool, true, false, if◌then◌else◌, List, Option, Some, None, refl, ◌∙◌}
-use Rattle.rp_base.specs.declared.Request.{Request}
-use Rattle.lane_look.specs.declared.lane.Turn.{Turn}
-use Rattle.m0_core.specs.declared.doing.Act.{Act}
+use Rattle.window_merge.proofs.Shared.{Act, Doing, Request, SeenOutputs, Setting, Turn, Work}
 use Rattle.m0_core.specs.declared.doing.Act.TheVariants as act
-use Rattle.m0_core.specs.declared.doing.Work.{Work}
 use Rattle.m0_core.specs.declared.doing.Work.TheVariants as works
-use Rattle.m0_core.specs.declared.doing.Doing.{Doing}
 use Rattle.m0_nvic.specs.Changes.{entered}
 use Rattle.m0_core.specs.State.{State}
 use Rattle.m0_core.specs.Entry.{taken_first, entry_ended}
 use Rattle.m0_core.specs.Return.{return_ended}
 use Rattle.m0_core.specs.Private.{private_value, accessed}
 use Rattle.m0_core.specs.Cycle as core
-use Rattle.outer_lane.specs.Setting.{Setting}
-use Rattle.outer_lane.specs.declared.world.SeenOutputs.{SeenOutputs}
 use Rattle.outer_lane.specs.State.{State as OuterState}
 use Rattle.outer_lane.specs.Step as outer
 

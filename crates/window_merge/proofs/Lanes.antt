@@ -1,19 +1,9 @@
 -- One lane of a window: where it stands after k cycles, and what its run alone makes of the next one; what holds of each of six.
 use Rattle.std.proofs.Common.{◌≡◌, ◌≢◌, ℕ, zero, suc, ◌+◌, ◌<◌, ◌≤◌, Bool, true, false, if◌then◌else◌, inl, inr, List, ◌++◌, refl, ap, sym, ◌∙◌, arith}
-use Rattle.std.proofs.lemmas.Bool.Decides.{eqb_tells}
-use Rattle.lane_look.specs.Asking.{Asking, answered}
-use Rattle.lane_look.specs.declared.lane.Ask.{Ask}
-use Rattle.lane_look.specs.declared.replay.Report.{Report}
+use Rattle.window_merge.proofs.Shared.{Alone, Ask, Asking, Begun, IsRunAlone, Report, Setting, alone, alone_length, answer_of, answered, around, core1_bound, core_lane, differs, dma_lane, ends_at, ends_wants, eqb_tells, first_from, least, longest, peripheral_lane, pio_lane, wanted_in}
 use Rattle.lane_look.specs.Replay.{Meaning, Entry, told, left, talk, after_begun}
-use Rattle.lane_look.specs.Alone.{ends_wants, ends_at, first_from, least, Alone, alone, alone_length, wanted_in, differs}
 use Rattle.rp_machine.specs.State.{State}
-use Rattle.rp_machine.specs.Answers.{answer_of}
-use Rattle.rp_machine.specs.declared.begun.Begun.{Begun}
-use Rattle.outer_lane.specs.Setting.{Setting}
-use Rattle.window_merge.specs.Window.{longest}
-use Rattle.window_merge.specs.Lanes.{around, core_lane, dma_lane, pio_lane, peripheral_lane, core1_bound}
 use Rattle.window_merge.specs.declared.runs.Rests.{Rests}
-use Rattle.window_merge.specs.Merging.{IsRunAlone}
 use Rattle.window_merge.proofs.Agree.{agree}
 use Rattle.window_merge.proofs.Told.{Told, told_at}
 

@@ -1,19 +1,10 @@
 -- A later cycle of a window: what the lanes begin is what the machine begins, where each answer is the same.
-use Rattle.std.proofs.Common.{◌≡◌, ◌||◌, Bool, true, false, not, refl, sym, ap, ◌∙◌}
-use Rattle.std.proofs.Math.Bool.{not-not}
-use Rattle.std.proofs.lemmas.Bool.{not-true}
+use Rattle.window_merge.proofs.Shared.{Begun, Bool, Notes, Start, answer_of, ap, begun, begun_from, differs_from, false, goes_by, goes_on, guess, not, not-not, not-true, refl, seen_of, sym, true, ◌||◌, ◌∙◌, ◌≡◌}
 use Rattle.m0_core.specs.Fetch as core_asks
 use Rattle.dma_engine.specs.Asks as dma_asks
 use Rattle.pio_block.specs.Cycle as pio
 use Rattle.outer_lane.specs.Step as outer
-use Rattle.rp_machine.specs.declared.begun.Begun.{Begun}
 use Rattle.rp_machine.specs.State.{State}
-use Rattle.rp_machine.specs.Answers.{answer_of}
-use Rattle.rp_machine.specs.Cycle.{begun}
-use Rattle.window_merge.specs.declared.notes.Notes.{Notes}
-use Rattle.window_merge.specs.declared.start.Start.{Start}
-use Rattle.window_merge.specs.Notes.{seen_of}
-use Rattle.window_merge.specs.Start.{guess, begun_from, differs_from, goes_by, goes_on}
 use Rattle.window_merge.proofs.Agree.{agree, six_false}
 
 -- the lanes begin what the machine begins

@@ -1,21 +1,10 @@
 -- What is noted of the writes of a window: SRAM as it was before, and as each lane sees it.
 use Rattle.std.proofs.Common.{◌≡◌, ℕ, ◌+◌, ◌<◌, ◌≤◌, ◌==◌, Bool, true, false, if◌then◌else◌, inl, inr, List, [], ◌∷◌, ◌++◌, length, Option, Some, None, refl, ap, sym, ◌∙◌, length-append, arith}
-use Rattle.std.specs.Prelude.{slice_index, slice_set}
-use Rattle.std.proofs.lemmas.Bool.Decides.{eqb_tells}
-use Rattle.std.proofs.lemmas.List.{get_or-set_other}
-use Rattle.rp_base.specs.declared.Request.{Request}
-use Rattle.rp_base.specs.declared.map.Spot.{Spot}
+use Rattle.window_merge.proofs.Shared.{Deed, Request, Spot, Want, eqb_tells, get_or-set_other, patched, place_of, slice_index, slice_set, sram_after, stored, stored_at, with_lanes}
 use Rattle.rp_base.specs.declared.map.Spot.TheVariants as spot
-use Rattle.rp_base.specs.Map.{place_of}
-use Rattle.lane_look.specs.declared.lane.Want.{Want}
 use Rattle.lane_look.specs.declared.lane.Want.TheVariants as want
-use Rattle.ram_banks.specs.Lanes.{with_lanes}
-use Rattle.rp_machine.specs.declared.deed.Deed.{Deed}
 use Rattle.rp_machine.specs.declared.deed.Deed.TheVariants as deed
-use Rattle.rp_machine.specs.Deeds.{stored_at}
 use Rattle.rp_machine.specs.Stores.{StoresInSram}
-use Rattle.rp_machine.specs.Cycle.{stored}
-use Rattle.window_merge.specs.Patch.{patched, sram_after}
 use Rattle.window_merge.specs.Notes.{first_of, last_of, is_none, seen_word, write_of, original_word, own_word, with_word}
 use Rattle.window_merge.proofs.Banks.{HasBank, has_bank}
 use Rattle.window_merge.proofs.Patching.{patched-append, patched_last}
@@ -43,24 +32,16 @@ with_word-length (Some word) words = let more = length-append words (word ∷ []
 at_place : (request : Request) (write : Option ℕ) (spot : Spot) → HasBank spot → StoresInSram (stored_at request write spot)
 at_place request None spot h = tt
 at_place request (Some value) (spot.Ram index bank) h = h.0
-at_place request (Some value) (spot.Reg block offset alias) h = tt
-at_place request (Some value) (spot.Sio offset) h = tt
-at_place request (Some value) (spot.Ppb offset) h = tt
-at_place request (Some value) spot.Outside h = tt
+at_place request (Some value) _ h = tt
 
 pub in_sram : (v : Want) → StoresInSram (write_of v)
 in_sram want.Nothing = tt
 in_sram (want.Ram request) = at_place request request.write (place_of request.address) (has_bank request.address)
-in_sram (want.Outward request) = tt
-in_sram want.Signal = tt
-in_sram (want.Stopped cause) = tt
+in_sram _ = tt
 
 pub after_want : (v : Want) (sram : List ℕ) → stored (write_of v) sram ≡ sram_after v sram
 after_want want.Nothing sram = refl
-after_want (want.Ram request) sram = refl
-after_want (want.Outward request) sram = refl
-after_want want.Signal sram = refl
-after_want (want.Stopped cause) sram = refl
+after_want _ sram = refl
 
 -- ---- the words as they were before
 
@@ -91,10 +72,7 @@ undoes_on originals now sram before (deed.Store index lanes value) h =
       ];
     }
 undoes_on originals now sram before deed.Nothing h = h
-undoes_on originals now sram before deed.Signal h = h
-undoes_on originals now sram before (deed.Register block offset write) h = h
-undoes_on originals now sram before (deed.SingleCycle offset write) h = h
-undoes_on originals now sram before (deed.Device address write) h = h
+undoes_on originals now sram before _ h = h
 
 -- ---- the words of a lane
 
@@ -105,10 +83,7 @@ own_on own before sees seen (deed.Store index lanes value) h sight lt =
     ∙ ap (λ (l : List ℕ). slice_set l index (with_lanes lanes value (seen index))) h
     ∙ ap (λ word. slice_set sees index (with_lanes lanes value word)) (sight index lt)
 own_on own before sees seen deed.Nothing h sight lt = h
-own_on own before sees seen deed.Signal h sight lt = h
-own_on own before sees seen (deed.Register block offset write) h sight lt = h
-own_on own before sees seen (deed.SingleCycle offset write) h sight lt = h
-own_on own before sees seen (deed.Device address write) h sight lt = h
+own_on own before sees seen _ h sight lt = h
 
 -- where a lane has written nothing it had not before, and does not write
 pub record Still (own : List (ℕ × ℕ)) (d : Deed) : Type 0 where
@@ -117,11 +92,7 @@ pub record Still (own : List (ℕ × ℕ)) (d : Deed) : Type 0 where
 
 pub still : (own : List (ℕ × ℕ)) (seen : ℕ → ℕ) (d : Deed) → with_word (own_word seen d) own ≡ [] → Still own d
 still own seen (deed.Store index lanes value) e = absurd (append_some own (index, with_lanes lanes value (seen index)) e)
-still own seen deed.Nothing e = record { before = e; same = λ sram. refl }
-still own seen deed.Signal e = record { before = e; same = λ sram. refl }
-still own seen (deed.Register block offset write) e = record { before = e; same = λ sram. refl }
-still own seen (deed.SingleCycle offset write) e = record { before = e; same = λ sram. refl }
-still own seen (deed.Device address write) e = record { before = e; same = λ sram. refl }
+still own seen _ e = record { before = e; same = λ sram. refl }
 
 -- what a lane sees
 pub sight : (clean : Bool) (own originals : List (ℕ × ℕ)) (sram before sees : List ℕ) (i : ℕ) → (clean ≡ true → sees ≡ sram) → Restores originals sram before → patched own before ≡ sees

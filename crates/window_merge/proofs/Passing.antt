@@ -1,43 +1,20 @@
 -- A window in one pass: in each cycle the lanes begin what their runs alone begin, and the pass ends where the window closes.
 use Rattle.std.proofs.Common.{◌≡◌, ◌≢◌, ℕ, zero, suc, ◌+◌, ◌-◌, ◌*◌, ◌<◌, ◌≤◌, ◌||◌, ◌&&◌, ◌⊎◌, Bool, true, false, not, if◌then◌else◌, inl, inr, List, [], ◌∷◌, ◌++◌, length, refl, ap, sym, ◌∙◌, subst, add-one, arith}
-use Rattle.std.specs.Prelude.{slice_index}
-use Rattle.std.proofs.lemmas.Bool.Decides.{eqb_tells}
+use Rattle.window_merge.proofs.Shared.{Ask, Asking, Begun, BegunTransfer, Deed, GoesAsAlone, GoneOver, IsWindow, KnowsSio, Mark, Notes, Setting, Start, Want, and_parts, answer_of, answered, answered_same, around, begun_by, cases_Bool, clash, core1_bound, core_lane, differs_by, dma_lane, ends_in, eqb_tells, fits, has_hold, is_launching, left_by, longest, marks_in, noted_in, or_cases, or_left, or_parts, patched, peripheral_lane, pio_lane, runs_follow, runs_of, slice_index, sram_after, states, wants_of, window_length}
 use Rattle.std.proofs.lemmas.List.{append-nil, append_assoc}
-use Rattle.std.proofs.lemmas.Bool.{and_parts, cases_Bool, or_cases, or_parts, or_left}
-use Rattle.lane_look.specs.Asking.{Asking, answered}
-use Rattle.lane_look.specs.declared.lane.Ask.{Ask}
-use Rattle.lane_look.specs.declared.lane.Want.{Want}
 use Rattle.lane_look.specs.declared.lane.Want.TheVariants as want
-use Rattle.lane_look.specs.declared.marks.Mark.{Mark}
 use Rattle.lane_look.specs.Replay.{Meaning, asked, told, talk}
 use Rattle.lane_look.specs.Alone.{all_stored, alone, alone_length, ends_want, ends_wants, ends_at, wanted_in, least}
 use Rattle.m0_core.specs.Cycle as core
-use Rattle.dma_engine.specs.declared.begun.BegunTransfer.{BegunTransfer}
 use Rattle.dma_engine.specs.Cycle as dma
-use Rattle.outer_lane.specs.Setting.{Setting}
 use Rattle.outer_lane.specs.Step as outer
-use Rattle.bus_fabric.specs.State.{has_hold}
-use Rattle.rp_machine.specs.declared.begun.Begun.{Begun}
-use Rattle.rp_machine.specs.declared.deed.Deed.{Deed}
 use Rattle.rp_machine.specs.declared.deed.Deed.TheVariants as deed
 use Rattle.rp_machine.specs.State.{State}
-use Rattle.rp_machine.specs.Answers.{answer_of}
 use Rattle.rp_machine.specs.Cycle.{wanted, stored, next_by, mark}
-use Rattle.rp_machine.specs.Run.{states}
-use Rattle.rp_machine.proofs.Joining.{runs_follow}
-use Rattle.window_merge.specs.Lanes.{core_lane, dma_lane, pio_lane, peripheral_lane, around, is_launching, core1_bound, runs_of}
-use Rattle.window_merge.specs.Window.{longest, ends_in, clash, window_length}
-use Rattle.rp_machine.specs.Laws.{KnowsSio}
 use Rattle.window_merge.specs.declared.runs.Rests.{Rests}
-use Rattle.window_merge.specs.Merging.{begun_by, left_by, differs_by, wants_of, fits, marks_in}
-use Rattle.window_merge.specs.Patch.{patched, sram_after}
-use Rattle.window_merge.specs.declared.notes.Notes.{Notes}
-use Rattle.window_merge.specs.declared.start.Start.{Start}
 use Rattle.window_merge.specs.Notes.{is_none, seen_of, seen_word, is_clean, write_of, original_word, own_word, with_word, no_notes, noted, noted_by, HasRoom}
-use Rattle.window_merge.specs.Inward.{noted_in, GoesAsAlone, GoneOver, IsWindow}
 use Rattle.window_merge.specs.Start.{start_of, guess, begun_from, differs_from, ends_wanted, goes_by, goes_on}
 use Rattle.window_merge.proofs.Separate.{IsSeparate, separate_sram}
-use Rattle.rp_machine.proofs.Inward.{answered_same}
 use Rattle.window_merge.proofs.Copying.{asked_same}
 use Rattle.window_merge.proofs.Meeting.{least_meets}
 use Rattle.window_merge.proofs.Lanes.{whole_talk, Lane, run, cycles_of, tree, LaneStands, below_least, ends_is, no_cycles, Each}

@@ -1,14 +1,8 @@
 -- What a word of SRAM is where words were written into it.
 use Rattle.std.proofs.Common.{◌≡◌, ℕ, suc, ◌-◌, ◌<◌, ◌==◌, if◌then◌else◌, inl, inr, List, [], ◌∷◌, ◌++◌, length, refl, ap, sym}
-use Rattle.std.proofs.Common.{◌∙◌, subst, arith}
+use Rattle.window_merge.proofs.Shared.{arith, eqb_tells, get_or-set_other, get_or-set_same, last_of, length-set, patched, subst, take-suc, with_lanes, ◌∙◌}
 use Rattle.std.specs.Prelude.{◌≤◌, ◌≢◌, slice_index, slice_index_or, slice_set, take}
-use Rattle.std.proofs.Math.Seq.{take-suc}
-use Rattle.std.proofs.lemmas.Bool.Decides.{eqb_tells}
-use Rattle.std.proofs.lemmas.List.{length-set, get_or-set_same, get_or-set_other}
-use Rattle.ram_banks.specs.Lanes.{with_lanes}
 use Rattle.ram_banks.specs.Sram.{written}
-use Rattle.window_merge.specs.Notes.{last_of}
-use Rattle.window_merge.specs.Patch.{patched}
 
 pub patched-append : (words : List (ℕ × ℕ)) (word : ℕ × ℕ) (sram : List ℕ) → patched (words ++ word ∷ []) sram ≡ slice_set (patched words sram) word.0 word.1
 unfolding patched

@@ -1,16 +1,11 @@
 -- Where no two accesses to SRAM name one port, and no access lasts, each of them is done.
 use Rattle.std.proofs.Common.{◌≡◌, ◌≢◌, ℕ, ◌<◌, Bool, true, false, nat_eq, List, [], ◌∷◌, Option, Some, None, refl, ap, sym, ◌∙◌}
-use Rattle.std.proofs.Common.{arith}
-use Rattle.std.specs.Prelude.{is_some}
-use Rattle.std.proofs.lemmas.Bool.{eqb-false, ne_eqb}
-use Rattle.rp_base.specs.declared.Master.{Master}
-use Rattle.rp_base.specs.declared.Master.TheVariants.{Core0, Core1, DmaRead, DmaWrite}
+use Rattle.window_merge.proofs.Shared.{Core0, Core1, DmaRead, DmaWrite, Master, arith, eqb-false, is_port_of, is_some, ne_eqb}
 use Rattle.bus_fabric.specs.declared.Hold.{Hold}
 use Rattle.bus_fabric.specs.Masters.{Access, access_of, is_on, asks_on}
 use Rattle.bus_fabric.specs.State.{State as Crossbar, last_on, has_hold}
 use Rattle.bus_fabric.specs.Grant.{apb, is_high, winner_of, is_done, done_of, hold_after, after_grant}
 use Rattle.bus_fabric.proofs.Arbitration.{arbitrated}
-use Rattle.window_merge.specs.Window.{is_port_of}
 use Rattle.window_merge.proofs.Agree.{itself}
 
 -- an access to SRAM, or none

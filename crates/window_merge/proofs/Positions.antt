@@ -1,14 +1,9 @@
 -- The positions of a run: each step goes along the states of the run, and there are enough of them.
 use Rattle.std.proofs.Common.{◌≡◌, ℕ, zero, suc, ◌+◌, ◌-◌, ◌*◌, ◌<◌, ◌≤◌, ◌&&◌, Bool, true, false, not, nat_eq, if◌then◌else◌, inl, inr, Option, Some, None, refl, sym, ◌∙◌, arith}
-use Rattle.std.proofs.lemmas.Bool.Decides.{eqb_tells}
-use Rattle.rp_base.specs.declared.Why.{Why}
-use Rattle.outer_lane.specs.Setting.{Setting}
-use Rattle.bus_fabric.specs.State.{has_hold}
+use Rattle.window_merge.proofs.Shared.{Position, Setting, Why, by_cycle, by_window, eqb_tells, first_position, has_hold, is_tried, last_position, last_state, next_position, positions, states, unless_stopped, window_length}
 use Rattle.rp_machine.specs.State.{State}
 use Rattle.rp_machine.specs.Cycle.{stop, next}
-use Rattle.rp_machine.specs.Run.{states, last_state, unless_stopped}
 use Rattle.rp_machine.proofs.Runs.{states_on, last_here, last_on, below_limit, next_cycle}
-use Rattle.window_merge.specs.Window.{Position, first_position, is_tried, by_window, by_cycle, next_position, positions, last_position, window_length}
 
 -- ---- along the states of a run
 

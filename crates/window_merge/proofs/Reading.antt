@@ -1,26 +1,15 @@
 -- A read of the DMA engine writes nothing.
 use Rattle.std.proofs.Common.{◌≡◌, ℕ, Bool, true, false, nat_lt, if◌then◌else◌, length, Option, Some, None, refl, ap}
-use Rattle.std.specs.List.{list_any}
-use Rattle.rp_base.specs.declared.Request.{Request}
-use Rattle.rp_base.specs.declared.map.Spot.{Spot}
+use Rattle.window_merge.proofs.Shared.{Ask, BegunTransfer, DmaRead, Pacing, Question, Request, Spot, answered, list_any, place_of, stored_at, write_of}
 use Rattle.rp_base.specs.declared.map.Spot.TheVariants as spot
-use Rattle.rp_base.specs.declared.Master.TheVariants.{DmaRead}
-use Rattle.rp_base.specs.Map.{place_of}
-use Rattle.lane_look.specs.Asking.{answered}
-use Rattle.lane_look.specs.Asking.Asking.{Question}
-use Rattle.lane_look.specs.declared.lane.Ask.{Ask}
-use Rattle.lane_look.specs.declared.lane.Ask.TheVariants.{Pacing}
 use Rattle.dma_engine.specs.State.{State as Engine, channel_at}
 use Rattle.dma_engine.specs.Transfer.{read_of}
 use Rattle.dma_engine.specs.declared.channel.Channel.{Channel}
 use Rattle.dma_engine.specs.declared.begun.Access.{Access}
 use Rattle.dma_engine.specs.declared.begun.Access.TheVariants as access
-use Rattle.dma_engine.specs.declared.begun.BegunTransfer.{BegunTransfer}
 use Rattle.dma_engine.specs.Asks as dma_asks
 use Rattle.dma_engine.specs.Cycle as dma
 use Rattle.rp_machine.specs.declared.deed.Deed.TheVariants as deed
-use Rattle.rp_machine.specs.Deeds.{stored_at}
-use Rattle.window_merge.specs.Notes.{write_of}
 
 abbrev Writes : Access → Type 0
 Writes a = write_of (dma.want_of a) ≡ deed.Nothing
@@ -35,9 +24,7 @@ outside_nothing false request = refl
 elsewhere_nothing : (request : Request) (spot : Spot) → Writes (dma_asks.elsewhere DmaRead request spot)
 elsewhere_nothing request (spot.Reg block offset alias) = refl
 elsewhere_nothing request spot.Outside = outside_nothing (dma_asks.may_be_device request.address) request
-elsewhere_nothing request (spot.Ram index bank) = refl
-elsewhere_nothing request (spot.Sio offset) = refl
-elsewhere_nothing request (spot.Ppb offset) = refl
+elsewhere_nothing request _ = refl
 
 -- a request that is a read
 abbrev IsRead : Option Request → Type 0

@@ -1,13 +1,6 @@
 -- The same lane in two environments: what is true of its replays and runs in the one is true in the other.
-use Rattle.std.proofs.Common.{◌≡◌, ℕ, zero, suc, ◌+◌, List, refl, ap, sym, ◌∙◌}
-use Rattle.lane_look.specs.declared.replay.Report.{Report}
-use Rattle.lane_look.specs.Asking.{Asking}
+use Rattle.window_merge.proofs.Shared.{Alone, Asking, Copies, IsTrue, List, RanIn, Report, ap, copied, refl, suc, sym, zero, ℕ, ◌+◌, ◌∙◌, ◌≡◌}
 use Rattle.lane_look.specs.Replay.{Meaning, Entry, Replay, told, after_begun, marks_with, replay_by, replay_cycle, replayed}
-use Rattle.lane_look.specs.Alone.{Alone}
-use Rattle.lane_look.specs.Truth.{IsTrue}
-use Rattle.window_merge.specs.declared.copies.Copies.{Copies}
-use Rattle.window_merge.specs.Around.{copied}
-use Rattle.window_merge.specs.Jobs.{RanIn}
 use Rattle.window_merge.proofs.Copying.{Copied, SameLane, alone_same, length_same}
 
 by_same : {E F S B : Type 0} (m : Meaning E S B) (env : E) (n : Meaning F S B) (env' : F) → SameLane m env n env' → (tree : Asking B) (r : Replay S) → replay_by m env tree r ≡ replay_by n env' tree r

@@ -1,18 +1,9 @@
 -- The run alone by what a job holds is that from the state which the job was taken from; and six reports in order.
-use Rattle.std.proofs.Common.{arith, ◌≡◌, ◌==◌, ◌||◌, ℕ, Bool, true, false, Option, Some, refl, ap, ◌∙◌, subst}
-use Rattle.std.proofs.lemmas.Bool.{eqb-true, le-leb}
+use Rattle.window_merge.proofs.Shared.{BeginsIn, Bool, Copies, HasLane, IsAloneBy, IsJobOf, LaneRun, Option, Ran, Setting, Some, ap, arith, asks_sram, block_of, copies_of, core_bound, core_lane, core_of, dma_lane, eqb-true, false, has_room_for, is_run_of, le-leb, longest, longest_by, peripheral_lane, pio_lane, refl, subst, true, ℕ, ◌==◌, ◌||◌, ◌∙◌, ◌≡◌}
 use Rattle.m0_core.specs.State.{State as Core}
-use Rattle.outer_lane.specs.Setting.{Setting}
 use Rattle.rp_machine.specs.State.{State}
-use Rattle.window_merge.specs.declared.copies.Copies.{Copies}
-use Rattle.window_merge.specs.declared.lane_run.LaneRun.{LaneRun}
 use Rattle.window_merge.specs.declared.lane_run.LaneRun.TheVariants as run
 use Rattle.window_merge.specs.declared.lane_job.LaneJob.{LaneJob}
-use Rattle.window_merge.specs.Around.{copies_of}
-use Rattle.window_merge.specs.Lanes.{core_lane, dma_lane, pio_lane, peripheral_lane}
-use Rattle.window_merge.specs.Window.{longest}
-use Rattle.window_merge.specs.Jobs.{core_of, block_of, core_bound, BeginsIn, HasLane, IsJobOf, IsAloneBy, Ran, longest_by}
-use Rattle.window_merge.specs.Kinds.{is_run_of, has_room_for, asks_sram}
 use Rattle.window_merge.proofs.Copying.{with_sram, pio_copied, outer_copied, as_run_alone}
 
 pub longest_same : (w : Setting) (s : State) (limit start : ℕ) → limit ≡ w.limit → start ≡ s.cycle → longest_by limit start ≡ longest w s

@@ -1,23 +1,13 @@
 -- A core that wants nothing, whatever it is answered beside its interrupt lines, asks for these alone.
-use Rattle.std.proofs.Common.{◌≡◌, ℕ, ◌+◌, ◌%◌, ◌^◌, ◌<◌, ◌==◌, ◌&&◌, Bool, true, false, if◌then◌else◌, Option, Some, None, refl, sym, ap, ◌∙◌}
-use Rattle.rp_base.specs.declared.Request.{Request}
+use Rattle.window_merge.proofs.Shared.{Act, Ask, Asking, Beat, Bool, Half, Lines, None, Option, Question, Ready, Request, Some, Spot, Work, answered, ap, false, if◌then◌else◌, place_of, refl, sym, true, ℕ, ◌%◌, ◌&&◌, ◌+◌, ◌<◌, ◌==◌, ◌^◌, ◌∙◌, ◌≡◌}
 use Rattle.rp_base.specs.declared.Why.TheVariants as why
-use Rattle.rp_base.specs.declared.map.Spot.{Spot}
 use Rattle.rp_base.specs.declared.map.Spot.TheVariants as spot
 use Rattle.rp_base.specs.Access.{master_of, word_written}
-use Rattle.rp_base.specs.Map.{place_of}
-use Rattle.lane_look.specs.declared.lane.Ask.{Ask}
-use Rattle.lane_look.specs.declared.lane.Ask.TheVariants.{Lines, Half}
 use Rattle.lane_look.specs.declared.lane.Want.TheVariants as want
-use Rattle.lane_look.specs.Asking.{Asking, answered}
-use Rattle.lane_look.specs.Asking.Asking.{Ready, Question}
 use Rattle.lane_look.specs.Times.{times}
-use Rattle.m0_beats.specs.declared.timing.Beat.{Beat}
 use Rattle.m0_beats.specs.declared.timing.Beat.TheVariants as beat
 use Rattle.m0_nvic.specs.Words.{is_allowed}
-use Rattle.m0_core.specs.declared.doing.Act.{Act}
 use Rattle.m0_core.specs.declared.doing.Act.TheVariants as act
-use Rattle.m0_core.specs.declared.doing.Work.{Work}
 use Rattle.m0_core.specs.declared.doing.Work.TheVariants as works
 use Rattle.m0_core.specs.State.{State as Core}
 use Rattle.m0_core.specs.Cycle as core
@@ -54,8 +44,7 @@ ready_at lines work request s (spot.Ram index bank) h = ready_ram lines work req
 ready_at lines work request s (spot.Ppb offset) h =
     ready_either (is_allowed offset (word_written request.size request.write)) (act.Private work request offset) (act.Stopped (why.Outside (master_of s.number) request.address))
 ready_at lines work request s (spot.Reg block offset alias) h = tt
-ready_at lines work request s (spot.Sio offset) h = tt
-ready_at lines work request s spot.Outside h = tt
+ready_at lines work request s _ h = tt
 
 ready_in : (lines : ℕ) (work : Work) (s : Core) (b : Beat) → WantsNothing lines (in_beat work s b) → IsReady (in_beat work s b)
 ready_in lines work s beat.Inner h = tt

@@ -1,40 +1,22 @@
 -- A separate cycle, in which every want is nothing or an access to SRAM, no two accesses name one port and none lasts: each lane
 -- steps as if it ran alone.
-use Rattle.std.proofs.Common.{◌≡◌, ◌&&◌, ℕ, ◌+◌, Bool, true, false, if◌then◌else◌, List, [], ◌∷◌, map, Option, Some, None, refl, sym, ap, ◌∙◌, subst}
-use Rattle.std.specs.Prelude.{is_some}
-use Rattle.rp_base.specs.Map.{place_of}
-use Rattle.rp_base.specs.declared.Master.{Master}
+use Rattle.window_merge.proofs.Shared.{Begun, Bool, Deed, KnowsSio, List, Master, None, Option, Request, SeenOutputs, Setting, Some, Spot, Turn, Want, [], ap, asked_at, asked_of, deed_of, ends_want, false, has_hold, if◌then◌else◌, is_some, map, offers_of, place_of, port_at, refl, sram_after, stored_at, subst, sym, true, turn_alone, turn_of, ℕ, ◌&&◌, ◌+◌, ◌∙◌, ◌∷◌, ◌≡◌}
 use Rattle.rp_base.specs.declared.Master.TheVariants as master
-use Rattle.rp_base.specs.declared.Request.{Request}
-use Rattle.rp_base.specs.declared.map.Spot.{Spot}
 use Rattle.rp_base.specs.declared.map.Spot.TheVariants as spot
-use Rattle.lane_look.specs.declared.lane.Want.{Want}
 use Rattle.lane_look.specs.declared.lane.Want.TheVariants as want
-use Rattle.lane_look.specs.declared.lane.Turn.{Turn}
 use Rattle.lane_look.specs.declared.lane.Turn.TheVariants as turn
-use Rattle.lane_look.specs.Replay.{turn_alone}
-use Rattle.lane_look.specs.Alone.{ends_want}
 use Rattle.m0_core.specs.Fetch.{is_ram_spot}
 use Rattle.m0_core.specs.State.{State as Core}
 use Rattle.m0_core.specs.Cycle as core
 use Rattle.dma_engine.specs.Cycle as dma
 use Rattle.pio_block.specs.Cycle as pio
-use Rattle.outer_lane.specs.Setting.{Setting}
-use Rattle.outer_lane.specs.declared.world.SeenOutputs.{SeenOutputs}
 use Rattle.outer_lane.specs.State.{State as OuterState}
 use Rattle.outer_lane.specs.Step as outer
-use Rattle.bus_fabric.specs.State.{has_hold}
 use Rattle.sio_block.specs.State.{State as SioState}
-use Rattle.sio_block.specs.Launcher.{offers_of}
 use Rattle.sio_block.specs.Cycle.{after_cycle}
-use Rattle.rp_machine.specs.declared.begun.Begun.{Begun}
-use Rattle.rp_machine.specs.declared.deed.Deed.{Deed}
 use Rattle.rp_machine.specs.declared.deed.Deed.TheVariants as deed
 use Rattle.rp_machine.specs.State.{State}
-use Rattle.rp_machine.specs.Deeds.{port_at, asked_at, asked_of, turn_of, stored_at, deed_of}
 use Rattle.rp_machine.specs.Cycle.{wanted, asked, granted, turns, with_turns, deeds, with_sio, with_offer, with_pins, pins_of, found_by, after_deed, launched_where, after_masters, stored, all_stored, with_stores, ended, after_deeds, with_grants, stepped, next_by}
-use Rattle.window_merge.specs.Patch.{sram_after}
-use Rattle.rp_machine.specs.Laws.{KnowsSio}
 use Rattle.window_merge.proofs.Banks.{HasBank, has_bank}
 use Rattle.window_merge.proofs.InSram.{IsPlaced}
 use Rattle.window_merge.proofs.Keeping.{core_keeps, outer_keeps}
@@ -44,34 +26,25 @@ use Rattle.window_merge.proofs.Ports.{InBank, Apart, free_done, free_after}
 
 in_bank_at : (request : Request) (spot : Spot) → is_ram_spot spot ≡ true → HasBank spot → InBank (asked_at request (port_at spot))
 in_bank_at request (spot.Ram index bank) e h = h.1
-in_bank_at request (spot.Reg block offset alias) e h = absurd (cc e)
-in_bank_at request (spot.Sio offset) e h = absurd (cc e)
-in_bank_at request (spot.Ppb offset) e h = absurd (cc e)
-in_bank_at request spot.Outside e h = absurd (cc e)
+in_bank_at request _ e h = absurd (cc e)
 
 asks_at : (request : Request) (spot : Spot) → is_ram_spot spot ≡ true → is_some (asked_at request (port_at spot)) ≡ true
 asks_at request (spot.Ram index bank) e = refl
-asks_at request (spot.Reg block offset alias) e = absurd (cc e)
-asks_at request (spot.Sio offset) e = absurd (cc e)
-asks_at request (spot.Ppb offset) e = absurd (cc e)
-asks_at request spot.Outside e = absurd (cc e)
+asks_at request _ e = absurd (cc e)
 
 pub in_bank : (v : Want) → ends_want v ≡ false → IsPlaced v → InBank (asked_of v)
 unfolding asked_of
 in_bank want.Nothing goes placed = tt
 in_bank (want.Ram request) goes placed = in_bank_at request (place_of request.address) placed (has_bank request.address)
 in_bank (want.Outward request) goes placed = absurd (cc goes)
-in_bank want.Signal goes placed = tt
-in_bank (want.Stopped cause) goes placed = tt
+in_bank _ goes placed = tt
 
 -- its turn is that of a lane that runs alone, where each access is done
 turn_goes : (w : Setting) (seen : SeenOutputs) (rival : Want) (m : Master) (v : Want) (s : State) → ends_want v ≡ false → IsPlaced v → turn_of w seen rival (is_some (asked_of v)) m v s ≡ turn_alone v
 unfolding turn_of asked_of
 turn_goes w seen rival m want.Nothing s goes placed = refl
 turn_goes w seen rival m (want.Ram request) s goes placed = rw (asks_at request (place_of request.address) placed) refl
-turn_goes w seen rival m (want.Outward request) s goes placed = absurd (cc goes)
-turn_goes w seen rival m want.Signal s goes placed = absurd (cc goes)
-turn_goes w seen rival m (want.Stopped cause) s goes placed = absurd (cc goes)
+turn_goes w seen rival m _ s goes placed = absurd (cc goes)
 
 -- nothing is to be done but to store
 abbrev pub IsStore : Deed → Type 0
@@ -95,18 +68,13 @@ deed_stores : (w : Setting) (seen : SeenOutputs) (grant : Bool) (v : Want) (s : 
 unfolding deed_of
 deed_stores w seen grant want.Nothing s goes = tt
 deed_stores w seen grant (want.Ram request) s goes = either_stores grant _ (stored_stores request request.write (place_of request.address))
-deed_stores w seen grant (want.Outward request) s goes = absurd (cc goes)
-deed_stores w seen grant want.Signal s goes = absurd (cc goes)
-deed_stores w seen grant (want.Stopped cause) s goes = absurd (cc goes)
+deed_stores w seen grant _ s goes = absurd (cc goes)
 
 nothing_done : (w : Setting) (found : Bool) (m : Master) (d : Deed) (s : State) → IsStore d → after_deed w found m d s ≡ s
 unfolding after_deed
 nothing_done w found m deed.Nothing s h = refl
 nothing_done w found m (deed.Store index lanes value) s h = refl
-nothing_done w found m deed.Signal s h = absurd h
-nothing_done w found m (deed.Register block offset write) s h = absurd h
-nothing_done w found m (deed.SingleCycle offset write) s h = absurd h
-nothing_done w found m (deed.Device address write) s h = absurd h
+nothing_done w found m _ s h = absurd h
 
 -- ---- SIO and what is known of it
 
@@ -306,9 +274,7 @@ stored_goes : (w : Setting) (seen : SeenOutputs) (v : Want) (s : State) (sram : 
 unfolding deed_of asked_of
 stored_goes w seen want.Nothing s sram goes placed = refl
 stored_goes w seen (want.Ram request) s sram goes placed = rw (asks_at request (place_of request.address) placed) refl
-stored_goes w seen (want.Outward request) s sram goes placed = absurd (cc goes)
-stored_goes w seen want.Signal s sram goes placed = absurd (cc goes)
-stored_goes w seen (want.Stopped cause) s sram goes placed = absurd (cc goes)
+stored_goes w seen _ s sram goes placed = absurd (cc goes)
 
 -- what the masters leave of SRAM, one after the other
 abbrev pub sram_left : Begun → List ℕ → List ℕ

@@ -1,26 +1,14 @@
 -- What the start of a window answers a lane is what its run alone is answered.
-use Rattle.std.proofs.Common.{◌≡◌, ℕ, zero, suc, ◌+◌, ◌<◌, ◌==◌, ◌&&◌, ◌||◌, nat_eq, not, Bool, true, false, inl, inr, if◌then◌else◌, List, [], ◌∷◌, refl, ap, sym, ◌∙◌, subst}
-use Rattle.std.specs.Prelude.{slice_index, unwrap_or}
-use Rattle.std.proofs.Math.Bool.{and-true}
-use Rattle.std.proofs.lemmas.Bool.Decides.{eqb_tells}
-use Rattle.std.proofs.lemmas.Bool.{ne_eqb}
-use Rattle.rp_base.specs.declared.map.Spot.{Spot}
+use Rattle.window_merge.proofs.Shared.{Ask, Bool, List, Question, Ready, Spot, Want, [], and-true, answer_of, ap, around, block_lines, eqb_tells, false, if◌then◌else◌, inl, inr, lines_of, nat_eq, ne_eqb, not, place_of, refl, slice_index, sram_after, stored_by, subst, suc, sym, true, unwrap_or, zero, ℕ, ◌&&◌, ◌+◌, ◌<◌, ◌==◌, ◌||◌, ◌∙◌, ◌∷◌, ◌≡◌}
 use Rattle.rp_base.specs.declared.map.Spot.TheVariants as spot
-use Rattle.rp_base.specs.Map.{place_of}
 use Rattle.lane_look.specs.Asking.{Asking, Runs}
-use Rattle.lane_look.specs.Asking.Asking.{Ready, Question}
-use Rattle.lane_look.specs.declared.lane.Ask.{Ask}
 use Rattle.lane_look.specs.declared.lane.Ask.TheVariants as ask
-use Rattle.lane_look.specs.declared.lane.Want.{Want}
 use Rattle.lane_look.specs.declared.lane.Want.TheVariants as want
 use Rattle.lane_look.specs.Replay.{Meaning, asked}
 use Rattle.lane_look.specs.Alone.{all_stored, begun_alone, alone, differs}
 use Rattle.outer_lane.specs.Lines.{outer_lines}
 use Rattle.rp_machine.specs.State.{State}
 use Rattle.rp_machine.specs.Sram.{half_of, ram_word}
-use Rattle.rp_machine.specs.Answers.{block_lines, lines_of, answer_of}
-use Rattle.window_merge.specs.Lanes.{around, stored_by}
-use Rattle.window_merge.specs.Patch.{sram_after}
 use Rattle.window_merge.specs.declared.start.Matcher.{Matcher}
 use Rattle.window_merge.specs.Start.{start_of, word_by, guess, guessed, matched, IsBegun}
 use Rattle.window_merge.proofs.Agree.{all_same, itself}
@@ -32,10 +20,7 @@ use Rattle.window_merge.proofs.Walking.{lines_over, pacing_over, inputs_over, ou
 
 word_at : (seen : ℕ → ℕ) (sees : List ℕ) (spot : Spot) → HasBank spot → ((i : ℕ) → i < 67584 → seen i ≡ slice_index sees i) → word_by seen spot ≡ unwrap_or (ram_word sees spot) 0
 word_at seen sees (spot.Ram index bank) h sight = sight index h.0
-word_at seen sees (spot.Reg block offset alias) h sight = refl
-word_at seen sees (spot.Sio offset) h sight = refl
-word_at seen sees (spot.Ppb offset) h sight = refl
-word_at seen sees spot.Outside h sight = refl
+word_at seen sees _ h sight = refl
 
 -- the lines of a lane that is not core 0 are those of core 1
 lines_are : (lane : ℕ) (s : State) → (if lane == 0 then lines_of 0 s else lines_of 1 s) ≡ lines_of lane s
@@ -65,9 +50,7 @@ Over s t = t ≡ record s { sram = t.sram }
 over_stored : (s t : State) (v : Want) → Over s t → Over s (stored_by v t)
 over_stored s t want.Nothing h = h
 over_stored s t (want.Ram request) h = ap (λ (r : State). record r { sram = (stored_by (want.Ram request) t).sram }) h
-over_stored s t (want.Outward request) h = h
-over_stored s t want.Signal h = h
-over_stored s t (want.Stopped cause) h = h
+over_stored s t _ h = h
 
 over_all : (lane : ℕ) (s t : State) (wants : List Want) → Over s t → Over s (all_stored (around lane) t wants)
 over_all lane s t [] h = h
@@ -82,10 +65,7 @@ around_over m lane before s (suc k) =
 
 pub stored_sram : (v : Want) (t : State) → (stored_by v t).sram ≡ sram_after v t.sram
 stored_sram want.Nothing t = refl
-stored_sram (want.Ram request) t = refl
-stored_sram (want.Outward request) t = refl
-stored_sram want.Signal t = refl
-stored_sram (want.Stopped cause) t = refl
+stored_sram _ t = refl
 
 -- ---- the look
 

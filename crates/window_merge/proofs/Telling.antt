@@ -1,23 +1,9 @@
 -- The first entry in which a true report differs from its lane's run alone has the same question, and another answer.
 use Rattle.std.proofs.Common.{◌≡◌, ◌⊎◌, ℕ, zero, suc, ◌+◌, ◌<◌, inl, inr, List, [], ◌∷◌, ◌++◌, take, Option, Some, None, refl, ap}
-use Rattle.std.proofs.Common.{sym, ◌∙◌, subst, arith}
+use Rattle.window_merge.proofs.Shared.{Ask, Asking, DifferAt, IsTrue, OtherAnswerAt, Question, Ready, Report, alone, answer_of, answered, arith, around, cases_lt, eqb_tells, replay_of, slice_get_within, subst, sym, take-append-le, talk_alone, ◌∙◌}
 use Rattle.std.specs.List.{slice_get}
-use Rattle.std.proofs.lemmas.List.{take-append-le}
-use Rattle.std.proofs.lemmas.Option.{slice_get_within}
-use Rattle.std.proofs.lemmas.Bool.{cases_lt}
-use Rattle.std.proofs.lemmas.Bool.Decides.{eqb_tells}
-use Rattle.lane_look.specs.Asking.{Asking, answered}
-use Rattle.lane_look.specs.Asking.Asking.{Ready, Question}
-use Rattle.lane_look.specs.declared.lane.Ask.{Ask}
-use Rattle.lane_look.specs.declared.replay.Report.{Report}
 use Rattle.lane_look.specs.Replay.{Meaning, Entry, first_answer, others, told, talk, asked, after_begun, replayed}
-use Rattle.lane_look.specs.Alone.{alone}
-use Rattle.lane_look.specs.Truth.{IsTrue, replay_of}
 use Rattle.rp_machine.specs.State.{State}
-use Rattle.rp_machine.specs.Answers.{answer_of}
-use Rattle.window_merge.specs.Lanes.{around}
-use Rattle.window_merge.specs.Accept.{talk_alone, OtherAnswerAt}
-use Rattle.window_merge.specs.Judged.{DifferAt}
 use Rattle.window_merge.proofs.Logs.{get-append, get-take}
 
 -- ---- another answer in longer lists

@@ -1,9 +1,7 @@
 -- One lane in cycle k of a window: what the log of its run alone tells it.
 use Rattle.std.proofs.Common.{◌≡◌, ℕ, zero, suc, ◌+◌, ◌-◌, ◌<◌, List, [], ◌++◌, refl, ap, sym, ◌∙◌, append_assoc, append-nil, add-one, arith}
-use Rattle.std.proofs.lemmas.List.{append_cancel_left}
-use Rattle.lane_look.specs.Asking.{answered}
+use Rattle.window_merge.proofs.Shared.{Surroundings, alone, answered, append_cancel_left, asked_in, begun_alone, wanted_in}
 use Rattle.lane_look.specs.Replay.{Meaning, Entry, told, left, talk, asked, after_begun}
-use Rattle.lane_look.specs.Alone.{Surroundings, begun_alone, alone, asked_in, wanted_in}
 use Rattle.lane_look.proofs.Trees.{told_asked, left_asked, talk_asked}
 
 -- ---- one lane in cycle k of its run alone

@@ -1,27 +1,14 @@
 -- What a comparison of logs and lengths says of a report.
 use Rattle.std.proofs.Common.{◌≡◌, ℕ, Bool, true, false, ◌&&◌, List, length, Option, Some, None, refl, ap, sym, ◌∙◌, subst}
 use Rattle.std.specs.Prelude.{Result, Ok, Err, is_ok, is_none, unwrap_or, IfErr}
-use Rattle.std.specs.Bool.{Decides}
+use Rattle.window_merge.proofs.Shared.{Decides, Entry, IsFirstOther, IsRunAlone, IsStrange, IsStrangeBy, IsStranger, IsTrue, IsUnlike, IsUnlikeBy, Judges, LaneRun, Meaning, Questions, Report, Setting, alone_length, and_from, and_parts, around, asking_lane, core_lane, dma_lane, log_of, peripheral_lane, pio_lane, questions_of, talk_alone}
 use Rattle.std.specs.List.{slice_get}
-use Rattle.std.proofs.lemmas.Bool.{and_from, and_parts}
-use Rattle.lane_look.specs.declared.replay.Report.{Report}
-use Rattle.lane_look.specs.Replay.{Meaning, Entry}
-use Rattle.lane_look.specs.Alone.{alone_length}
-use Rattle.lane_look.specs.Truth.{IsTrue}
-use Rattle.outer_lane.specs.Setting.{Setting}
 use Rattle.outer_lane.specs.State.{State as OuterState}
 use Rattle.rp_machine.specs.State.{State}
-use Rattle.window_merge.specs.declared.lane_run.LaneRun.{LaneRun}
 use Rattle.window_merge.specs.declared.lane_run.LaneRun.TheVariants as run
 use Rattle.window_merge.specs.declared.lane_job.LaneReport.{LaneReport}
 use Rattle.window_merge.specs.declared.accepting.Stranger.{Stranger}
-use Rattle.window_merge.specs.declared.questions.Questions.{Questions}
-use Rattle.window_merge.specs.Lanes.{around, core_lane, dma_lane, pio_lane, peripheral_lane}
-use Rattle.window_merge.specs.Merging.{IsRunAlone}
 use Rattle.window_merge.specs.Jobs.{core_of, block_of, IsTrueRun, IsTrueIn, IsAloneBy, IsAlone, start_of, longest_by}
-use Rattle.window_merge.specs.Accept.{talk_alone, IsStrange, IsStrangeBy, log_of, IsStranger}
-use Rattle.window_merge.specs.Judged.{IsFirstOther, IsUnlike, IsUnlikeBy, Judges}
-use Rattle.window_merge.specs.Questions.{questions_of, asking_lane}
 use Rattle.window_merge.proofs.AskingAlone.{talk_same, length_asking}
 use Rattle.window_merge.proofs.Reported.{longest_same}
 use Rattle.window_merge.proofs.Telling.{other_answer}

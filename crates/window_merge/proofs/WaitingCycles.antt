@@ -1,39 +1,15 @@
 -- Cycles of a window in which nobody has anything to do: the start answers each lane as the machine does.
 use Rattle.std.proofs.Common.{◌≡◌, ℕ, zero, suc, ◌+◌, ◌-◌, ◌*◌, ◌<◌, ◌≤◌, inl, inr, ◌||◌, not, nat_le, if◌then◌else◌, Bool, true, false, List, [], ◌∷◌, ◌++◌, length, refl, sym, ap, subst, ◌∙◌, arith}
-use Rattle.std.proofs.Math.Bool.{and-false}
-use Rattle.std.proofs.lemmas.Bool.Decides.{leb_tells}
+use Rattle.window_merge.proofs.Shared.{ArePartsQuiet, Begun, CopiesAgree, GoesAsAlone, GoneOver, Mark, Notes, SeenOutputs, Setting, Start, Wanted, and-false, begun, beside, clash, has_hold, inputs_of, is_clean, is_first_alone, is_launching, leb_tells, lines_of, longest, mark, marks_in, no_notes, noted_by, noted_in, offers_of, outs_on, packed_pair, passed, pins_of, runs_follow, same_marks, seen_number, states, wanted, wants_of, window_length}
 use Rattle.lane_look.specs.declared.lane.Want.TheVariants as want
-use Rattle.lane_look.specs.declared.marks.Mark.{Mark}
-use Rattle.bus_fabric.specs.State.{has_hold}
-use Rattle.sio_block.specs.Launcher.{offers_of}
 use Rattle.io_bank.specs.State.{State as Bank}
 use Rattle.io_bank.specs.Levels.{inputs_of as inputs_of_pads}
-use Rattle.outer_lane.specs.Setting.{Setting}
-use Rattle.outer_lane.specs.declared.world.SeenOutputs.{SeenOutputs}
 use Rattle.outer_lane.specs.Step as outer
 use Rattle.outer_lane.specs.Quiet.{seen_in}
-use Rattle.rp_machine.specs.declared.begun.Begun.{Begun}
-use Rattle.rp_machine.specs.declared.wanted.Wanted.{Wanted}
 use Rattle.rp_machine.specs.State.{State}
-use Rattle.rp_machine.specs.Answers.{lines_of, packed_pair, inputs_of}
-use Rattle.rp_machine.specs.Alone.{beside, is_first_alone}
-use Rattle.rp_machine.specs.Copies.{CopiesAgree}
-use Rattle.rp_machine.specs.Cycle.{begun, wanted, mark, pins_of}
-use Rattle.rp_machine.specs.Run.{states}
-use Rattle.rp_machine.proofs.Inward.{outs_on}
-use Rattle.rp_machine.proofs.Joining.{runs_follow}
-use Rattle.rp_machine.proofs.Quietly.{seen_number}
-use Rattle.quiet_run.specs.Parts.{ArePartsQuiet, passed}
 use Rattle.quiet_run.proofs.Passing.{fewer_parts, quiet_cycles, quiet_none, begun_outer, wants_core0, wants_core1, wants_read, wants_write, told, same_lines, same_pacing, states_passed}
-use Rattle.window_merge.specs.declared.notes.Notes.{Notes}
-use Rattle.window_merge.specs.declared.start.Start.{Start}
-use Rattle.window_merge.specs.Lanes.{is_launching}
-use Rattle.window_merge.specs.Notes.{is_clean, no_notes, noted_by}
 use Rattle.window_merge.specs.Start.{start_of, begun_from, ends_wanted, goes_by, goes_on}
 use Rattle.window_merge.specs.Quiet.{AreQuietWindows}
-use Rattle.window_merge.specs.Window.{clash, longest, window_length}
-use Rattle.window_merge.specs.Merging.{wants_of, marks_in}
-use Rattle.window_merge.specs.Inward.{noted_in, same_marks, GoesAsAlone, GoneOver}
 use Rattle.window_merge.proofs.Passing.{First, along_first, closed_full}
 use Rattle.window_merge.proofs.Resting.{quiet_rests}
 use Rattle.window_merge.proofs.InwardCycles.{AreAlike, alike_by, reads_none, goes_alike, begun_alike, starts_by, apart_alone, mark_with, marked_same}

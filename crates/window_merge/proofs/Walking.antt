@@ -1,23 +1,11 @@
 -- A lane that runs alone again beside a log.
 use Rattle.std.proofs.Common.{◌≡◌, ◌≢◌, ℕ, suc, ◌+◌, ◌<◌, ◌≤◌, Bool, true, false, inl, inr, if◌then◌else◌, List, [], ◌∷◌, ◌++◌, length, take, Option, Some, refl, ap, sym, ◌∙◌, subst, add-one, append-nil, append_assoc, length-append, arith}
-use Rattle.std.specs.Bool.{Decides}
+use Rattle.window_merge.proofs.Shared.{Decides, IsFirstOther, Question, Ready, Walker, Want, answer_of, around, block_lines, eqb_tells, inputs_of, is_least, lines_of, outs_of, pacing_of, patched, take-append-le, take-append_seam, talk_alone}
 use Rattle.std.specs.List.{slice_get}
-use Rattle.std.proofs.Math.Seq.{take-append_seam}
-use Rattle.std.proofs.lemmas.List.{take-append-le}
-use Rattle.std.proofs.lemmas.Bool.Decides.{eqb_tells}
 use Rattle.lane_look.specs.Asking.{Asking, Runs, answered}
-use Rattle.lane_look.specs.Asking.Asking.{Ready, Question}
-use Rattle.lane_look.specs.declared.lane.Want.{Want}
 use Rattle.lane_look.specs.Replay.{Meaning, Entry, asked, after_begun}
 use Rattle.lane_look.specs.Alone.{all_stored, begun_alone, alone, ends_wants, ends_now, ends_at, least, alone_length}
-use Rattle.lane_look.proofs.Least.{is_least}
 use Rattle.rp_machine.specs.State.{State}
-use Rattle.rp_machine.specs.Answers.{block_lines, lines_of, pacing_of, inputs_of, outs_of, answer_of}
-use Rattle.window_merge.specs.declared.walk.Walker.{Walker}
-use Rattle.window_merge.specs.Lanes.{around}
-use Rattle.window_merge.specs.Patch.{patched}
-use Rattle.window_merge.specs.Accept.{talk_alone}
-use Rattle.window_merge.specs.Judged.{IsFirstOther}
 use Rattle.window_merge.specs.Walks.{seen_by, IsCompared, GoesOn, Answers, IsStepped, IsMet, IsWalked}
 use Rattle.window_merge.proofs.Meeting.{least_meets}
 use Rattle.window_merge.proofs.Lanes.{below_least}

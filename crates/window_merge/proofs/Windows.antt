@@ -1,37 +1,16 @@
 -- A window, cycle by cycle: where the machine, the six lanes and their logs stand.
 use Rattle.std.proofs.Common.{◌≡◌, ◌≢◌, ℕ, ◌+◌, ◌-◌, ◌<◌, ◌≤◌, Bool, true, false, not, ◌||◌, ◌&&◌, nat_eq, if◌then◌else◌, inl, inr, List, [], ◌∷◌, ◌++◌, length, length-append, None, refl, ap, sym, ◌∙◌, subst, add-one, below_more, arith}
-use Rattle.std.proofs.Math.Bool.{or-true}
-use Rattle.std.proofs.lemmas.Bool.Decides.{leb_tells}
-use Rattle.std.proofs.lemmas.Bool.{eqb-false, ne_eqb, not-true, or_parts}
-use Rattle.lane_look.specs.declared.lane.Want.{Want}
+use Rattle.window_merge.proofs.Shared.{AreRunsAlone, Begun, IsWindow, KnowsSio, Mark, Master, SeenOutputs, Setting, Want, alone_length, answer_of, answered, around, asked_of, begun_by, cause_by, cause_of, clash, clash_in, closes, core_lane, differs, differs_by, differs_in, dma_lane, end_at, ends_in, ends_want, ends_wants, eqb-false, fits, has_hold, is_launching, is_least, leb_tells, left_by, logs_of, longest, marks_in, ne_eqb, not-true, or-true, or_parts, peripheral_lane, pio_lane, runs_follow, runs_of, share_port, states, wanted_in, wants_of, window_length}
 use Rattle.lane_look.specs.declared.lane.Want.TheVariants as want
-use Rattle.lane_look.specs.declared.marks.Mark.{Mark}
-use Rattle.lane_look.specs.Asking.{answered}
 use Rattle.lane_look.specs.Replay.{told, left, talk, after_begun}
-use Rattle.lane_look.specs.Alone.{ends_want, ends_wants, alone_length, wanted_in, differs}
-use Rattle.lane_look.proofs.Least.{is_least}
-use Rattle.rp_base.specs.declared.Master.{Master}
 use Rattle.m0_core.specs.Cycle as core
 use Rattle.dma_engine.specs.Cycle as dma
 use Rattle.pio_block.specs.Cycle as pio
-use Rattle.outer_lane.specs.Setting.{Setting}
-use Rattle.outer_lane.specs.declared.world.SeenOutputs.{SeenOutputs}
 use Rattle.outer_lane.specs.Step as outer
-use Rattle.bus_fabric.specs.State.{has_hold}
-use Rattle.rp_machine.specs.declared.begun.Begun.{Begun}
 use Rattle.rp_machine.specs.State.{State}
-use Rattle.rp_machine.specs.Answers.{answer_of}
-use Rattle.rp_machine.specs.Deeds.{asked_of, cause_by, cause_of}
 use Rattle.rp_machine.specs.Cycle.{begun, wanted, cause_in, stop, next_by, next, mark}
-use Rattle.rp_machine.specs.Run.{states}
-use Rattle.rp_machine.proofs.Joining.{runs_follow}
-use Rattle.window_merge.specs.Lanes.{core_lane, dma_lane, pio_lane, peripheral_lane, around, is_launching, runs_of}
-use Rattle.window_merge.specs.Window.{longest, ends_in, differs_in, clash, clash_in, share_port, closes, window_length}
 use Rattle.window_merge.specs.declared.runs.Runs.{Runs}
-use Rattle.rp_machine.specs.Laws.{KnowsSio}
 use Rattle.window_merge.specs.declared.runs.Rests.{Rests}
-use Rattle.window_merge.specs.Merging.{begun_by, left_by, differs_by, wants_of, fits, marks_in, AreRunsAlone, logs_of, end_at}
-use Rattle.window_merge.specs.Inward.{IsWindow}
 use Rattle.window_merge.proofs.Agree.{six_false, itself}
 use Rattle.window_merge.proofs.Separate.{AllGoOn, IsSeparate, IsStepped, separate_next}
 use Rattle.window_merge.proofs.Comparing.{clash_four}
@@ -216,9 +195,7 @@ separate_here w s k now rests marks t same none =
 no_cause : (w : Setting) (seen : SeenOutputs) (m : Master) (v : Want) (s : State) → ends_want v ≡ false → cause_by w seen m v s ≡ None
 no_cause w seen m want.Nothing s e = refl
 no_cause w seen m (want.Ram request) s e = refl
-no_cause w seen m (want.Outward request) s e = absurd (cc e)
-no_cause w seen m want.Signal s e = absurd (cc e)
-no_cause w seen m (want.Stopped cause) s e = absurd (cc e)
+no_cause w seen m _ s e = absurd (cc e)
 
 pub none_stops : (w : Setting) (b : Begun) (s : State) → AllGoOn b → cause_in w b (wanted b) s ≡ None
 unfolding cause_in cause_of wanted

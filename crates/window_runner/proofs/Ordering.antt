@@ -145,13 +145,7 @@ step_sound w s m r (Pass windows) next h legal e =
 in_order : (event : Event) (events : List Event) (m : ℕ) → m + (commits_in (event ∷ events) + passed_in (event ∷ events)) ≡ (m + windows_of event) + (commits_in events + passed_in events)
 unfolding windows_of
 in_order (Draw seat) events m = omega arith
-in_order (SeeOpen seat) events m = omega arith
-in_order (Finish seat number found) events m = omega arith
-in_order Open events m = omega arith
-in_order Close events m = omega arith
-in_order SeeDone events m = omega arith
-in_order Commit events m = omega arith
-in_order (Pass windows) events m = omega arith
+in_order _ events m = omega arith
 
 goes_sound : (w : Setting) (s : State) (m : ℕ) (events : List Event) (r last : RunState) → Sound w s m r → Goes w r events last
     → Sound w s (m + (commits_in events + passed_in events)) last

@@ -1,7 +1,5 @@
-use Rattle.std.proofs.Common.{sym, ap, ◌∙◌}
+use Rattle.window_merge.proofs.Shared.{IsAlone, IsUnlikeBy, ap, sym, ◌∙◌}
 use Rattle.rp_machine.specs.State.{State}
-use Rattle.window_merge.specs.Jobs.{IsAlone}
-use Rattle.window_merge.specs.Judged.{IsUnlikeBy}
 use Rattle.window_merge.proofs.Verdicts.{by_limit, ok_alone, err_alone, err_unlike, is_stranger}
 use Rattle.window_merge.proofs.accepting.accept.Goals as goal
 

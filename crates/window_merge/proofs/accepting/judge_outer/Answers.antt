@@ -1,6 +1,5 @@
-use Rattle.std.proofs.Common.{ap, ◌∙◌}
+use Rattle.window_merge.proofs.Shared.{ap, questions_of, ◌∙◌}
 use Rattle.rp_machine.specs.State.{State}
-use Rattle.window_merge.specs.Questions.{questions_of}
 use Rattle.window_merge.proofs.Verdicts.{judged_asking}
 use Rattle.window_merge.proofs.accepting.judge_outer.Goals as goal
 

@@ -1,7 +1,5 @@
-use Rattle.std.proofs.Common.{ap, sym, ◌∙◌, arith}
-use Rattle.outer_lane.specs.Setting.{setting_of}
+use Rattle.window_merge.proofs.Shared.{ap, arith, next_cycle, setting_of, sym, ◌∙◌}
 use Rattle.rp_machine.specs.State.{State}
-use Rattle.rp_machine.proofs.Runs.{next_cycle}
 use Rattle.window_merge.proofs.Going.{way_first, way_cycle, way_stopped}
 use Rattle.window_merge.proofs.alone.advance_alone.Goals as goal
 

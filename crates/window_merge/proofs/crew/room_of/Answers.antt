@@ -1,5 +1,4 @@
-use Rattle.std.proofs.Common.{arith}
-use Rattle.std.proofs.lemmas.Bool.{eq-eqb}
+use Rattle.window_merge.proofs.Shared.{arith, eq-eqb}
 use Rattle.window_merge.proofs.crew.room_of.Goals as goal
 
 pub returns-in_ok-report-4 : goal.returns-in_ok-report-4

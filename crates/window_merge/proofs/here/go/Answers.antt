@@ -1,9 +1,6 @@
-use Rattle.std.proofs.Common.{◌≡◌, ap, sym, ◌∙◌, subst, arith}
+use Rattle.window_merge.proofs.Shared.{IsWindow, ap, arith, begun, setting, subst, sym, ◌∙◌, ◌≡◌}
 use Rattle.std.proofs.lemmas.List.{append-nil}
-use Rattle.outer_lane.specs.Setting.{setting}
 use Rattle.rp_machine.specs.State.{State}
-use Rattle.rp_machine.specs.Cycle.{begun}
-use Rattle.window_merge.specs.Inward.{IsWindow}
 use Rattle.window_merge.proofs.Windows.{at_most}
 use Rattle.window_merge.proofs.Passing.{passes_none, along, along_none, closed_later, closed_full, passes_later, has_room}
 use Rattle.window_merge.proofs.InwardCycles.{same_first, start_first}

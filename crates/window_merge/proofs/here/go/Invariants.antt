@@ -1,6 +1,5 @@
 use Rattle.std.proofs.Common.{◌≡◌, ◌+◌, ◌≤◌, ◌-◌}
-use Rattle.outer_lane.specs.Setting.{setting_of}
-use Rattle.rp_machine.specs.Cycle.{begun}
+use Rattle.window_merge.proofs.Shared.{begun, setting_of}
 use Rattle.window_merge.proofs.Passing.{Passes}
 use Rattle.window_merge.proofs.here.go.Given as goal
 

@@ -1,8 +1,5 @@
-use Rattle.std.proofs.Common.{◌≡◌, ap, sym, ◌∙◌, subst, arith}
-use Rattle.outer_lane.specs.Setting.{setting}
+use Rattle.window_merge.proofs.Shared.{ap, arith, goes_by, is_launching, setting, subst, sym, ◌∙◌, ◌≡◌}
 use Rattle.rp_machine.specs.State.{State}
-use Rattle.window_merge.specs.Lanes.{is_launching}
-use Rattle.window_merge.specs.Start.{goes_by}
 use Rattle.window_merge.proofs.Passing.{passes_none, closed_at_once, closed_launching, closed_later}
 use Rattle.window_merge.proofs.InwardCycles.{goes_first_on}
 use Rattle.window_merge.proofs.here.window.Goals as goal

@@ -1,9 +1,5 @@
-use Rattle.std.proofs.Common.{◌++◌, ◌∙◌, List, sym, ap, subst, arith}
-use Rattle.lane_look.specs.declared.marks.Mark.{Mark}
-use Rattle.outer_lane.specs.Setting.{setting}
+use Rattle.window_merge.proofs.Shared.{GoneOver, List, Mark, Start, ap, arith, same_marks, setting, subst, sym, ◌++◌, ◌∙◌}
 use Rattle.quiet_run.proofs.GoneOn.{number_fits, may_bring_up, brought_up}
-use Rattle.window_merge.specs.declared.start.Start.{Start}
-use Rattle.window_merge.specs.Inward.{same_marks, GoneOver}
 use Rattle.window_merge.proofs.Passing.{gone_none}
 use Rattle.window_merge.proofs.InwardCycles.{is_onward, goes_as_alone, notes_onward, marked_onward, mark_with}
 use Rattle.window_merge.proofs.inward.go_inward.Goals as goal

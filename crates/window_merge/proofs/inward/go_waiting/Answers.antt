@@ -1,8 +1,4 @@
-use Rattle.std.proofs.Common.{sym, subst}
-use Rattle.outer_lane.specs.Setting.{setting}
-use Rattle.rp_machine.specs.Copies.{CopiesAgree}
-use Rattle.window_merge.specs.declared.start.Start.{Start}
-use Rattle.window_merge.specs.Inward.{GoneOver}
+use Rattle.window_merge.proofs.Shared.{CopiesAgree, GoneOver, Start, setting, subst, sym}
 use Rattle.window_merge.proofs.Passing.{gone_none}
 use Rattle.window_merge.proofs.WaitingCycles.{has_waited}
 use Rattle.window_merge.proofs.inward.go_waiting.Goals as goal

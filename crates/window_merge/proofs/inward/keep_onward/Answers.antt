@@ -1,7 +1,5 @@
-use Rattle.std.proofs.Common.{refl, ap}
-use Rattle.lane_look.specs.Alone.{ends_want}
+use Rattle.window_merge.proofs.Shared.{ap, ends_want, refl, wants_nothing_inward}
 use Rattle.rp_machine.specs.Inward.{core0_want}
-use Rattle.rp_machine.proofs.Inward.{wants_nothing_inward}
 use Rattle.window_merge.proofs.InwardCycles.{nothing_noted}
 use Rattle.window_merge.proofs.inward.keep_onward.Goals as goal
 

@@ -1,5 +1,4 @@
-use Rattle.std.proofs.Common.{◌≡◌, ◌++◌, ◌∙◌, ap, arith}
-use Rattle.window_merge.specs.Inward.{same_marks}
+use Rattle.window_merge.proofs.Shared.{ap, arith, same_marks, ◌++◌, ◌∙◌, ◌≡◌}
 use Rattle.window_merge.proofs.InwardCycles.{mark_with, same_none, same_more}
 use Rattle.window_merge.proofs.inward.mark_each.Goals as goal
 

@@ -1,5 +1,4 @@
-use Rattle.std.proofs.Common.{◌+◌, ◌-◌, ◌*◌, refl, arith}
-use Rattle.rp_machine.proofs.Inward.{has_gone_none, has_gone_on}
+use Rattle.window_merge.proofs.Shared.{arith, has_gone_none, has_gone_on, refl, ◌*◌, ◌+◌, ◌-◌}
 use Rattle.window_merge.proofs.InwardCycles.{keeps_none, keeps_on, noted_none, noted_on, room_fewer, room_noted}
 use Rattle.window_merge.proofs.inward.note_onward.Goals as goal
 

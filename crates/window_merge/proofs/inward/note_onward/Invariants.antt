@@ -1,7 +1,4 @@
-use Rattle.std.proofs.Common.{◌≡◌, ◌-◌, ◌*◌}
-use Rattle.rp_machine.proofs.Inward.{HasGone}
-use Rattle.window_merge.specs.Inward.{noted_inward, KeepsInward}
-use Rattle.window_merge.specs.Notes.{HasRoom}
+use Rattle.window_merge.proofs.Shared.{HasGone, HasRoom, KeepsInward, noted_inward, ◌*◌, ◌-◌, ◌≡◌}
 use Rattle.window_merge.proofs.inward.note_onward.Given as goal
 
 abbrev pub invariant-loop-done : goal.invariant-loop-done

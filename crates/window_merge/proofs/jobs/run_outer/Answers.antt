@@ -1,6 +1,4 @@
-use Rattle.std.proofs.Common.{refl}
-use Rattle.outer_lane.specs.Setting.{setting_of}
-use Rattle.window_merge.specs.Lanes.{peripheral_lane}
+use Rattle.window_merge.proofs.Shared.{peripheral_lane, refl, setting_of}
 use Rattle.window_merge.proofs.Replaying.{ran_same}
 use Rattle.window_merge.proofs.jobs.run_outer.Goals as goal
 

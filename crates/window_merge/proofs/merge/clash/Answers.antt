@@ -1,7 +1,6 @@
-use Rattle.std.proofs.Common.{sym, ◌∙◌}
+use Rattle.window_merge.proofs.Shared.{sym, wanted, ◌∙◌}
 use Rattle.m0_core.specs.Cycle as core
 use Rattle.dma_engine.specs.Cycle as dma
-use Rattle.rp_machine.specs.Cycle.{wanted}
 use Rattle.window_merge.proofs.Comparing.{clash_four}
 use Rattle.window_merge.proofs.merge.clash.Goals as goal
 

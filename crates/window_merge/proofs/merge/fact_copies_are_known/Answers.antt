@@ -1,5 +1,4 @@
-use Rattle.std.proofs.Common.{subst}
-use Rattle.rp_machine.specs.Laws.{KnowsSio}
+use Rattle.window_merge.proofs.Shared.{KnowsSio, subst}
 use Rattle.window_merge.proofs.merge.fact_copies_are_known.Goals as goal
 
 pub returns-clause-knows : goal.returns-clause-knows

@@ -1,6 +1,4 @@
-use Rattle.std.proofs.Common.{◌≡◌, ◌<◌, sym, ◌∙◌, subst, arith}
-use Rattle.outer_lane.specs.Setting.{setting_of}
-use Rattle.window_merge.specs.Window.{longest}
+use Rattle.window_merge.proofs.Shared.{arith, longest, setting_of, subst, sym, ◌<◌, ◌∙◌, ◌≡◌}
 use Rattle.window_merge.proofs.Windows.{stands_at_first, ends_at_run, tries_at, ends_tried, stands_next, ends_full}
 use Rattle.window_merge.proofs.merge.merge_runs.Goals as goal
 

@@ -1,5 +1,4 @@
-use Rattle.std.proofs.Common.{◌≡◌, ◌+◌}
-use Rattle.outer_lane.specs.Setting.{setting_of}
+use Rattle.window_merge.proofs.Shared.{setting_of, ◌+◌, ◌≡◌}
 use Rattle.window_merge.proofs.Windows.{Stands}
 use Rattle.window_merge.proofs.merge.merge_runs.Given as goal
 

@@ -1,5 +1,4 @@
-use Rattle.std.proofs.Common.{◌≡◌, drop}
-use Rattle.window_merge.specs.Notes.{first_of}
+use Rattle.window_merge.proofs.Shared.{drop, first_of, ◌≡◌}
 use Rattle.window_merge.proofs.notes.first_of.Given as goal
 
 abbrev pub invariant-loop-noted : goal.invariant-loop-noted

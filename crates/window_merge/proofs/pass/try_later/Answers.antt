@@ -1,9 +1,6 @@
-use Rattle.std.proofs.Common.{[], ◌∷◌, ◌++◌, ap, sym, ◌∙◌}
-use Rattle.outer_lane.specs.Setting.{setting_of}
+use Rattle.window_merge.proofs.Shared.{Begun, [], ap, noted_by, setting_of, sym, ◌++◌, ◌∙◌, ◌∷◌}
 use Rattle.outer_lane.specs.Step.{marked}
-use Rattle.rp_machine.specs.declared.begun.Begun.{Begun}
 use Rattle.rp_machine.specs.Cycle.{wanted, next_by}
-use Rattle.window_merge.specs.Notes.{noted_by}
 use Rattle.window_merge.proofs.Later.{begun_all, goes_all}
 use Rattle.window_merge.proofs.pass.try_later.Goals as goal
 

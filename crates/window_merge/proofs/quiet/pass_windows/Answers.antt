@@ -1,7 +1,4 @@
-use Rattle.std.proofs.Common.{◌/◌, ◌*◌, ◌<◌, refl, sym, subst, arith}
-use Rattle.outer_lane.specs.Setting.{setting}
-use Rattle.rp_machine.specs.Copies.{CopiesAgree}
-use Rattle.quiet_run.proofs.Passing.{fewer_parts, no_states}
+use Rattle.window_merge.proofs.Shared.{CopiesAgree, arith, fewer_parts, no_states, refl, setting, subst, sym, ◌*◌, ◌/◌, ◌<◌}
 use Rattle.window_merge.proofs.WaitingCycles.{no_window, quiet_windows}
 use Rattle.window_merge.proofs.quiet.pass_windows.Goals as goal
 

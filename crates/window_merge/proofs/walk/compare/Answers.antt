@@ -1,6 +1,5 @@
 use Rattle.std.proofs.Common.{◌≤◌, length, arith}
-use Rattle.std.proofs.lemmas.Option.{slice_get_past}
-use Rattle.std.proofs.lemmas.Bool.Decides.{not_from_Decides}
+use Rattle.window_merge.proofs.Shared.{not_from_Decides, slice_get_past}
 use Rattle.window_merge.proofs.Walking.{still_other, one_more, now_other, not_next}
 use Rattle.window_merge.proofs.walk.compare.Goals as goal
 

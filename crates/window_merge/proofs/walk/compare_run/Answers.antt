@@ -1,5 +1,4 @@
-use Rattle.std.proofs.Common.{refl, ap}
-use Rattle.lane_look.specs.Replay.{meaning}
+use Rattle.window_merge.proofs.Shared.{ap, meaning, refl}
 use Rattle.rp_machine.specs.State.{State}
 use Rattle.window_merge.proofs.Walking.{walked_other, walked_length}
 use Rattle.window_merge.proofs.walk.compare_run.Goals as goal

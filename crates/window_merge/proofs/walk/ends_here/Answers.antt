@@ -1,5 +1,4 @@
-use Rattle.std.proofs.Common.{ap, ◌∙◌}
-use Rattle.lane_look.specs.Alone.{ends_wants}
+use Rattle.window_merge.proofs.Shared.{ap, ends_wants, ◌∙◌}
 use Rattle.window_merge.proofs.Walking.{runs_found}
 use Rattle.window_merge.proofs.walk.ends_here.Goals as goal
 

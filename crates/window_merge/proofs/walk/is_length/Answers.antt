@@ -1,5 +1,4 @@
-use Rattle.std.proofs.Common.{◌≡◌, ◌<◌, ◌+◌, ℕ, ap, arith}
-use Rattle.lane_look.specs.Replay.{meaning}
+use Rattle.window_merge.proofs.Shared.{ap, arith, meaning, ℕ, ◌+◌, ◌<◌, ◌≡◌}
 use Rattle.window_merge.proofs.Walking.{length_ended, length_long, length_full, length_ends}
 use Rattle.window_merge.proofs.walk.is_length.Goals as goal
 

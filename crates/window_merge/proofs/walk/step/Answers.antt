@@ -1,6 +1,5 @@
 use Rattle.std.proofs.Common.{length, ap, arith}
-use Rattle.lane_look.specs.Replay.{meaning}
-use Rattle.window_merge.specs.declared.walk.Walker.{Walker}
+use Rattle.window_merge.proofs.Shared.{Walker, meaning}
 use Rattle.window_merge.proofs.Walking.{runs_found, stepped}
 use Rattle.window_merge.proofs.walk.step.Goals as goal
 

@@ -1,5 +1,4 @@
-use Rattle.std.proofs.Common.{◌≡◌, ◌+◌, ℕ, ap}
-use Rattle.lane_look.specs.Replay.{meaning}
+use Rattle.window_merge.proofs.Shared.{ap, meaning, ℕ, ◌+◌, ◌≡◌}
 use Rattle.window_merge.proofs.Walking.{walk_first, walk_next}
 use Rattle.window_merge.proofs.walk.walk.Goals as goal
 use Rattle.window_merge.proofs.walk.walk.Goals.{then-step, else-step}

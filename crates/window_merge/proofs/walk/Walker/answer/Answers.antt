@@ -1,5 +1,4 @@
-use Rattle.std.proofs.Common.{◌∙◌}
-use Rattle.window_merge.specs.Patch.{patched}
+use Rattle.window_merge.proofs.Shared.{patched, ◌∙◌}
 use Rattle.window_merge.proofs.Walking.{lines_over, pacing_over, inputs_over, outs_over}
 use Rattle.window_merge.proofs.walk.Walker.answer.Goals as goal
 
