@@ -21,6 +21,7 @@ pub mod Replaying
 pub mod Reported
 pub mod Resting
 pub mod Separate
+pub mod Shared
 pub mod Starting
 pub mod Telling
 pub mod Told
