@@ -28,7 +28,8 @@ quarters m n a b = omega arith
 
 wait-unique : (s : WaitSource) (b c b' c' : ℕ) → IsWaitSource s b c → IsWaitSource s b' c' → (b ≡ b') × (c ≡ c')
 wait-unique (Gpio n) b c b' c' h k = (cc, cc)
-wait-unique _ b c b' c' h k = (cc, cc)
+wait-unique (Pin n) b c b' c' h k = (cc, cc)
+wait-unique (WaitIrq i) b c b' c' h k = (cc, cc)
 
 fields-unique : (op : PioOp) (a b c a' b' c' : ℕ) → HasFields op a b c → HasFields op a' b' c' → SameFields a b c a' b' c'
 fields-unique (Jmp t n) a b c a' b' c' h k = (cc, conditions-unique b b' t h.1 k.1, cc)
@@ -37,7 +38,8 @@ fields-unique (Wait p s) a b c a' b' c' h k =
     (cc, (let e : b / 4 ≡ b' / 4 = cc in quarters b b' e w.0), w.1)
 fields-unique (In s n) a b c a' b' c' h k = (cc, in_sources-unique b b' s h.1 k.1, cc)
 fields-unique (Out d n) a b c a' b' c' h k = (cc, out_destinations-unique b b' d h.1 k.1, cc)
-fields-unique _ a b c a' b' c' h k = (cc, cc, cc)
+fields-unique (Push f g) a b c a' b' c' h k = (cc, cc, cc)
+fields-unique (Pull f g) a b c a' b' c' h k = (cc, cc, cc)
 fields-unique (Mov d o s) a b c a' b' c' h k =
     (cc, mov_destinations-unique b b' d h.1 k.1, halves c c' (mov_operations-unique (c / 8) (c' / 8) o h.2 k.2) (mov_sources-unique (c % 8) (c' % 8) s h.3 k.3))
 fields-unique (Irq f g i) a b c a' b' c' h k = (cc, cc, cc)
