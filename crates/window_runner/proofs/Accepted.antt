@@ -1,19 +1,6 @@
 -- The lane's run alone is accepted.
-use Rattle.std.proofs.Common.{◌≡◌, ℕ, zero, suc, ◌+◌, ◌<◌, ◌≤◌, ◌⊎◌, inl, inr, false, not, ◌||◌, List, [], ◌∷◌, ◌++◌, refl, ap, sym, ◌∙◌, arith, append_assoc}
-use Rattle.std.proofs.lemmas.Bool.{eq-eqb}
-use Rattle.std.proofs.lemmas.List.{append-nil, append_cancel_left}
-use Rattle.lane_look.specs.Asking.{Asking}
+use Rattle.window_runner.proofs.Shared.{Alone, Ask, Asking, Entry, IsAccepted, IsRunAlone, IsTrue, List, Meaning, Report, State, [], alone, answer_of, ap, append-nil, append_assoc, append_cancel_left, arith, around, asked, core_lane, differs, dma_lane, eq-eqb, false, inl, inr, left, not, overlaid, peripheral_lane, pio_lane, refl, replay_of, replayed, suc, sym, talk, talk_in, zero, ℕ, ◌++◌, ◌+◌, ◌<◌, ◌||◌, ◌∙◌, ◌∷◌, ◌≡◌, ◌≤◌, ◌⊎◌}
 use Rattle.lane_look.specs.Asking.Asking.{Ready, Question}
-use Rattle.lane_look.specs.declared.lane.Ask.{Ask}
-use Rattle.lane_look.specs.declared.replay.Report.{Report}
-use Rattle.lane_look.specs.Replay.{Meaning, Entry, left, talk, asked, replayed}
-use Rattle.lane_look.specs.Alone.{Alone, alone, differs}
-use Rattle.lane_look.specs.Truth.{IsTrue, replay_of}
-use Rattle.rp_machine.specs.State.{State}
-use Rattle.rp_machine.specs.Answers.{answer_of}
-use Rattle.window_merge.specs.Lanes.{around, core_lane, dma_lane, pio_lane, peripheral_lane}
-use Rattle.window_merge.specs.Merging.{IsRunAlone}
-use Rattle.window_runner.specs.Reports.{talk_in, overlaid, IsAccepted}
 use Rattle.window_runner.specs.AcceptLaws.{IsOne, WhatIsAcceptedIsTheRunAlone}
 use Rattle.window_runner.proofs.Accepting.{IsLevel, level_first, level_next, accepted_alone}
 

@@ -1,18 +1,6 @@
 -- A true report that is accepted is the lane's run alone.
-use Rattle.std.proofs.Common.{◌≡◌, ℕ, zero, suc, ◌+◌, ◌<◌, ◌≤◌, false, not, nat_eq, List, ◌∷◌, ◌++◌, refl, ap, sym, ◌∙◌, arith}
-use Rattle.std.proofs.lemmas.Bool.{eqb-true, not-false, or_parts}
-use Rattle.lane_look.specs.Asking.{Asking, answered}
+use Rattle.window_runner.proofs.Shared.{Ask, Asking, Entry, IsAccepted, IsRunAlone, IsTrue, List, Meaning, Report, State, after_begun, all_stored, alone, answer_of, answered, ap, arith, around, asked, begun_alone, differs, eqb-true, false, first_answer, nat_eq, not, not-false, or_parts, others, overlaid, refl, replay_of, replayed, suc, sym, talk, talk_in, told, zero, ℕ, ◌++◌, ◌+◌, ◌<◌, ◌∙◌, ◌∷◌, ◌≡◌, ◌≤◌}
 use Rattle.lane_look.specs.Asking.Asking.{Ready, Question}
-use Rattle.lane_look.specs.declared.lane.Ask.{Ask}
-use Rattle.lane_look.specs.declared.replay.Report.{Report}
-use Rattle.lane_look.specs.Replay.{Meaning, Entry, first_answer, others, told, talk, asked, after_begun, replayed}
-use Rattle.lane_look.specs.Alone.{alone, begun_alone, all_stored, differs}
-use Rattle.lane_look.specs.Truth.{IsTrue, replay_of}
-use Rattle.rp_machine.specs.State.{State}
-use Rattle.rp_machine.specs.Answers.{answer_of}
-use Rattle.window_merge.specs.Lanes.{around}
-use Rattle.window_merge.specs.Merging.{IsRunAlone}
-use Rattle.window_runner.specs.Reports.{talk_in, overlaid, IsAccepted}
 
 -- ---- one cycle
 

@@ -1,17 +1,7 @@
 -- The events and the counts along the positions of a run.
-use Rattle.std.proofs.Common.{◌≡◌, ℕ, zero, suc, ◌+◌, ◌-◌, ◌*◌, ◌≤◌, Bool, true, false, not, if◌then◌else◌, [], ◌++◌, Option, Some, None, refl, ap, sym, ◌∙◌, subst, arith, append_assoc}
+use Rattle.window_runner.proofs.Shared.{Bool, None, Option, Setting, Some, State, Why, [], all_events, ap, append_assoc, arith, below_limit, events, events_along, events_here, events_in, events_more, events_none, events_on, false, has_hold, if◌then◌else◌, last_state, left_of, moves_on, nearer, next, next_cycle, not, not_empty, refl, run_ends, states, states_here, states_on, step_events, stop, subst, suc, sym, true, unless_stopped, window_events, zero, ℕ, ◌*◌, ◌++◌, ◌+◌, ◌-◌, ◌∙◌, ◌≡◌, ◌≤◌}
 use Rattle.std.proofs.Math.Dec.{eqb-suc-zero}
-use Rattle.rp_base.specs.declared.Why.{Why}
-use Rattle.outer_lane.specs.Setting.{Setting}
-use Rattle.bus_fabric.specs.State.{has_hold}
-use Rattle.rp_machine.specs.State.{State}
-use Rattle.rp_machine.specs.Cycle.{stop, next}
-use Rattle.rp_machine.specs.Events.{events}
-use Rattle.rp_machine.specs.Run.{states, events_in, last_state, all_events, unless_stopped}
-use Rattle.rp_machine.proofs.Runs.{states_here, states_on, events_none, events_here, events_more, events_on, below_limit, next_cycle}
 use Rattle.window_merge.specs.Window.{Position, first_position, is_tried, by_window, by_cycle, next_position, positions, last_position, window_length}
-use Rattle.window_merge.proofs.Positions.{left_of, nearer, moves_on, not_empty, run_ends}
-use Rattle.window_runner.specs.Told.{step_events, events_along, window_events}
 
 -- ---- events
 

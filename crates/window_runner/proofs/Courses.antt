@@ -1,22 +1,6 @@
 -- What takes a run on, from cycles of which nothing is told to those whose marks are left; and how a run by it goes on its way.
-use Rattle.std.proofs.Common.{◌≡◌, ℕ, ◌+◌, ◌<◌, ◌≤◌, List, [], ◌∷◌, length, Option, Some, None, is_some, if◌then◌else◌, Ok, Err, refl, ap, sym, ◌∙◌, subst, arith, IfNone}
-use Rattle.rp_base.specs.declared.Why.{Why}
-use Rattle.lane_look.specs.declared.marks.Mark.{Mark}
-use Rattle.outer_lane.specs.Setting.{Setting}
+use Rattle.window_runner.proofs.Shared.{Err, FailsWithin, IfNone, IsOnRun, IsQuiet, List, Mark, None, Ok, Option, Setting, SinkFault, Some, State, Tells, Why, [], all_shown, along_states, ap, arith, events_by, events_in, if◌then◌else◌, is_some, last_state, length, mark, marks_in, next, next_cycle, no_window, one_more, refl, run_shown, states, stop, subst, sym, ℕ, ◌+◌, ◌<◌, ◌∙◌, ◌∷◌, ◌≡◌, ◌≤◌}
 use Rattle.trace_text.specs.declared.event.Event.{Event as Shown}
-use Rattle.trace_text.specs.declared.writer.SinkFault.{SinkFault}
-use Rattle.trace_text.specs.Tape.{Tells}
-use Rattle.rp_machine.specs.State.{State}
-use Rattle.rp_machine.specs.Cycle.{stop, next, mark}
-use Rattle.rp_machine.specs.Run.{states, events_in, last_state}
-use Rattle.rp_machine.specs.Quiet.{IsQuiet}
-use Rattle.rp_machine.proofs.Runs.{next_cycle}
-use Rattle.window_merge.specs.Merging.{marks_in}
-use Rattle.window_merge.proofs.Positions.{along_states}
-use Rattle.window_merge.proofs.WaitingCycles.{no_window}
-use Rattle.window_merge.proofs.Windows.{one_more}
-use Rattle.window_runner.specs.Told.{all_shown, events_by, run_shown}
-use Rattle.window_runner.specs.Alone.{IsOnRun, FailsWithin}
 use Rattle.window_runner.specs.Course.{Goes, HasLeft, IsOver}
 use Rattle.window_runner.proofs.Along.{no_cycles}
 use Rattle.window_runner.proofs.Cycling.{OnItsWay, way_on, way_fails, way_stops}

@@ -1,21 +1,17 @@
 -- The events of a cycle, part by part.
-use Rattle.std.proofs.Common.{◌≡◌, ℕ, suc, ◌+◌, ◌-◌, ◌<◌, ◌≤◌, List, [], ◌∷◌, ◌++◌, length, drop, map, Bool, true, false, w32, zero, inl, inr, ◌*◌, ◌/◌, ◌^◌, ◌==◌, Option, Some, None, bit_xor, get_or, slice_get, refl, sym, ap, subst, ◌∙◌, arith}
+use Rattle.window_runner.proofs.Shared.{Bool, List, Mark, None, Option, Some, [], all_shown, ap, arith, bit_xor, drop, drop_all, drop_more, events_by, false, get_or, inl, inr, leb_tells, length, map, refl, shown_as, slice_get, subst, suc, sym, true, w32, zero, ℕ, ◌*◌, ◌++◌, ◌+◌, ◌-◌, ◌/◌, ◌<◌, ◌==◌, ◌^◌, ◌∙◌, ◌∷◌, ◌≡◌, ◌≤◌}
 use Rattle.std.specs.Int.{bit_at}
 use Rattle.std.specs.Int.Bits.{xor_self}
 use Rattle.std.specs.List.{filter, range_with_len}
 use Rattle.std.proofs.Math.Nat.{lt-div-mul-add}
-use Rattle.std.proofs.lemmas.Bool.Decides.{leb_tells}
 use Rattle.std.specs.Int.Count.{count_trailing_zeros}
 use Rattle.std.proofs.lemmas.Nat.{pow_pos, xor_lt}
 use Rattle.std.proofs.lemmas.Nat.Bits.{bit_at_above, bit_at-trailing_zeros}
-use Rattle.std.proofs.lemmas.List.{drop_more, drop_all}
 use Rattle.std.proofs.lemmas.Option.{slice_get_within, get_or_from_slice_get}
 use Rattle.rp_base.specs.Word.{has_bit}
-use Rattle.lane_look.specs.declared.marks.Mark.{Mark}
 use Rattle.trace_text.specs.declared.event.Event.{Event as Shown}
 use Rattle.rp_machine.specs.Events.{Event, bytes_of, changes_of, events_of}
 use Rattle.rp_machine.specs.Events.Event.{Byte, Pin}
-use Rattle.window_runner.specs.Told.{shown_as, all_shown, events_by}
 use Rattle.window_runner.specs.Parts.{byte_of, change_of}
 
 -- events as a tape takes them, one after another

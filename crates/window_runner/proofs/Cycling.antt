@@ -1,17 +1,6 @@
 -- A run on its way, up to its stop: what its tape took and what was counted of cycles.
-use Rattle.std.proofs.Common.{◌≡◌, ℕ, ◌+◌, ◌≤◌, List, ◌++◌, Some, Ok, Err, refl, ap, sym, ◌∙◌, subst, arith}
-use Rattle.rp_base.specs.declared.Why.{Why}
-use Rattle.outer_lane.specs.Setting.{Setting}
+use Rattle.window_runner.proofs.Shared.{Err, FailsWithin, IsOnRun, List, Ok, Setting, SinkFault, Some, State, Tells, Why, all_events, all_shown, along_states, ap, arith, events_in, last_here, last_state, refl, run_shown, states, stop, subst, sym, ℕ, ◌++◌, ◌+◌, ◌∙◌, ◌≡◌, ◌≤◌}
 use Rattle.trace_text.specs.declared.event.Event.{Event as Shown}
-use Rattle.trace_text.specs.declared.writer.SinkFault.{SinkFault}
-use Rattle.trace_text.specs.Tape.{Tells}
-use Rattle.rp_machine.specs.State.{State}
-use Rattle.rp_machine.specs.Cycle.{stop}
-use Rattle.rp_machine.specs.Run.{states, events_in, last_state, all_events}
-use Rattle.rp_machine.proofs.Runs.{last_here}
-use Rattle.window_merge.proofs.Positions.{along_states}
-use Rattle.window_runner.specs.Told.{all_shown, run_shown}
-use Rattle.window_runner.specs.Alone.{IsOnRun, FailsWithin}
 use Rattle.window_runner.proofs.Along.{events_split}
 use Rattle.window_runner.proofs.CycleEvents.{shown_none, shown_both}
 use Rattle.window_runner.proofs.Failing.{fails_within}

@@ -1,19 +1,8 @@
 -- Where a machine stands whose tape has failed.
-use Rattle.std.proofs.Common.{◌≡◌, ℕ, zero, ◌≤◌, Bool, true, false, if◌then◌else◌, List, ◌++◌, None, refl, ap, sym, ◌∙◌, subst, arith}
-use Rattle.std.proofs.lemmas.List.{append-nil, append_cancel_right}
-use Rattle.outer_lane.specs.Setting.{Setting}
+use Rattle.window_runner.proofs.Shared.{Bool, FailsAmong, FailsWithin, List, None, Setting, State, all_events, all_shown, ap, append-nil, append_cancel_right, arith, at_most, events_in, events_more, false, if◌then◌else◌, least_meets, one_more, refl, run_shown, states, step_events, stop, subst, sym, true, zero, ℕ, ◌++◌, ◌∙◌, ◌≡◌, ◌≤◌}
 use Rattle.trace_text.specs.declared.event.Event.{Event as Shown}
-use Rattle.trace_text.specs.Tape.{FailsAmong}
-use Rattle.rp_machine.specs.State.{State}
-use Rattle.rp_machine.specs.Cycle.{stop}
 use Rattle.rp_machine.specs.Events.{Event, events}
-use Rattle.rp_machine.specs.Run.{states, events_in, all_events}
-use Rattle.rp_machine.proofs.Runs.{events_more}
 use Rattle.window_merge.specs.Window.{Position, longest, closes, is_tried, by_window, by_cycle, next_position, window_length}
-use Rattle.window_merge.proofs.Meeting.{least_meets}
-use Rattle.window_merge.proofs.Windows.{at_most, one_more}
-use Rattle.window_runner.specs.Told.{all_shown, step_events, run_shown}
-use Rattle.window_runner.specs.Alone.{FailsWithin}
 use Rattle.window_runner.proofs.Along.{events_split}
 use Rattle.window_runner.proofs.CycleEvents.{shown_both}
 use Rattle.window_runner.proofs.Reaching.{GoesOn, Reached}

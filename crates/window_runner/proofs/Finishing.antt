@@ -1,18 +1,12 @@
 -- Where a window may be committed, each of its numbers was finished once, and brought what came with it.
-use Rattle.std.proofs.Common.{◌≡◌, ℕ, zero, suc, ◌+◌, ◌*◌, List, [], ◌∷◌, ◌++◌, Option, replicate, refl, ap, sym, ◌∙◌, subst, arith}
+use Rattle.window_runner.proofs.Shared.{Close, Commit, Draw, Finish, Good, List, OneReport, Open, Option, Pass, SeatState, SeeDone, SeeOpen, Setting, State, [], ap, arith, change, did, drew, fresh, refl, replicate, saw, subst, suc, sym, times, total, zero, ℕ, ◌*◌, ◌++◌, ◌+◌, ◌∙◌, ◌∷◌, ◌≡◌}
 use mathlib.Core.Option.{some}
 use lib.ListN.{get_elem?}
-use Rattle.outer_lane.specs.Setting.{Setting}
-use Rattle.rp_machine.specs.State.{State}
-use Rattle.turn_board.specs.Tickets.{total, times, change, SeatState, Good, drew, saw, did}
 use Rattle.turn_board.specs.Tickets.Event.{Draw as DrawOn, SeeOpen as SeeOpenOn, Finish as FinishOn, Open as OpenOn, Close as CloseOn, SeeDone as SeeDoneOn}
-use Rattle.turn_board.specs.Rule.{fresh}
 use Rattle.turn_board.proofs.Sums.{change-set, total-set, times-snoc, one_at}
 use Rattle.turn_board.proofs.Follows.{finishes, done_opened, all_finished}
 use Rattle.turn_board.proofs.Keeps.{no_seats, events_keep_good, sit_keeps}
-use Rattle.window_runner.specs.Reports.{OneReport}
 use Rattle.window_runner.specs.Orders.{RunState, new_board, beginning, Event, IsLegal, Happens, Goes, numbers_in, EachCameOnce}
-use Rattle.window_runner.specs.Orders.Event.{Draw, SeeOpen, Finish, Open, Close, SeeDone, Commit, Pass}
 
 -- ---- a new board
 

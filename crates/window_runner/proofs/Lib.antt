@@ -14,6 +14,7 @@ pub mod Pads
 pub mod Passing
 pub mod Quietly
 pub mod Reaching
+pub mod Shared
 pub mod Standing
 pub mod Stepping
 pub mod Taking

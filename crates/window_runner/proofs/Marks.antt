@@ -1,15 +1,5 @@
 -- The marks of some cycles tell their events.
-use Rattle.std.proofs.Common.{◌≡◌, ℕ, zero, suc, ◌+◌, List, [], ◌∷◌, ◌++◌, length, length-append, Option, Some, None, refl, ap, sym, ◌∙◌, arith}
-use Rattle.rp_base.specs.declared.Why.{Why}
-use Rattle.lane_look.specs.declared.marks.Mark.{Mark}
-use Rattle.outer_lane.specs.Setting.{Setting}
-use Rattle.rp_machine.specs.State.{State}
-use Rattle.rp_machine.specs.Cycle.{stop, next, mark}
-use Rattle.rp_machine.specs.Events.{events}
-use Rattle.rp_machine.specs.Run.{states, events_in}
-use Rattle.rp_machine.proofs.Runs.{states_here, states_on, events_more, next_cycle}
-use Rattle.window_merge.specs.Merging.{marks_in}
-use Rattle.window_runner.specs.Told.{events_by}
+use Rattle.window_runner.proofs.Shared.{List, Mark, None, Option, Setting, Some, State, Why, [], ap, arith, events, events_by, events_in, events_more, length, length-append, mark, marks_in, next, next_cycle, refl, states, states_here, states_on, stop, suc, sym, zero, ℕ, ◌++◌, ◌+◌, ◌∙◌, ◌∷◌, ◌≡◌}
 use Rattle.window_runner.proofs.Along.{no_cycles}
 use Rattle.window_runner.proofs.Pads.{next_levels}
 

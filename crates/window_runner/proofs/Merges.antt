@@ -1,24 +1,8 @@
 -- The merge of six runs alone is a window.
-use Rattle.std.proofs.Common.{◌≡◌, ◌≢◌, ℕ, zero, suc, ◌<◌, ◌≤◌, ◌||◌, Bool, true, false, not, inl, inr, List, [], ◌∷◌, ◌++◌, refl}
-use Rattle.std.proofs.Common.{ap, ◌∙◌, add-one, arith}
-use Rattle.std.proofs.lemmas.Bool.Decides.{eqb_tells}
-use Rattle.std.proofs.lemmas.Bool.{not-false, not-true, or_parts}
-use Rattle.lane_look.specs.declared.marks.Mark.{Mark}
-use Rattle.bus_fabric.specs.State.{has_hold}
-use Rattle.outer_lane.specs.Setting.{Setting}
+use Rattle.window_runner.proofs.Shared.{AreRunsAlone, Bool, KnowsSio, List, Mark, Setting, SixReports, Stands, State, Tries, [], add-one, ap, arith, begun_by, ends_full, ends_in, ends_run, ends_tried, eqb_tells, false, fits, has_hold, inl, inr, least_meets, left_by, longest, next_by, not, not-false, not-true, on_of, or_parts, refl, runs_of, stands_first, stands_next, states, suc, true, wanted, window_length, zero, ℕ, ◌++◌, ◌<◌, ◌||◌, ◌∙◌, ◌∷◌, ◌≡◌, ◌≢◌, ◌≤◌}
 use Rattle.outer_lane.specs.Step as outer
-use Rattle.rp_machine.specs.State.{State}
-use Rattle.rp_machine.specs.Cycle.{wanted, next_by}
-use Rattle.rp_machine.specs.Run.{states}
-use Rattle.window_merge.specs.Lanes.{runs_of}
-use Rattle.window_merge.specs.Window.{longest, ends_in, window_length}
-use Rattle.rp_machine.specs.Laws.{KnowsSio}
 use Rattle.window_merge.specs.declared.runs.Rests.{Rests}
-use Rattle.window_merge.specs.Merging.{begun_by, left_by, fits}
 use Rattle.window_merge.proofs.Lanes.{log_alone, below_least}
-use Rattle.window_merge.proofs.Meeting.{least_meets}
-use Rattle.window_merge.proofs.Windows.{Stands, Tries, on_of, stands_first, stands_next, ends_tried, ends_run, ends_full}
-use Rattle.window_runner.specs.Reports.{SixReports, AreRunsAlone}
 use Rattle.window_runner.specs.Merge.{logs_of, by_logs, any_ends, merge_ends, merged_length, merged}
 
 ends_as : (w : Setting) (s : State) (six : SixReports) (k : ℕ) → AreRunsAlone w s six → ends_in (runs_of w s (longest w s)) k ≡ any_ends six k

@@ -1,16 +1,8 @@
 -- Each event of a legal list keeps the machine where it should stand.
-use Rattle.std.proofs.Common.{◌≡◌, ℕ, zero, suc, ◌+◌, ◌-◌, ◌*◌, ◌==◌, ◌&&◌, Bool, true, false, not, if◌then◌else◌, inl, inr, ◌⊎◌, List, [], ◌∷◌, ◌++◌, Option, Some, None, refl, ap, sym, ◌∙◌, subst, arith}
-use Rattle.rp_base.specs.declared.Why.{Why}
-use Rattle.outer_lane.specs.Setting.{Setting}
-use Rattle.bus_fabric.specs.State.{has_hold}
-use Rattle.rp_machine.specs.State.{State}
-use Rattle.rp_machine.specs.Cycle.{stop}
+use Rattle.window_runner.proofs.Shared.{AreTaken, Bool, Close, Commit, Draw, Finish, IsTrueOrNone, List, None, OneReport, Open, Option, Pass, Position, SeeDone, SeeOpen, Setting, SixReports, Some, State, Why, [], ap, arith, by_window, false, first_position, has_hold, if◌then◌else◌, inl, inr, is_tried, next_position, not, refl, stop, subst, suc, sym, true, window_length, zero, ℕ, ◌&&◌, ◌*◌, ◌++◌, ◌+◌, ◌-◌, ◌==◌, ◌∙◌, ◌∷◌, ◌≡◌, ◌⊎◌}
 use Rattle.turn_board.specs.Tickets as board
 use Rattle.turn_board.specs.Tickets.Event.{Draw as DrawOn, SeeOpen as SeeOpenOn, Finish as FinishOn, Close as CloseOn, SeeDone as SeeDoneOn}
-use Rattle.window_merge.specs.Window.{Position, first_position, is_tried, by_window, next_position, window_length}
-use Rattle.window_runner.specs.Reports.{OneReport, IsTrueOrNone, SixReports, AreTaken}
 use Rattle.window_runner.specs.Orders.{RunState, Begins, beginning, Event, found_of, IsLegal, GoesOver, next_tried, by_merge, on_board, Happens, Goes, window_start, commits_in, passed_in, AnyOrder}
-use Rattle.window_runner.specs.Orders.Event.{Draw, SeeOpen, Finish, Open, Close, SeeDone, Commit, Pass}
 use Rattle.window_runner.proofs.Taking.{all_alone}
 use Rattle.window_runner.proofs.Merges.{merges}
 use Rattle.window_runner.proofs.Standing.{Ready, IsReady, standing_first, standing_window, window_on, onward_ready, begins_here}

@@ -1,16 +1,7 @@
 -- Cycles in which nobody has anything to do, gone over at once on the way of a run.
-use Rattle.std.proofs.Common.{◌≡◌, ℕ, zero, suc, ◌+◌, ◌-◌, ◌<◌, ◌≤◌, List, [], ◌++◌, None, refl, ap, sym, ◌∙◌, subst, arith}
-use Rattle.outer_lane.specs.Setting.{Setting}
+use Rattle.window_runner.proofs.Shared.{IsQuiet, List, None, Setting, State, [], all_events, all_shown, along_states, ap, arith, events_in, events_more, join, last_state, next, refl, run_shown, states, states_on, stop, subst, suc, sym, zero, ℕ, ◌++◌, ◌+◌, ◌-◌, ◌<◌, ◌∙◌, ◌≡◌, ◌≤◌}
 use Rattle.trace_text.specs.declared.event.Event.{Event as Shown}
-use Rattle.rp_machine.specs.State.{State}
-use Rattle.rp_machine.specs.Cycle.{stop, next}
 use Rattle.rp_machine.specs.Events.{Event, events}
-use Rattle.rp_machine.specs.Run.{states, events_in, last_state, all_events}
-use Rattle.rp_machine.specs.Quiet.{IsQuiet}
-use Rattle.rp_machine.proofs.Joining.{join}
-use Rattle.rp_machine.proofs.Runs.{states_on, events_more}
-use Rattle.window_merge.proofs.Positions.{along_states}
-use Rattle.window_runner.specs.Told.{all_shown, run_shown}
 use Rattle.window_runner.proofs.Along.{no_cycles}
 use Rattle.window_runner.proofs.Cycling.{OnItsWay}
 use Rattle.window_runner.proofs.Reaching.{then_on}

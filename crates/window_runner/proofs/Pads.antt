@@ -1,11 +1,7 @@
 -- The levels that a cycle marks are those of the pads after it: what is done in the cycle leaves them.
-use Rattle.std.proofs.Common.{◌≡◌, ℕ, refl, ◌∙◌}
+use Rattle.window_runner.proofs.Shared.{Setting, State, after_deeds, begun, deeds_in, ended, mark, next, next_by, refl, stepped, wanted, with_sio, with_turns, ℕ, ◌∙◌, ◌≡◌}
 use Rattle.bus_fabric.specs.Masters.{masters}
-use Rattle.outer_lane.specs.Setting.{Setting}
 use Rattle.outer_lane.specs.Step as outer
-use Rattle.rp_machine.specs.State.{State}
-use Rattle.rp_machine.specs.Cycle.{begun, wanted, with_sio, ended, after_deeds, with_turns, stepped, next_by, next, mark}
-use Rattle.rp_machine.specs.Laws.{deeds_in}
 use Rattle.rp_machine.proofs.Kept.{masters_leave}
 
 -- the levels now

@@ -1,28 +1,11 @@
 -- One seat passes a window: no report comes, or all six do. A commit has an outcome.
-use Rattle.std.proofs.Common.{◌≡◌, ℕ, ◌+◌, ◌-◌, ◌*◌, ◌^◌, ◌<◌, ◌≤◌, Bool, true, false, if◌then◌else◌, inl, inr, List, [], ◌∷◌, ◌++◌, length, Option, Some, None, refl, ap, ◌∙◌, arith}
-use Rattle.std.proofs.lemmas.Bool.Decides.{leb_tells}
+use Rattle.window_runner.proofs.Shared.{AllCame, AreRunsAlone, AreTaken, Bool, CameAccepted, Draw, Entry, Finish, IsFree, IsRunAlone, IsTaken, IsTrue, IsTrueOrNone, List, Meaning, None, OfCore0, OfCore1, OfDma, OfOuter, OfPio0, OfPio1, OneReport, Open, Option, Report, SeatState, SeeDone, SeeOpen, Setting, SixReports, Some, State, [], alone, alone_length, ap, arith, around, bound_under, core0_in, core1_bound, core1_in, core_lane, dma_in, dma_lane, ends_at, false, fresh, if◌then◌else◌, inl, inr, is_launching, least_meets, leb_tells, length, longest, outer_in, peripheral_lane, pio0_in, pio1_in, pio_lane, refl, replayed, stop, times, true, ℕ, ◌*◌, ◌++◌, ◌+◌, ◌-◌, ◌<◌, ◌^◌, ◌∙◌, ◌∷◌, ◌≡◌, ◌≤◌}
 use mathlib.Core.Option.{some}
 use lib.ListN.{get_elem?}
-use Rattle.lane_look.specs.declared.replay.Report.{Report}
-use Rattle.lane_look.specs.Replay.{Meaning, Entry, replayed}
-use Rattle.lane_look.specs.Alone.{alone, alone_length, ends_at}
-use Rattle.lane_look.specs.Truth.{IsTrue}
-use Rattle.outer_lane.specs.Setting.{Setting}
 use Rattle.outer_lane.specs.State.{State as OuterState}
-use Rattle.rp_machine.specs.State.{State}
-use Rattle.rp_machine.specs.Cycle.{stop}
-use Rattle.turn_board.specs.Tickets.{times, SeatState, IsFree}
 use Rattle.turn_board.specs.Tickets as board
 use Rattle.turn_board.specs.Tickets.Event.{Draw as DrawOn, SeeOpen as SeeOpenOn, Finish as FinishOn, Open as OpenOn, SeeDone as SeeDoneOn}
-use Rattle.turn_board.specs.Rule.{fresh}
-use Rattle.window_merge.specs.Lanes.{around, core_lane, dma_lane, pio_lane, peripheral_lane, is_launching, core1_bound}
-use Rattle.window_merge.specs.Window.{longest}
-use Rattle.window_merge.specs.Merging.{IsRunAlone}
-use Rattle.window_merge.proofs.Meeting.{least_meets}
-use Rattle.window_runner.specs.Reports.{OneReport, IsTrueOrNone, core0_in, core1_in, dma_in, pio0_in, pio1_in, outer_in, bound_under, CameAccepted, IsTaken, SixReports, AreTaken, AllCame, AreRunsAlone}
-use Rattle.window_runner.specs.Reports.OneReport.{OfCore0, OfCore1, OfDma, OfPio0, OfPio1, OfOuter}
 use Rattle.window_runner.specs.Orders.{RunState, beginning, Event, found_of, next_tried, by_merge, on_board, Goes, ACommitHasAnOutcome, AWindowPasses, SixReportsAreTaken}
-use Rattle.window_runner.specs.Orders.Event.{Draw, SeeOpen, Finish, Open, SeeDone}
 use Rattle.window_runner.proofs.Accepted.{along, alone_accepted}
 
 -- ---- a report that is a run alone, and is true

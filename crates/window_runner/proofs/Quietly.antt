@@ -1,19 +1,7 @@
 -- Windows in which nobody has anything to do, on the way of a run: each is a step of which nothing is told.
-use Rattle.std.proofs.Common.{◌≡◌, ℕ, zero, suc, ◌+◌, ◌*◌, ◌<◌, ◌≤◌, Bool, true, false, List, None, Ok, refl, ap, sym, ◌∙◌, subst, arith}
-use Rattle.outer_lane.specs.Setting.{Setting}
+use Rattle.window_runner.proofs.Shared.{Bool, Counts, List, None, Ok, PassesTo, Position, Setting, State, StepsTo, all_shown, ap, arith, by_window, events, events_in, false, is_tried, left_of, no_window, position_at, refl, runs_follow, states, step_events, stop, subst, suc, sym, true, zero, ℕ, ◌*◌, ◌+◌, ◌<◌, ◌∙◌, ◌≡◌, ◌≤◌}
 use Rattle.trace_text.specs.declared.event.Event.{Event as Shown}
-use Rattle.rp_machine.specs.State.{State}
-use Rattle.rp_machine.specs.Cycle.{stop}
-use Rattle.rp_machine.specs.Events.{events}
-use Rattle.rp_machine.specs.Run.{states, events_in}
-use Rattle.rp_machine.proofs.Joining.{runs_follow}
 use Rattle.window_merge.specs.Quiet.{AreQuietWindows, behind_quiet}
-use Rattle.window_merge.specs.Window.{Position, is_tried, by_window}
-use Rattle.window_merge.proofs.Positions.{left_of}
-use Rattle.window_merge.proofs.WaitingCycles.{no_window}
-use Rattle.window_runner.specs.Told.{all_shown, step_events}
-use Rattle.window_runner.specs.declared.alone.Counts.{Counts}
-use Rattle.window_runner.specs.Alone.{PassesTo, StepsTo, position_at}
 use Rattle.window_runner.proofs.Along.{no_cycles}
 use Rattle.window_runner.proofs.CycleEvents.{shown_none}
 use Rattle.window_runner.proofs.Over.{no_events_in}

@@ -1,19 +1,7 @@
 -- A run on its way, from one of its positions to the next, up to its stop.
-use Rattle.std.proofs.Common.{◌≡◌, ℕ, zero, suc, ◌+◌, ◌-◌, ◌*◌, ◌<◌, ◌≤◌, Bool, true, false, if◌then◌else◌, List, [], ◌++◌, Option, Some, None, Ok, refl, ap, sym, ◌∙◌, subst, arith}
-use Rattle.rp_base.specs.declared.Why.{Why}
-use Rattle.outer_lane.specs.Setting.{Setting}
+use Rattle.window_runner.proofs.Shared.{Bool, IsOnRun, List, None, Ok, Option, Setting, Some, State, Tells, Why, [], all_events, all_shown, ap, arith, events_here, false, if◌then◌else◌, join, last_state, left_of, nearer, next, next_cycle, one_more, refl, run_shown, states, states_here, states_on, step_events, stop, subst, suc, sym, true, unless_stopped, zero, ℕ, ◌*◌, ◌++◌, ◌+◌, ◌-◌, ◌<◌, ◌∙◌, ◌≡◌, ◌≤◌}
 use Rattle.trace_text.specs.declared.event.Event.{Event as Shown}
-use Rattle.trace_text.specs.Tape.{Tells}
-use Rattle.rp_machine.specs.State.{State}
-use Rattle.rp_machine.specs.Cycle.{stop, next}
-use Rattle.rp_machine.specs.Run.{states, last_state, all_events, unless_stopped}
-use Rattle.rp_machine.proofs.Joining.{join}
-use Rattle.rp_machine.proofs.Runs.{events_here, states_here, states_on, next_cycle}
 use Rattle.window_merge.specs.Window.{Position, first_position, is_tried, by_window, by_cycle, next_position, positions, last_position, window_length}
-use Rattle.window_merge.proofs.Positions.{left_of, nearer}
-use Rattle.window_merge.proofs.Windows.{one_more}
-use Rattle.window_runner.specs.Told.{all_shown, step_events, run_shown}
-use Rattle.window_runner.specs.Alone.{IsOnRun}
 use Rattle.window_runner.proofs.Along.{IsCounted, counted_first, counted_next, no_cycles, step_then}
 use Rattle.window_runner.proofs.CycleEvents.{shown_both}
 use Rattle.window_runner.proofs.Standing.{at_step, step_here, stays}

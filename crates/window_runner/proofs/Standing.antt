@@ -1,19 +1,9 @@
 -- The positions of a run, and the one at which a window is tried.
-use Rattle.std.proofs.Common.{◌≡◌, ◌≢◌, ℕ, zero, suc, ◌+◌, ◌-◌, ◌*◌, ◌<◌, ◌≤◌, Bool, true, false, nat_le, if◌then◌else◌, inl, inr, ◌⊎◌, Option, Some, None, is_none, refl, ap, sym, ◌∙◌, subst, add-one, below_more, arith}
+use Rattle.window_runner.proofs.Shared.{Bool, KnowsSio, None, Option, Setting, Some, State, Why, add-one, ap, arith, below_limit, below_more, eq-eqb, false, if◌then◌else◌, inl, inr, is_none, le-leb, least, left_of, lt-leb, nat_le, ne_eqb, nearer, next, next_cycle, refl, run_ends, states, stop, subst, suc, sym, true, unless_stopped, zero, ℕ, ◌*◌, ◌+◌, ◌-◌, ◌<◌, ◌∙◌, ◌≡◌, ◌≢◌, ◌≤◌, ◌⊎◌}
 use Rattle.std.proofs.Math.Bool.{and-false}
-use Rattle.std.proofs.lemmas.Bool.{eq-eqb, le-leb, lt-leb, ne_eqb}
-use Rattle.lane_look.specs.Alone.{least}
 use Rattle.lane_look.proofs.Least.{is_least}
-use Rattle.rp_base.specs.declared.Why.{Why}
-use Rattle.outer_lane.specs.Setting.{Setting}
-use Rattle.rp_machine.specs.State.{State}
-use Rattle.rp_machine.specs.Cycle.{stop, next}
-use Rattle.rp_machine.specs.Run.{states, unless_stopped}
-use Rattle.rp_machine.proofs.Runs.{below_limit, next_cycle}
 use Rattle.rp_machine.proofs.Copies.{sio_known}
 use Rattle.window_merge.specs.Window.{Position, first_position, is_tried, by_window, by_cycle, next_position, positions, last_position, window_length}
-use Rattle.rp_machine.specs.Laws.{KnowsSio}
-use Rattle.window_merge.proofs.Positions.{left_of, nearer, run_ends}
 use Rattle.window_runner.specs.Orders.{begins_window, window_start, onward}
 
 -- ---- the lanes know what SIO holds

@@ -1,24 +1,7 @@
 -- One step of a run: where it leaves the machine and the counts, and the events that are told of it.
-use Rattle.std.proofs.Common.{◌≡◌, ℕ, ◌+◌, ◌<◌, ◌≤◌, ◌==◌, true, false, not, if◌then◌else◌, List, [], ◌∷◌, length, Option, Some, None, Result, Ok, refl, ap, sym, ◌∙◌, subst, arith}
-use Rattle.std.proofs.lemmas.List.{append-nil}
-use Rattle.rp_base.specs.declared.Why.{Why}
-use Rattle.lane_look.specs.declared.marks.Mark.{Mark}
-use Rattle.outer_lane.specs.Setting.{Setting}
+use Rattle.window_runner.proofs.Shared.{Counts, List, Mark, None, Ok, Option, Result, Setting, SinkFault, Some, State, StepsTo, Tells, Why, [], all_shown, along_states, ap, append-nil, arith, below_limit, events, events_by, events_in, events_of, false, has_hold, if◌then◌else◌, length, mark, marks_in, next, next_cycle, not, not_empty, position_at, refl, states, step_events, stop, stop_in, subst, sym, true, ℕ, ◌+◌, ◌<◌, ◌==◌, ◌∙◌, ◌∷◌, ◌≡◌, ◌≤◌}
 use Rattle.trace_text.specs.declared.event.Event.{Event as Shown}
-use Rattle.trace_text.specs.declared.writer.SinkFault.{SinkFault}
-use Rattle.trace_text.specs.Tape.{Tells}
-use Rattle.bus_fabric.specs.State.{has_hold}
-use Rattle.rp_machine.specs.State.{State}
-use Rattle.rp_machine.specs.Cycle.{stop, next, mark}
-use Rattle.rp_machine.specs.Events.{events_of, events}
-use Rattle.rp_machine.specs.Run.{states, events_in}
-use Rattle.rp_machine.proofs.Runs.{below_limit, next_cycle}
 use Rattle.window_merge.specs.Window.{Position, is_tried, by_window, by_cycle, next_position, window_length}
-use Rattle.window_merge.specs.Merging.{marks_in}
-use Rattle.window_merge.proofs.Positions.{along_states, not_empty}
-use Rattle.window_runner.specs.declared.alone.Counts.{Counts}
-use Rattle.window_runner.specs.Told.{all_shown, events_by, step_events}
-use Rattle.window_runner.specs.Alone.{StepsTo, position_at, stop_in}
 use Rattle.window_runner.proofs.CycleEvents.{shown_none}
 use Rattle.window_runner.proofs.Marks.{marks_count, marks_tell}
 use Rattle.window_runner.proofs.Standing.{window_on, cycle_on}

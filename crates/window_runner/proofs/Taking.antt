@@ -1,14 +1,5 @@
 -- Whatever true reports come: the reports that are taken are the six runs alone.
-use Rattle.std.proofs.Common.{◌≡◌, ℕ, inl, inr, Option, Some, None, subst}
-use Rattle.lane_look.specs.declared.replay.Report.{Report}
-use Rattle.lane_look.specs.Replay.{Meaning}
-use Rattle.lane_look.specs.Truth.{IsTrue}
-use Rattle.outer_lane.specs.Setting.{Setting}
-use Rattle.rp_machine.specs.State.{State}
-use Rattle.window_merge.specs.Lanes.{core_lane, dma_lane, pio_lane, peripheral_lane, core1_bound}
-use Rattle.window_merge.specs.Merging.{IsRunAlone}
-use Rattle.window_runner.specs.Reports.{OneReport, IsTrueOrNone, core0_in, core1_in, dma_in, pio0_in, pio1_in, outer_in, IsAccepted, bound_under, IsTaken, SixReports, AreTaken, AreRunsAlone}
-use Rattle.window_runner.specs.Reports.OneReport.{OfCore0, OfCore1, OfDma, OfPio0, OfPio1, OfOuter}
+use Rattle.window_runner.proofs.Shared.{AreRunsAlone, AreTaken, IsAccepted, IsRunAlone, IsTaken, IsTrue, IsTrueOrNone, Meaning, None, OfCore0, OfCore1, OfDma, OfOuter, OfPio0, OfPio1, OneReport, Option, Report, Setting, SixReports, Some, State, bound_under, core0_in, core1_bound, core1_in, core_lane, dma_in, dma_lane, inl, inr, outer_in, peripheral_lane, pio0_in, pio1_in, pio_lane, subst, ℕ, ◌≡◌}
 use Rattle.window_runner.proofs.Accepting.{accepted_alone}
 
 -- what came for a lane is true, if anything came

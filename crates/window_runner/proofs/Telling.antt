@@ -1,9 +1,7 @@
 -- Events that are told to a tape one after another.
-use Rattle.std.proofs.Common.{◌≡◌, ℕ, ◌≤◌, List, [], ◌∷◌, ◌++◌, Result, Ok, Err, OnOk, OnErr, refl, sym, ap, ◌∙◌, subst, arith, append_assoc}
-use Rattle.std.proofs.lemmas.List.{append-nil}
+use Rattle.window_runner.proofs.Shared.{Err, FailsAmong, List, Ok, OnErr, OnOk, Result, Tells, [], ap, append-nil, append_assoc, arith, refl, subst, sym, ℕ, ◌++◌, ◌∙◌, ◌∷◌, ◌≡◌, ◌≤◌}
 use Rattle.rp_ports.specs.Fault.{Rose}
 use Rattle.trace_text.specs.declared.event.Event.{Event}
-use Rattle.trace_text.specs.Tape.{FailsAmong, Tells}
 use Rattle.trace_text.proofs.Sending.{rose_later}
 
 -- what each tape keeps: see the laws of the trait

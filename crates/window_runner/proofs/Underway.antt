@@ -1,19 +1,7 @@
 -- A run by windows on its way, with what its tape took and what was counted: from one step to the next, and at its end.
-use Rattle.std.proofs.Common.{◌≡◌, ℕ, ◌+◌, ◌<◌, ◌≤◌, true, List, ◌++◌, Option, Some, None, Ok, Err, refl, ap, sym, ◌∙◌, subst, arith}
-use Rattle.rp_base.specs.declared.Why.{Why}
-use Rattle.outer_lane.specs.Setting.{Setting}
+use Rattle.window_runner.proofs.Shared.{Err, List, None, Ok, Option, Position, Setting, SinkFault, Some, State, StepsTo, Tells, Why, all_shown, ap, arith, first_position, last_here, last_position, last_state, left_of, next_position, refl, run_shown, step_events, stop, subst, sym, true, ℕ, ◌++◌, ◌+◌, ◌<◌, ◌∙◌, ◌≡◌, ◌≤◌}
 use Rattle.trace_text.specs.declared.event.Event.{Event as Shown}
-use Rattle.trace_text.specs.declared.writer.SinkFault.{SinkFault}
-use Rattle.trace_text.specs.Tape.{Tells}
-use Rattle.rp_machine.specs.State.{State}
-use Rattle.rp_machine.specs.Cycle.{stop}
-use Rattle.rp_machine.specs.Run.{last_state}
-use Rattle.rp_machine.proofs.Runs.{last_here}
-use Rattle.window_merge.specs.Window.{Position, first_position, next_position, last_position}
-use Rattle.window_merge.proofs.Positions.{left_of}
 use Rattle.window_runner.specs.declared.alone.Ran.{Ran}
-use Rattle.window_runner.specs.Told.{all_shown, step_events, run_shown}
-use Rattle.window_runner.specs.Alone.{StepsTo}
 use Rattle.window_runner.specs.Windows.{Leaves}
 use Rattle.window_runner.proofs.Failing.{fails_in_step}
 use Rattle.window_runner.proofs.Reaching.{Reached, reached_first, reached_on, reached_nearer, reached_last, is_on_run, shown_on, taken_to_stop}

@@ -1,6 +1,4 @@
-use Rattle.std.proofs.Common.{refl}
-use Rattle.outer_lane.specs.Setting.{setting_of}
-use Rattle.window_runner.specs.Alone.{position_at}
+use Rattle.window_runner.proofs.Shared.{position_at, refl, setting_of}
 use Rattle.window_runner.proofs.Quietly.{passes_none, passes_some}
 use Rattle.window_runner.proofs.alone.pass_quiet.Goals as goal
 

@@ -1,5 +1,4 @@
-use Rattle.std.proofs.Common.{refl, ◌∙◌, arith}
-use Rattle.outer_lane.specs.Setting.{setting_of}
+use Rattle.window_runner.proofs.Shared.{arith, refl, setting_of, ◌∙◌}
 use Rattle.window_runner.proofs.Quietly.{not_farther, underway_over}
 use Rattle.window_runner.proofs.Underway.{underway_first, underway_on, underway_nearer, underway_stops, underway_fails}
 use Rattle.window_runner.proofs.alone.run_alone.Goals as goal

@@ -1,5 +1,4 @@
-use Rattle.std.proofs.Common.{refl}
-use Rattle.outer_lane.specs.Setting.{setting_of}
+use Rattle.window_runner.proofs.Shared.{refl, setting_of}
 use Rattle.window_runner.proofs.Stepping.{one_window_more, cycles_more, marks_behind, mark_behind, stopped, by_window_told, by_cycle_told}
 use Rattle.window_runner.proofs.alone.step.Goals as goal
 

@@ -1,7 +1,4 @@
-use Rattle.std.proofs.Common.{◌≤◌, ◌<◌, sym, subst, arith, IfNone}
-use Rattle.outer_lane.specs.Setting.{setting_of}
-use Rattle.rp_machine.specs.State.{State}
-use Rattle.window_merge.proofs.Positions.{along_states}
+use Rattle.window_runner.proofs.Shared.{IfNone, State, along_states, arith, setting_of, subst, sym, ◌<◌, ◌≤◌}
 use Rattle.window_runner.specs.Course.{Goes}
 use Rattle.window_runner.proofs.Courses.{goes_by_window, goes_few}
 use Rattle.window_runner.proofs.coordinator.go_on.Goals as goal

@@ -1,6 +1,4 @@
-use Rattle.std.proofs.Common.{ap, ◌∙◌, sym, subst, ◌≤◌, arith}
-use Rattle.outer_lane.specs.Setting.{setting_of}
-use Rattle.rp_machine.specs.Run.{states}
+use Rattle.window_runner.proofs.Shared.{ap, arith, setting_of, states, subst, sym, ◌∙◌, ◌≤◌}
 use Rattle.window_runner.proofs.Along.{no_cycles}
 use Rattle.window_runner.proofs.Failing.{few_in_window}
 use Rattle.window_runner.proofs.coordinator.go_over.Goals as goal

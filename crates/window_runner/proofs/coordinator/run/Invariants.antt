@@ -1,9 +1,5 @@
-use Rattle.std.proofs.Common.{◌≡◌}
-use Rattle.outer_lane.specs.Setting.{setting_of}
-use Rattle.rp_machine.specs.Cycle.{begun}
+use Rattle.window_runner.proofs.Shared.{begun, left_of, position_at, setting_of, ◌≡◌}
 use Rattle.window_runner.specs.Seated.{IsReady}
-use Rattle.window_merge.proofs.Positions.{left_of}
-use Rattle.window_runner.specs.Alone.{position_at}
 use Rattle.window_runner.proofs.Underway.{Underway}
 use Rattle.window_runner.proofs.coordinator.run.Given as goal
 

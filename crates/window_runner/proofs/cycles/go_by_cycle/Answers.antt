@@ -1,7 +1,4 @@
-use Rattle.std.proofs.Common.{◌≤◌, sym, subst}
-use Rattle.outer_lane.specs.Setting.{setting_of}
-use Rattle.rp_machine.specs.State.{State}
-use Rattle.window_merge.proofs.Positions.{along_states}
+use Rattle.window_runner.proofs.Shared.{State, along_states, setting_of, subst, sym, ◌≤◌}
 use Rattle.window_runner.proofs.Courses.{by_cycle}
 use Rattle.window_runner.proofs.cycles.go_by_cycle.Goals as goal
 

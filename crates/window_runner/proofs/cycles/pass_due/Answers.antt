@@ -1,6 +1,4 @@
-use Rattle.std.proofs.Common.{sym}
-use Rattle.outer_lane.specs.Setting.{setting_of}
-use Rattle.window_merge.proofs.WaitingCycles.{no_window}
+use Rattle.window_runner.proofs.Shared.{no_window, setting_of, sym}
 use Rattle.window_runner.proofs.Along.{no_cycles}
 use Rattle.window_runner.proofs.cycles.pass_due.Goals as goal
 

@@ -1,5 +1,4 @@
-use Rattle.std.proofs.Common.{arith}
-use Rattle.outer_lane.specs.Setting.{setting_of}
+use Rattle.window_runner.proofs.Shared.{arith, setting_of}
 use Rattle.window_runner.proofs.Courses.{few_marks, few_cycles, goes_on_way, goes_fails, goes_stops}
 use Rattle.window_runner.proofs.Cycling.{way_first}
 use Rattle.window_runner.proofs.cycles.run_cycles.Goals as goal

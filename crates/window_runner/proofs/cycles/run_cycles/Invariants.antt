@@ -1,5 +1,4 @@
-use Rattle.std.proofs.Common.{◌-◌}
-use Rattle.outer_lane.specs.Setting.{setting_of}
+use Rattle.window_runner.proofs.Shared.{setting_of, ◌-◌}
 use Rattle.window_runner.proofs.Cycling.{OnItsWay}
 use Rattle.window_runner.proofs.cycles.run_cycles.Given as goal
 

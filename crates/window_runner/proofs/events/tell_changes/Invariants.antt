@@ -1,6 +1,4 @@
-use Rattle.std.proofs.Common.{◌-◌}
-use Rattle.rp_machine.specs.Events.{changes_of}
-use Rattle.window_runner.specs.Told.{all_shown}
+use Rattle.window_runner.proofs.Shared.{all_shown, changes_of, ◌-◌}
 use Rattle.window_runner.proofs.CycleEvents.{shown_from}
 use Rattle.window_runner.proofs.Telling.{TakenBefore}
 use Rattle.window_runner.proofs.events.tell_changes.Given as goal

@@ -1,5 +1,4 @@
-use Rattle.std.proofs.Common.{sym, ◌∙◌}
-use Rattle.outer_lane.specs.Setting.{setting_of}
+use Rattle.window_runner.proofs.Shared.{setting_of, sym, ◌∙◌}
 use Rattle.window_runner.proofs.sets.accepted.Goals as goal
 
 pub returns-then-is_ok : goal.returns-then-is_ok

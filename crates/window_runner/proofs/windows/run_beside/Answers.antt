@@ -1,6 +1,4 @@
-use Rattle.std.proofs.Common.{sym, refl, subst}
-use Rattle.outer_lane.specs.Setting.{setting_of}
-use Rattle.window_runner.specs.Alone.{IsOnRun}
+use Rattle.window_runner.proofs.Shared.{IsOnRun, refl, setting_of, subst, sym}
 use Rattle.window_runner.proofs.Reaching.{on_run_first}
 use Rattle.window_runner.proofs.windows.run_beside.Goals as goal
 

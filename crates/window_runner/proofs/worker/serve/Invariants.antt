@@ -1,5 +1,4 @@
-use Rattle.std.proofs.Common.{◌≡◌, ℕ}
-use Rattle.turn_board.specs.Tickets.{IsUnfinished}
+use Rattle.window_runner.proofs.Shared.{IsUnfinished, ℕ, ◌≡◌}
 use Rattle.window_runner.proofs.worker.serve.Given as goal
 
 abbrev pub invariant-loop : goal.invariant-loop
