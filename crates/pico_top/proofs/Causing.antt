@@ -1,5 +1,5 @@
 -- The causes of a call's status, from the ending of its walk; the status over files and bytes that are told; and the whole text.
-use Rattle.pico_top.proofs.Names.{◌≡◌, ◌⊎◌, ℕ, List, Option, None, Result, Ok, Err, refl, sym, inl, inr, ◌∙◌, subst, arith, ◌+◌, ◌-◌, ◌<◌, ◌≤◌, nat_le, Bool, true, false, not, ◌&&◌, if◌then◌else◌, [], ◌∷◌, ◌++◌, length, take, Some, IfSome, ap, length-append, SinkFault, Subcommand, Refusal, refused_line, status_of, BadWords, Way, Closed, Ended, Broken, Full, way_status, BearsOut, MayEnd, IsTaken, Board, Sunk, Outside, dialogue_from, Dialogue, Ending, Walks, failed_names, Verdict, verdict, status_over, Said, Heard, Refused, NoMemory, Puts, RunsOut, Ends, Takes, Writes, sent_status, memory_line, ConversesIn, append-nil, take_at, Files, Appends, closes, Refuses, Says, Hears}
+use Rattle.pico_top.proofs.Shared.{◌≡◌, ◌⊎◌, ℕ, List, Option, None, Result, Ok, Err, refl, sym, inl, inr, ◌∙◌, subst, arith, ◌+◌, ◌-◌, ◌<◌, ◌≤◌, nat_le, Bool, true, false, not, ◌&&◌, if◌then◌else◌, [], ◌∷◌, ◌++◌, length, take, Some, IfSome, ap, length-append, SinkFault, Subcommand, Refusal, refused_line, status_of, BadWords, Way, Closed, Ended, Broken, Full, way_status, BearsOut, MayEnd, IsTaken, Board, Sunk, Outside, dialogue_from, Dialogue, Ending, Walks, failed_names, Verdict, verdict, status_over, Said, Heard, Refused, NoMemory, Puts, RunsOut, Ends, Takes, Writes, sent_status, memory_line, ConversesIn, append-nil, take_at, Files, Appends, closes, Refuses, Says, Hears}
 use Rattle.rp_ports.specs.Fault.{Rose}
 use Rattle.rp_ports.specs.Source.{IsAtEnd}
 use Rattle.pico_top.specs.Causes.{HasCause, HasHeard, IsStatus, Causes, Fulfils, Completes, HasRunOut, DoesNotFail, SaysAll, AnswersAll}

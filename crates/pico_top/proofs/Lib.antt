@@ -1,4 +1,4 @@
 pub mod Causing
-pub mod Names
+pub mod Shared
 pub mod Telling
 pub mod Walking

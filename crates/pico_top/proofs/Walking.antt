@@ -1,5 +1,5 @@
 -- Walks of dialogues, what was opened and where its walk ended, and the programs of a run, one behind another.
-use Rattle.pico_top.proofs.Names.{◌≡◌, ℕ, ◌<◌, ◌≤◌, List, [], ◌∷◌, length, Bool, true, false, nat_le, Option, Some, None, Result, Ok, Err, refl, sym, ap, ap₂, subst, inl, inr, ◌⊎◌, arith, IsSomeAnd, IsErrAnd, map, ◌∙◌, ◌==◌, if◌then◌else◌, zero, suc, ◌+◌, ◌++◌, drop, get_or, IfOk, IfErr, Vec, Global, DeviceMeaning, Files, Answers, Done, Large, Failed, Aim, Setting, setting_of, image_of, Image, image_of_source, script_of, plans_of, Subcommand, Run, RunImage, DebugImage, Disassemble, Assemble, AssembleThumb, Generate, Refusal, refused_line, status_of, BadWords, Lost, TooLarge, BadImage, BadScript, BadSource, BadThumb, BadStart, Memory, Refusing, closes, Way, MayEnd, Board, Sunk, Reply, Dialogue, Use, judge, say, hear, aims_in, device_in, dialogue_of, dialogue_from, with_first, with_program, with_programs, with_script, with_linked, with_run, say_run, hear_run, run_reply, input_limit, listing, plain, session_reply, source_limit, Load, Refuse, Say, Hear, Ending, IsHeard, AfterLoad, Walks, Verdict, heard_as, on_held, verdict, failed_names, Refuses, Says, Hears, Said, Heard, Refused, NoMemory, EndsUnopened, Leads, PutsRefusal, Judges, Boots, use_for, opened_dialogue, ArePlaced, Places, taken_by, at_drop_more, State, PioLoad, Opened, first_of, Unopened, quits, Puts, PioEntry, entry_in}
+use Rattle.pico_top.proofs.Shared.{◌≡◌, ℕ, ◌<◌, ◌≤◌, List, [], ◌∷◌, length, Bool, true, false, nat_le, Option, Some, None, Result, Ok, Err, refl, sym, ap, ap₂, subst, inl, inr, ◌⊎◌, arith, IsSomeAnd, IsErrAnd, map, ◌∙◌, ◌==◌, if◌then◌else◌, zero, suc, ◌+◌, ◌++◌, drop, get_or, IfOk, IfErr, Vec, Global, DeviceMeaning, Files, Answers, Done, Large, Failed, Aim, Setting, setting_of, image_of, Image, image_of_source, script_of, plans_of, Subcommand, Run, RunImage, DebugImage, Disassemble, Assemble, AssembleThumb, Generate, Refusal, refused_line, status_of, BadWords, Lost, TooLarge, BadImage, BadScript, BadSource, BadThumb, BadStart, Memory, Refusing, closes, Way, MayEnd, Board, Sunk, Reply, Dialogue, Use, judge, say, hear, aims_in, device_in, dialogue_of, dialogue_from, with_first, with_program, with_programs, with_script, with_linked, with_run, say_run, hear_run, run_reply, input_limit, listing, plain, session_reply, source_limit, Load, Refuse, Say, Hear, Ending, IsHeard, AfterLoad, Walks, Verdict, heard_as, on_held, verdict, failed_names, Refuses, Says, Hears, Said, Heard, Refused, NoMemory, EndsUnopened, Leads, PutsRefusal, Judges, Boots, use_for, opened_dialogue, ArePlaced, Places, taken_by, at_drop_more, State, PioLoad, Opened, first_of, Unopened, quits, Puts, PioEntry, entry_in}
 use Rattle.rp_ports.specs.declared.shelf.Loaded.{Loaded}
 use Rattle.rp_ports.specs.declared.shelf.Loaded.TheVariants.{Memory as Starved}
 use Rattle.startup_blocks.specs.Table.{linked, HaveBytes}

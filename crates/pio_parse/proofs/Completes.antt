@@ -1,6 +1,6 @@
 -- Each part of a line of the grammar is read as it stands there, where the line goes on as the grammar has it.
 use Rattle.std.proofs.Common.{◌≡◌, Bool, true, false, if◌then◌else◌, ℕ, List, ◌∷◌, Option, Some, None, Ok, refl, ap, ◌∙◌}
-use Rattle.pio_parse.proofs.Names.{false≢true, JmpCondition, Always, MovOperation, Span, Token, Keyword, Pindirs, Side, Block, NoBlock, Public, TokenKind, Name, Number, KeywordToken, Comma, OpenBracket, OpenParenthesis, LineEnd, FileEnd, Term, Operation, Statement, InstructionStatement, map_ok, Outcome, after_head, head_kind, expression_at, operand_at, Expr, IsSum, postfix, mov_source_of, block_at, block_of, delay_at, irq_mode_at, irq_mode_of, is_comma, is_if_empty, is_if_full, is_open_bracket, is_rel, is_side, jmp_condition_at, jmp_condition_of, last_operand_at, modified_at, modifiers_at, mov_operation_at, past_comma, polarity_at, polarity_of, side_at, begins_label, is_opt, is_pindirs, label_at, statement_at, statement_of_kind, IsBlock, IsCondition, IsDelay, IsIrqMode, IsJmpCondition, IsLabel, IsLastValue, IsModifiers, IsMovOperation, IsOperation, IsPolarity, IsProgram, IsSetting, IsSide, IsStatement, IsValue, MayStand, stands, missing, number_value as number, name_value as name, parentheses_value as parentheses, last_value, x_zero, x_decrement, y_zero, y_decrement, x_not_y, pin, osr_not_empty, always, condition, no_polarity, polarity, block, noblock, no_word, plain, invert, tilde_source as tilde, reverse_source as reverse, no_mode, set_mode, nowait, wait_mode, clear_mode, jmp, wait_gpio, wait_pin, wait_irq, in_, out, push, pull, mov, irq, set, nop, no_side, side, no_delay, delay, side_first, delay_first, define, lang_opt, pio_version, program_line, nothing_said as nothing, setting, program, origin, side_set, wrap_target, wrap, word_statement as word, instruction, no_label, label}
+use Rattle.pio_parse.proofs.Shared.{false≢true, JmpCondition, Always, MovOperation, Span, Token, Keyword, Pindirs, Side, Block, NoBlock, Public, TokenKind, Name, Number, KeywordToken, Comma, OpenBracket, OpenParenthesis, LineEnd, FileEnd, Term, Operation, Statement, InstructionStatement, map_ok, Outcome, after_head, head_kind, expression_at, operand_at, Expr, IsSum, postfix, mov_source_of, block_at, block_of, delay_at, irq_mode_at, irq_mode_of, is_comma, is_if_empty, is_if_full, is_open_bracket, is_rel, is_side, jmp_condition_at, jmp_condition_of, last_operand_at, modified_at, modifiers_at, mov_operation_at, past_comma, polarity_at, polarity_of, side_at, begins_label, is_opt, is_pindirs, label_at, statement_at, statement_of_kind, IsBlock, IsCondition, IsDelay, IsIrqMode, IsJmpCondition, IsLabel, IsLastValue, IsModifiers, IsMovOperation, IsOperation, IsPolarity, IsProgram, IsSetting, IsSide, IsStatement, IsValue, MayStand, stands, missing, number_value as number, name_value as name, parentheses_value as parentheses, last_value, x_zero, x_decrement, y_zero, y_decrement, x_not_y, pin, osr_not_empty, always, condition, no_polarity, polarity, block, noblock, no_word, plain, invert, tilde_source as tilde, reverse_source as reverse, no_mode, set_mode, nowait, wait_mode, clear_mode, jmp, wait_gpio, wait_pin, wait_irq, in_, out, push, pull, mov, irq, set, nop, no_side, side, no_delay, delay, side_first, delay_first, define, lang_opt, pio_version, program_line, nothing_said as nothing, setting, program, origin, side_set, wrap_target, wrap, word_statement as word, instruction, no_label, label}
 use Rattle.pio_words.specs.declared.op.MovSource.{MovSource}
 use Rattle.pio_parse.proofs.Tests.{refused}
 use Rattle.pio_parse.proofs.Finds.{is_none_left, reads}

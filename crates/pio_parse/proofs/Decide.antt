@@ -1,6 +1,6 @@
 -- At the front of characters stands a lexeme, or none: so each file has its tokens or its first fault, and no other.
 use Rattle.std.proofs.Common.{◌≡◌, ◌==◌, ◌&&◌, ◌||◌, ℕ, zero, suc, ◌+◌, ◌<◌, ◌≤◌, Bool, true, false, List, [], ◌∷◌, ◌++◌, length, Option, None, Some, Result, Ok, Err, append_assoc, length-append, ◌⊎◌, inl, inr, arith, refl, sym, ap, ◌∙◌, subst}
-use Rattle.pio_parse.proofs.Names.{cases_Bool, SourcePosition, Token, TokenKind, Comma, Colon, DoubleColon, OpenBracket, CloseBracket, OpenParenthesis, CloseParenthesis, Plus, Minus, Star, BangToken as Bang, NotEqual, Tilde, LineEnd, FileEnd, is_word_char, scanned, AreLexemes, IsCharFaultAt, IsLexed, IsLexeme, IsMisplaced, StopsAt, are_word_chars, begins_by, ends_text_line as ends_line, ends_word, has_name, is_option, is_word, lacks, lacks_pair, tokens_at, word_at, first_position, moved, past, space, tab, carriage_return, line_end, comma, open_bracket, close_bracket, open_parenthesis, close_parenthesis, plus_lexeme as plus, minus, star, tilde, colon, double_colon, bang, not_equal, word, option, semicolon, slashes, comment, code_block, nothing, lexeme, other, slash, open_comment, percent, open_block, none_here, after_lexeme, CharFaultsAtFirst, LexesExactly}
+use Rattle.pio_parse.proofs.Shared.{cases_Bool, SourcePosition, Token, TokenKind, Comma, Colon, DoubleColon, OpenBracket, CloseBracket, OpenParenthesis, CloseParenthesis, Plus, Minus, Star, BangToken as Bang, NotEqual, Tilde, LineEnd, FileEnd, is_word_char, scanned, AreLexemes, IsCharFaultAt, IsLexed, IsLexeme, IsMisplaced, StopsAt, are_word_chars, begins_by, ends_text_line as ends_line, ends_word, has_name, is_option, is_word, lacks, lacks_pair, tokens_at, word_at, first_position, moved, past, space, tab, carriage_return, line_end, comma, open_bracket, close_bracket, open_parenthesis, close_parenthesis, plus_lexeme as plus, minus, star, tilde, colon, double_colon, bang, not_equal, word, option, semicolon, slashes, comment, code_block, nothing, lexeme, other, slash, open_comment, percent, open_block, none_here, after_lexeme, CharFaultsAtFirst, LexesExactly}
 use Rattle.pio_parse.proofs.Tests.{both, first_of, is_or, neither}
 use Rattle.pio_parse.proofs.Lexemes.{reads_lexemes, reads_stop}
 

@@ -1,6 +1,6 @@
 -- How an expression and an operand are read where a line goes on after them.
 use Rattle.std.proofs.Common.{◌≡◌, ◌≢◌, not, true, ℕ, List, [], ◌∷◌, ◌++◌, Ok, Err, inl, inr, refl, sym, ap, ◌∙◌, subst}
-use Rattle.pio_parse.proofs.Names.{false≢true, SourcePosition, Token, TokenKind, Name, Number, OpenParenthesis, CloseParenthesis, Plus, Minus, Star, Term, NumberTerm, NameTerm, and_then, map_ok, Outcome, expected, head_kind, name_at, is_end, expression_at, is_close_parenthesis, operand_at, operand_of_kind, EndsSum, Expr, IsSum, postfix, product, operand, number as number_operand, ends_line, is_line, IsValue, number_value as number, name_value as name, parentheses_value as parentheses}
+use Rattle.pio_parse.proofs.Shared.{false≢true, SourcePosition, Token, TokenKind, Name, Number, OpenParenthesis, CloseParenthesis, Plus, Minus, Star, Term, NumberTerm, NameTerm, and_then, map_ok, Outcome, expected, head_kind, name_at, is_end, expression_at, is_close_parenthesis, operand_at, operand_of_kind, EndsSum, Expr, IsSum, postfix, product, operand, number as number_operand, ends_line, is_line, IsValue, number_value as number, name_value as name, parentheses_value as parentheses}
 use Rattle.pio_parse.proofs.Tests.{both, err_is, not_true, refused}
 use Rattle.pio_parse.proofs.Finds.{finds_tree, is_none_left, reads}
 use Rattle.pio_parse.proofs.Extents.{Refusal, extent, ends_sum, none_ends, refusal}

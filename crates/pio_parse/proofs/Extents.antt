@@ -1,6 +1,6 @@
 -- How far an expression goes: before whatever ends it, it is the same, and where it is refused it could have come to an end.
 use Rattle.std.proofs.Common.{◌≡◌, ◌==◌, ◌&&◌, not, Bool, true, false, if◌then◌else◌, ℕ, zero, suc, ◌-◌, List, [], ◌∷◌, ◌++◌, Option, Some, None, Result, Ok, Err, arith, refl, sym, ap, ◌∙◌, subst}
-use Rattle.pio_parse.proofs.Names.{false≢true, ⊤, SourcePosition, Token, TokenKind, Name, Number, DoubleColon, OpenParenthesis, CloseParenthesis, Plus, Minus, Star, LineEnd, FileEnd, Pending, Reading, after_newest, expression_at, expression_from, nothing_read, operand_step, operator_step, reduced, token_step, Term, NumberTerm, map_ok, Outcome, is_end, ends_line}
+use Rattle.pio_parse.proofs.Shared.{false≢true, ⊤, SourcePosition, Token, TokenKind, Name, Number, DoubleColon, OpenParenthesis, CloseParenthesis, Plus, Minus, Star, LineEnd, FileEnd, Pending, Reading, after_newest, expression_at, expression_from, nothing_read, operand_step, operator_step, reduced, token_step, Term, NumberTerm, map_ok, Outcome, is_end, ends_line}
 use Rattle.pio_parse.proofs.Follows.{after_operand}
 use Rattle.pio_parse.proofs.Tests.{err_is, refused, same_left, same_value}
 

@@ -1,6 +1,6 @@
 -- A file is parsed as the grammar of its lines has it, and its Syntax fault is at the first token that fits nothing.
 use Rattle.std.proofs.Common.{◌≡◌, ◌&&◌, ◌||◌, Bool, true, false, if◌then◌else◌, ℕ, List, [], ◌∷◌, ◌++◌, Result, Ok, Err, refl, sym, ap, ◌∙◌, subst}
-use Rattle.pio_parse.proofs.Names.{false≢true, SourcePosition, Token, Line, Source, and_then, map_ok, Outcome, scanned, AreLines, FaultsAt, IsSource, IsSyntaxFaultAt, gathered, token_lines, with_first, lines_at, parsed, parsed_tokens, with_syntax, SyntaxAt, is_end, is_program, line_at, OneMeaning, ParsesGrammar, SyntaxFaultsAtFirst, is_line, IsLine}
+use Rattle.pio_parse.proofs.Shared.{false≢true, SourcePosition, Token, Line, Source, and_then, map_ok, Outcome, scanned, AreLines, FaultsAt, IsSource, IsSyntaxFaultAt, gathered, token_lines, with_first, lines_at, parsed, parsed_tokens, with_syntax, SyntaxAt, is_end, is_program, line_at, OneMeaning, ParsesGrammar, SyntaxFaultsAtFirst, is_line, IsLine}
 use Rattle.pio_parse.proofs.Tests.{both, err_is, ok_is, refused, same_value}
 use Rattle.pio_parse.proofs.Decide.{lexes_exactly}
 use Rattle.pio_parse.specs.Files.AreLines.{no_line, one_line}

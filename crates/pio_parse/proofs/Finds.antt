@@ -1,6 +1,6 @@
 -- Where the stack of waiting operators accepts tokens, the grammar has a tree for them.
 use Rattle.std.proofs.Common.{◌≡◌, ◌≢◌, ◌==◌, ◌⊎◌, inl, inr, ℕ, zero, suc, pred, ◌+◌, ◌<◌, ◌≤◌, Bool, true, false, List, [], ◌∷◌, ◌++◌, length, length-append, None, Ok, Err, arith, refl, sym, ap, ◌∙◌, subst}
-use Rattle.pio_parse.proofs.Names.{false≢true, SourcePosition, Span, Token, TokenKind, Name as NameToken, Number as NumberToken, DoubleColon, OpenParenthesis, CloseParenthesis, Plus, Minus, Star, Add, Subtract, Multiply, NegateOperator, ReverseOperator, Term, OperatorTerm, Pending, Reading, expression_at, operand_step, operator_step, Parenthesis, OperatorPending, head_kind, name_at, EndsProduct, EndsSum, Expr, IsExpression, IsOperand, IsProduct, IsSum, postfix, NumberTree as Number, NameTree as Name, Negate, Reverse, Sum, Difference, Product, product, plus, minus_sum as minus, operand, times, number, name, parentheses, negate, reverse}
+use Rattle.pio_parse.proofs.Shared.{false≢true, SourcePosition, Span, Token, TokenKind, Name as NameToken, Number as NumberToken, DoubleColon, OpenParenthesis, CloseParenthesis, Plus, Minus, Star, Add, Subtract, Multiply, NegateOperator, ReverseOperator, Term, OperatorTerm, Pending, Reading, expression_at, operand_step, operator_step, Parenthesis, OperatorPending, head_kind, name_at, EndsProduct, EndsSum, Expr, IsExpression, IsOperand, IsProduct, IsSum, postfix, NumberTree as Number, NameTree as Name, Negate, Reverse, Sum, Difference, Product, product, plus, minus_sum as minus, operand, times, number, name, parentheses, negate, reverse}
 use Rattle.pio_parse.specs.Laws.{NoneLonger}
 use Rattle.pio_parse.proofs.Extents.{extent_of}
 use Rattle.pio_parse.proofs.Tests.{refused, same_left, same_value}

@@ -1,6 +1,6 @@
 -- A line, and an expression, is refused at the first token with which none of the grammar begins as the tokens up to it do.
 use Rattle.std.proofs.Common.{◌≡◌, not, Bool, true, false, ℕ, List, [], ◌∷◌, ◌++◌, Result, Ok, Err, inl, inr, append_assoc, append-nil, refl, sym, ap, ◌∙◌, subst}
-use Rattle.pio_parse.proofs.Names.{SourcePosition, Token, LineEnd, map_ok, Outcome, is_end, line_at, expression_at, BeginsExpression, IsExpression, FaultsAtFirst, ends_line, LineFaultsAtFirst, is_line, BeginsLine, IsLine}
+use Rattle.pio_parse.proofs.Shared.{SourcePosition, Token, LineEnd, map_ok, Outcome, is_end, line_at, expression_at, BeginsExpression, IsExpression, FaultsAtFirst, ends_line, LineFaultsAtFirst, is_line, BeginsLine, IsLine}
 use Rattle.pio_parse.proofs.Tests.{both, err_is, not_true, refused}
 use Rattle.pio_parse.proofs.Finds.{finds_tree, reads}
 use Rattle.pio_parse.proofs.Extents.{refusal}

@@ -1,6 +1,6 @@
 -- The stack of waiting operators follows the grammar: where tokens are a sum, a product or an operand, it comes to the terms of its tree.
 use Rattle.std.proofs.Common.{◌≡◌, ◌≢◌, ◌==◌, ℕ, ◌+◌, ◌-◌, nat_le, Bool, true, false, not, if◌then◌else◌, List, [], ◌∷◌, ◌++◌, Option, Some, None, Result, Ok, Err, arith, refl, sym, ap, ◌∙◌, append_assoc}
-use Rattle.pio_parse.proofs.Names.{false≢true, option_map_or, SourcePosition, Token, TokenKind, DoubleColon, OpenParenthesis, CloseParenthesis, Plus, Minus, Star, Operator, Add, Subtract, Multiply, NegateOperator, ReverseOperator, Term, OperatorTerm, Pending, Reading, expression_from, level_of, operator_step, reduced, with_closed, Parenthesis, OperatorPending, and_then, Outcome, head_kind, Expr, IsOperand, IsProduct, IsSum, postfix, product, plus, minus_sum as minus, operand, times, number, name, parentheses, negate, reverse}
+use Rattle.pio_parse.proofs.Shared.{false≢true, option_map_or, SourcePosition, Token, TokenKind, DoubleColon, OpenParenthesis, CloseParenthesis, Plus, Minus, Star, Operator, Add, Subtract, Multiply, NegateOperator, ReverseOperator, Term, OperatorTerm, Pending, Reading, expression_from, level_of, operator_step, reduced, with_closed, Parenthesis, OperatorPending, and_then, Outcome, head_kind, Expr, IsOperand, IsProduct, IsSum, postfix, product, plus, minus_sum as minus, operand, times, number, name, parentheses, negate, reverse}
 
 -- what is read where an operand comes next, and after an operand
 abbrev pub before_operand : List ℕ → List Pending → List Term → ℕ → List Token → Outcome (List Term)

@@ -1,6 +1,6 @@
 -- The lines that `parse` gathers one after the other make the source of the lines.
 use Rattle.std.proofs.Common.{◌≡◌, ◌||◌, ℕ, Bool, true, false, cond, List, [], ◌∷◌, ◌++◌, Option, None, Some, append-nil, append_assoc, refl, sym, ap, ◌∙◌}
-use Rattle.pio_parse.proofs.Names.{Result, Ok, Err, is_some, option_to_list, SourcePosition, Token, Statement, Program, Line, SourceProgram, Source, Groups, and_then, map_ok, is_end, is_program, line_at, before_by, gathered, token_lines, with_first, lines_at, source_of, grouped, grouped_by, line_step, no_groups, source_from}
+use Rattle.pio_parse.proofs.Shared.{Result, Ok, Err, is_some, option_to_list, SourcePosition, Token, Statement, Program, Line, SourceProgram, Source, Groups, and_then, map_ok, is_end, is_program, line_at, before_by, gathered, token_lines, with_first, lines_at, source_of, grouped, grouped_by, line_step, no_groups, source_from}
 
 -- what is gathered, with the source of the lines that come
 abbrev joined_to : List Line → List SourceProgram → Option SourceProgram → Source → Source

@@ -1,6 +1,6 @@
 -- How characters are read: each lexeme gives its token, and the next begins where it ends; where none stands, they are refused.
 use Rattle.std.proofs.Common.{◌≡◌, ◌==◌, ◌&&◌, ◌||◌, not, ℕ, suc, ◌+◌, Bool, true, false, cond, List, [], ◌∷◌, ◌++◌, length, Option, None, Some, Result, Ok, Err, slice_range, drop, option_to_list, append-nil, append_assoc, length-append, take_at, drop_at, inl, inr, arith, refl, sym, ap, ◌∙◌, subst}
-use Rattle.pio_parse.proofs.Names.{⊤, ◌-◌, option_map_or, eqb_tells, SourcePosition, Token, LangOpt, TokenKind, DirectiveToken, Colon as ColonToken, BangToken, FileEnd, Mode, Between, Word, ColonMode as Colon, Bang, Slash, LineComment, BlockComment, Header, Code, Step, begins, ends, finishes, without_token, scanned, scanned_from, sign_of, single_token, steps, word_ends, word_token_ends, and_then, map_ok, is_word_char, word_kind, first_position, position_behind, moved, past, AreLexemes, IsCharFaultAt, IsLexed, IsLexeme, IsMisplaced, StopsAt, are_word_chars, begins_by, ends_badly, ends_text_line as ends_line, ends_word, first_chars, has_name, is_among, is_option, is_word, lacks, lacks_pair, tokens_at, word_at, space, tab, carriage_return, line_end, comma, open_bracket, close_bracket, open_parenthesis, close_parenthesis, plus_lexeme as plus, minus, star, tilde, colon, double_colon, bang, not_equal, word, option, semicolon, slashes, comment, code_block, nothing, lexeme, other, slash, open_comment, percent, open_block, none_here, after_lexeme}
+use Rattle.pio_parse.proofs.Shared.{⊤, ◌-◌, option_map_or, eqb_tells, SourcePosition, Token, LangOpt, TokenKind, DirectiveToken, Colon as ColonToken, BangToken, FileEnd, Mode, Between, Word, ColonMode as Colon, Bang, Slash, LineComment, BlockComment, Header, Code, Step, begins, ends, finishes, without_token, scanned, scanned_from, sign_of, single_token, steps, word_ends, word_token_ends, and_then, map_ok, is_word_char, word_kind, first_position, position_behind, moved, past, AreLexemes, IsCharFaultAt, IsLexed, IsLexeme, IsMisplaced, StopsAt, are_word_chars, begins_by, ends_badly, ends_text_line as ends_line, ends_word, first_chars, has_name, is_among, is_option, is_word, lacks, lacks_pair, tokens_at, word_at, space, tab, carriage_return, line_end, comma, open_bracket, close_bracket, open_parenthesis, close_parenthesis, plus_lexeme as plus, minus, star, tilde, colon, double_colon, bang, not_equal, word, option, semicolon, slashes, comment, code_block, nothing, lexeme, other, slash, open_comment, percent, open_block, none_here, after_lexeme}
 use Rattle.pio_parse.proofs.Tests.{apart, both, first_of, is_or, not_true}
 
 -- where a scan stands: at an index and a position, behind another, with the tokens so far

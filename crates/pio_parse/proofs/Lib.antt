@@ -1,4 +1,4 @@
-pub mod Names
+pub mod Shared
 pub mod Tests
 pub mod Gathered
 pub mod SourceLines

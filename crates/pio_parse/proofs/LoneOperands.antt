@@ -1,6 +1,6 @@
 -- What is read outside brackets and directives is an operand of the grammar without an operator before it.
 use Rattle.std.proofs.Common.{◌≡◌, ◌≢◌, ℕ, Bool, true, false, List, [], ◌∷◌, Ok, Err, refl, sym, ap, ◌∙◌, subst}
-use Rattle.pio_parse.proofs.Names.{false≢true, Token, TokenKind, Name as NameToken, Number as NumberToken, DoubleColon, OpenParenthesis, Minus, Term, expression_at, is_close_parenthesis, operand_at, operand_of_kind, map_ok, Outcome, expected, head_kind, IsValue, name_value, number_value, parentheses_value, Expr, IsOperand, postfix, number, name, parentheses, negate, reverse, ReadsOperands}
+use Rattle.pio_parse.proofs.Shared.{false≢true, Token, TokenKind, Name as NameToken, Number as NumberToken, DoubleColon, OpenParenthesis, Minus, Term, expression_at, is_close_parenthesis, operand_at, operand_of_kind, map_ok, Outcome, expected, head_kind, IsValue, name_value, number_value, parentheses_value, Expr, IsOperand, postfix, number, name, parentheses, negate, reverse, ReadsOperands}
 use Rattle.pio_parse.proofs.Completes.{value_is}
 use Rattle.pio_parse.proofs.Expressions.{close_of}
 use Rattle.pio_parse.proofs.Finds.{finds_tree}

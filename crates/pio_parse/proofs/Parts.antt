@@ -1,6 +1,6 @@
 -- How the parts of a line are read: its label, its directive or its instruction with its operands and modifiers, and its end.
 use Rattle.std.proofs.Common.{◌≡◌, ◌==◌, ◌&&◌, ◌||◌, Bool, true, false, if◌then◌else◌, ℕ, suc, ◌-◌, List, [], ◌∷◌, Option, Some, None, Ok, Err, inl, inr, arith, refl, sym, ap, ◌∙◌, subst}
-use Rattle.pio_parse.proofs.Names.{eqb_tells, false≢true, JmpCondition, Always, XZero, XDecrement, YZero, YDecrement, XNotY, PinHigh, OsrNotEmpty, MovOperation, SourcePosition, Span, Token, Keyword, Public, Opt, Pindirs, Jmp, Wait, In, Out, Push, Pull, Mov, Irq, Set, Nop, Side, Gpio, Pin, Rel, Pins, X, Y, Osre, IfFull, IfEmpty, Block, NoBlock, NoWait, Clear, ProgramDirective as Program, Define, Origin, SideSet, WrapTarget, Wrap, WordDirective as Word, LangOpt, PioVersion, TokenKind, Name, KeywordToken, DirectiveToken, Number, Comma, Colon, Minus, NotEqual, BangToken as Bang, Tilde, DoubleColon, OpenBracket, CloseBracket, LineEnd, FileEnd, Term, NumberTerm, Operation, Statement, Program as ProgramStatement, DefineStatement, OriginStatement, SideSetStatement, WrapTargetStatement, WrapStatement, WordStatement, InstructionStatement, and_then, map_ok, Outcome, after_head, expected, misfit, are_together, head_kind, head_position, is_program, name_at, expression_at, operand_at, in_source_of, mov_destination_of, mov_source_of, out_destination_of, set_destination_of, block_at, block_of, conditional_at, decrement_at, delay_at, flag_at, in_at, irq_at, irq_mode_at, irq_mode_of, is_close_bracket, is_comma, is_if_empty, is_if_full, is_minus, is_not_equal, is_open_bracket, is_rel, is_side, is_y, jmp_at, jmp_condition_at, jmp_condition_of, last_operand_at, modified_at, modifiers_at, mov_at, mov_operation_at, mov_operation_of, named_at, not_condition_at, not_condition_of, out_at, past_comma, polarity_at, polarity_of, pull_at, push_at, set_at, side_at, wait_at, wait_for, x_condition_at, begins_label, define_at, is_colon, is_end_after, is_opt, is_pindirs, is_public, is_zero, label_at, name_of_kind, name_token_at, past_public, side_set_at, statement_at, statement_of_kind, version_at, is_line, IsBlock, IsCondition, IsDecrement, IsDelay, IsIrqMode, IsJmpCondition, IsLabel, IsLastValue, IsModifiers, IsMovOperation, IsOperation, IsPolarity, IsProgram, IsSetting, IsSide, IsStatement, MayStand, last_value, x_zero, x_decrement, y_zero, y_decrement, x_not_y, pin, osr_not_empty, always, condition, no_polarity, polarity, block, noblock, no_word, plain, invert, tilde_source as tilde, reverse_source as reverse, no_mode, set_mode, nowait, wait_mode, clear_mode, jmp, wait_gpio, wait_pin, wait_irq, in_, out, push, pull, mov, irq, set, nop, no_side, side, no_delay, delay, side_first, delay_first, define, lang_opt, pio_version, program_line, nothing_said as nothing, setting, program, origin, side_set, wrap_target, wrap, word_statement, instruction, no_label, label}
+use Rattle.pio_parse.proofs.Shared.{eqb_tells, false≢true, JmpCondition, Always, XZero, XDecrement, YZero, YDecrement, XNotY, PinHigh, OsrNotEmpty, MovOperation, SourcePosition, Span, Token, Keyword, Public, Opt, Pindirs, Jmp, Wait, In, Out, Push, Pull, Mov, Irq, Set, Nop, Side, Gpio, Pin, Rel, Pins, X, Y, Osre, IfFull, IfEmpty, Block, NoBlock, NoWait, Clear, ProgramDirective as Program, Define, Origin, SideSet, WrapTarget, Wrap, WordDirective as Word, LangOpt, PioVersion, TokenKind, Name, KeywordToken, DirectiveToken, Number, Comma, Colon, Minus, NotEqual, BangToken as Bang, Tilde, DoubleColon, OpenBracket, CloseBracket, LineEnd, FileEnd, Term, NumberTerm, Operation, Statement, Program as ProgramStatement, DefineStatement, OriginStatement, SideSetStatement, WrapTargetStatement, WrapStatement, WordStatement, InstructionStatement, and_then, map_ok, Outcome, after_head, expected, misfit, are_together, head_kind, head_position, is_program, name_at, expression_at, operand_at, in_source_of, mov_destination_of, mov_source_of, out_destination_of, set_destination_of, block_at, block_of, conditional_at, decrement_at, delay_at, flag_at, in_at, irq_at, irq_mode_at, irq_mode_of, is_close_bracket, is_comma, is_if_empty, is_if_full, is_minus, is_not_equal, is_open_bracket, is_rel, is_side, is_y, jmp_at, jmp_condition_at, jmp_condition_of, last_operand_at, modified_at, modifiers_at, mov_at, mov_operation_at, mov_operation_of, named_at, not_condition_at, not_condition_of, out_at, past_comma, polarity_at, polarity_of, pull_at, push_at, set_at, side_at, wait_at, wait_for, x_condition_at, begins_label, define_at, is_colon, is_end_after, is_opt, is_pindirs, is_public, is_zero, label_at, name_of_kind, name_token_at, past_public, side_set_at, statement_at, statement_of_kind, version_at, is_line, IsBlock, IsCondition, IsDecrement, IsDelay, IsIrqMode, IsJmpCondition, IsLabel, IsLastValue, IsModifiers, IsMovOperation, IsOperation, IsPolarity, IsProgram, IsSetting, IsSide, IsStatement, MayStand, last_value, x_zero, x_decrement, y_zero, y_decrement, x_not_y, pin, osr_not_empty, always, condition, no_polarity, polarity, block, noblock, no_word, plain, invert, tilde_source as tilde, reverse_source as reverse, no_mode, set_mode, nowait, wait_mode, clear_mode, jmp, wait_gpio, wait_pin, wait_irq, in_, out, push, pull, mov, irq, set, nop, no_side, side, no_delay, delay, side_first, delay_first, define, lang_opt, pio_version, program_line, nothing_said as nothing, setting, program, origin, side_set, wrap_target, wrap, word_statement, instruction, no_label, label}
 use Rattle.pio_words.specs.declared.op.InSource.TheVariants.{Pins as InPins}
 use Rattle.pio_words.specs.declared.op.OutDestination.TheVariants.{Pins as OutPins}
 use Rattle.pio_words.specs.declared.op.SetDestination.TheVariants.{Pins as SetPins}

@@ -1,6 +1,6 @@
 -- A program whose lines are read one by one.
 use Rattle.std.proofs.Common.{◌≡◌, nat_le, ℕ, ◌+◌, Bool, true, false, List, [], ◌∷◌, ◌++◌, length, Option, None, Some, Ok, append-nil, append_assoc, codes, arith, refl, ap, ◌∙◌}
-use Rattle.pio_parse.proofs.Names.{⊤, le-leb, SourcePosition, Token, ProgramDirective, DirectiveToken, Name, FileEnd, LineEnd, BangToken, AreLexemes, nothing, Between, Statement, Program, Line, SourceProgram, Source, Groups, and_then, past, scanned, scanned_from, name_at, line_at, parsed, parsed_tokens, with_syntax, grouped_by, line_step, no_groups, source_from}
+use Rattle.pio_parse.proofs.Shared.{⊤, le-leb, SourcePosition, Token, ProgramDirective, DirectiveToken, Name, FileEnd, LineEnd, BangToken, AreLexemes, nothing, Between, Statement, Program, Line, SourceProgram, Source, Groups, and_then, past, scanned, scanned_from, name_at, line_at, parsed, parsed_tokens, with_syntax, grouped_by, line_step, no_groups, source_from}
 use Rattle.pio_parse.proofs.Gathered.{source_gathered}
 use Rattle.pio_parse.proofs.Lexemes.{lexemes_read}
 use Rattle.pio_parse.proofs.Pieces.{AreApart, Piece, chars_of, joined, kind_of, pieces_are, position_at, token_at, tokens_of}

@@ -1,6 +1,6 @@
 -- A line as the pieces that it is made of: words, signs and blanks. With its end they are its lexemes.
 use Rattle.std.proofs.Common.{◌≡◌, ◌==◌, ◌||◌, ℕ, suc, ◌+◌, Bool, true, false, List, [], ◌∷◌, ◌++◌, length, arith, refl, sym, ap, ◌∙◌, subst, append_assoc}
-use Rattle.pio_parse.proofs.Names.{false≢true, ⊤, SourcePosition, is_word_char, moved, Span, Token, TokenKind, Comma as CommaToken, Minus as MinusToken, OpenBracket, CloseBracket, BangToken, DoubleColon, NotEqual as NotEqualToken, LineEnd, word_kind, is_end, AreLexemes, are_word_chars, begins_by, ends_word as ends_any_word, is_option, is_word, word_at, lexeme, space, line_end, comma, minus, open_bracket, close_bracket, bang, double_colon, not_equal, word}
+use Rattle.pio_parse.proofs.Shared.{false≢true, ⊤, SourcePosition, is_word_char, moved, Span, Token, TokenKind, Comma as CommaToken, Minus as MinusToken, OpenBracket, CloseBracket, BangToken, DoubleColon, NotEqual as NotEqualToken, LineEnd, word_kind, is_end, AreLexemes, are_word_chars, begins_by, ends_word as ends_any_word, is_option, is_word, word_at, lexeme, space, line_end, comma, minus, open_bracket, close_bracket, bang, double_colon, not_equal, word}
 use Rattle.pio_parse.proofs.Tests.{apart, both}
 
 pub data Piece : Type 0 where

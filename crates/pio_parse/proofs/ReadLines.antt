@@ -1,6 +1,6 @@
 -- A line is read as the grammar has it, and is refused at the first token with which no line of the grammar begins so.
 use Rattle.std.proofs.Common.{◌≡◌, ◌||◌, not, Bool, true, false, if◌then◌else◌, ℕ, List, [], ◌∷◌, Option, None, Ok, Err, ◌⊎◌, inl, inr, refl, sym, ap, ◌∙◌, subst}
-use Rattle.pio_parse.proofs.Names.{false≢true, SourcePosition, Token, ProgramDirective as Program, Define, LangOpt, PioVersion, TokenKind, DirectiveToken, LineEnd, FileEnd, Statement, Line, and_then, map_ok, Outcome, after_head, misfit, head_kind, head_position, is_end, is_program, begins_label, end_at, is_end_after, is_first, label_at, line_at, statement_at, statement_of_kind, ReadsLines, is_line, IsLabel, IsLine, IsProgram, IsSetting, IsStatement, define, lang_opt, pio_version, program_line}
+use Rattle.pio_parse.proofs.Shared.{false≢true, SourcePosition, Token, ProgramDirective as Program, Define, LangOpt, PioVersion, TokenKind, DirectiveToken, LineEnd, FileEnd, Statement, Line, and_then, map_ok, Outcome, after_head, misfit, head_kind, head_position, is_end, is_program, begins_label, end_at, is_end_after, is_first, label_at, line_at, statement_at, statement_of_kind, ReadsLines, is_line, IsLabel, IsLine, IsProgram, IsSetting, IsStatement, define, lang_opt, pio_version, program_line}
 use Rattle.pio_parse.proofs.Tests.{both, not_true, refused, same_left, same_value}
 use Rattle.pio_parse.specs.Lines.IsLine.{line as a_line, blank_before, setting_before, first_program}
 use Rattle.pio_parse.proofs.Reading.{Answer, Good, Rest, Step, Then, bind, choose, reads_to, token_of}

@@ -1,6 +1,6 @@
 -- What `parse` reads is what the grammar has, and the grammar has one answer for each file.
 use Rattle.std.proofs.Common.{◌≡◌, ℕ, List, Result, Ok, Err, refl, sym, ap, ◌∙◌}
-use Rattle.pio_parse.proofs.Names.{IfOk, IfErr, SourcePosition, Token, Source, EarlyFault, IsAnswer, IsFault, IsSource, Reader, CharAt, SyntaxAt, OneAnswer, IsFaultOf, parsed, parsed_tokens, with_syntax, scanned}
+use Rattle.pio_parse.proofs.Shared.{IfOk, IfErr, SourcePosition, Token, Source, EarlyFault, IsAnswer, IsFault, IsSource, Reader, CharAt, SyntaxAt, OneAnswer, IsFaultOf, parsed, parsed_tokens, with_syntax, scanned}
 use Rattle.pio_parse.specs.declared.fault.PioFault.{PioFault}
 use Rattle.pio_parse.specs.declared.fault.PioFault.TheVariants.{Char, Syntax}
 use Rattle.pio_parse.proofs.Decide.{char_faults_at_first}

@@ -1,6 +1,6 @@
 -- How the rest of a line is read, part by part: what stands there where it is read, and where it is refused.
 use Rattle.std.proofs.Common.{◌≡◌, not, Bool, true, false, ℕ, List, [], ◌∷◌, Option, Some, None, Ok, Err, ◌⊎◌, inl, inr, refl, sym, ap, ◌∙◌}
-use Rattle.pio_parse.proofs.Names.{false≢true, SourcePosition, Token, TokenKind, LineEnd, FileEnd, Statement, and_then, map_ok, Outcome, after_head, expected, misfit, head_kind, head_position, is_end, flag_at, named_at, MayStand, stands, missing, is_line}
+use Rattle.pio_parse.proofs.Shared.{false≢true, SourcePosition, Token, TokenKind, LineEnd, FileEnd, Statement, and_then, map_ok, Outcome, after_head, expected, misfit, head_kind, head_position, is_end, flag_at, named_at, MayStand, stands, missing, is_line}
 use Rattle.pio_parse.proofs.Tests.{both, err_is, refused}
 use Rattle.pio_parse.proofs.Extents.{ends_sum}
 

@@ -1,5 +1,5 @@
 use Rattle.std.proofs.Common.{◌≡◌, ℕ, suc, ◌+◌, ◌-◌, ◌<◌, ◌≤◌, true, false, List, [], ◌∷◌, ◌++◌, length, take, drop, get_or, arith, refl, ap, ◌∙◌, length-drop, drop-cons, add-one}
-use Rattle.pio_parse.proofs.Names.{slice_range, Result, Ok, get_or-drop, SourcePosition, Token, Source, Groups, and_then, is_end, source_of, line_step, source_from}
+use Rattle.pio_parse.proofs.Shared.{slice_range, Result, Ok, get_or-drop, SourcePosition, Token, Source, Groups, and_then, is_end, source_of, line_step, source_from}
 use Rattle.std.proofs.Math.Seq.{take-suc}
 use Rattle.pio_parse.specs.declared.cursor.Stop.{Stop}
 use Rattle.pio_parse.specs.declared.cursor.Stop.TheVariants.{Syntax, Memory}

@@ -1,6 +1,6 @@
 -- A tree can be told from its terms in postfix order, so tokens have one tree at most.
 use Rattle.std.proofs.Common.{◌≡◌, ℕ, List, [], ◌∷◌, ◌++◌, Ok, refl, sym, ap, ◌∙◌, subst, append_assoc, append-nil}
-use Rattle.pio_parse.proofs.Names.{Token, Operator, Add, Subtract, Multiply, NegateOperator, ReverseOperator, Term, NumberTerm, NameTerm, OperatorTerm, expression_at, Expr, IsExpression, postfix, NumberTree as Number, NameTree as Name, Negate, Reverse, Sum, Difference, Product}
+use Rattle.pio_parse.proofs.Shared.{Token, Operator, Add, Subtract, Multiply, NegateOperator, ReverseOperator, Term, NumberTerm, NameTerm, OperatorTerm, expression_at, Expr, IsExpression, postfix, NumberTree as Number, NameTree as Name, Negate, Reverse, Sum, Difference, Product}
 use Rattle.pio_parse.proofs.Tests.{same_left, same_value}
 use Rattle.pio_parse.proofs.Finds.{finds_tree, reads}
 

@@ -1,7 +1,7 @@
 use Rattle.std.proofs.Common.{map, None, refl, inl}
 use Rattle.std.specs.String.{string_bytes}
 use Rattle.command_words.specs.declared.refusal.Refusal.TheVariants.{Words}
-use Rattle.pico_top.proofs.Names.{BadWords, Refused, Refusing, read_parts_fit}
+use Rattle.pico_top.proofs.Shared.{BadWords, Refused, Refusing, read_parts_fit}
 use Rattle.pico_top.proofs.Causing.{causes, completes}
 use Rattle.pico_top.proofs.Telling.{out_converses, read_converses, unopened_converses}
 use Rattle.pico_top.proofs.pico.Goals as goal

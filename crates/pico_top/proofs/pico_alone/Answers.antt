@@ -1,4 +1,4 @@
-use Rattle.pico_top.proofs.Names.{read_parts_fit}
+use Rattle.pico_top.proofs.Shared.{read_parts_fit}
 use Rattle.pico_top.proofs.Causing.{causes, completes}
 use Rattle.pico_top.proofs.pico_alone.Goals as goal
 

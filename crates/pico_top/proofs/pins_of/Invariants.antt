@@ -1,4 +1,4 @@
-use Rattle.pico_top.proofs.Names.{◌≡◌, map, take, counts_of}
+use Rattle.pico_top.proofs.Shared.{◌≡◌, map, take, counts_of}
 use Rattle.pico_top.proofs.pins_of.Given as goal
 
 -- the numbers of the first parts

@@ -1,6 +1,6 @@
 use Rattle.std.specs.String.{string_bytes}
 use Rattle.command_words.specs.Read.{Reads, command_in}
-use Rattle.pico_top.proofs.Names.{◌∙◌, ap₂, sym, subst, length-map, map, reading}
+use Rattle.pico_top.proofs.Shared.{◌∙◌, ap₂, sym, subst, length-map, map, reading}
 use Rattle.pico_top.proofs.read.Goals as goal
 
 pub returns : goal.returns

@@ -1,4 +1,4 @@
-use Rattle.pico_top.proofs.Names.{refl, board}
+use Rattle.pico_top.proofs.Shared.{refl, board}
 use Rattle.pico_top.proofs.Telling.{beside_none, beside_some, out_converses, served}
 use Rattle.pico_top.proofs.serve.Goals as goal
 

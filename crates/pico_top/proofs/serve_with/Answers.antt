@@ -1,4 +1,4 @@
-use Rattle.pico_top.proofs.Names.{refl, sym}
+use Rattle.pico_top.proofs.Shared.{refl, sym}
 use Rattle.pico_top.specs.Dialogue.{drawn}
 use Rattle.pico_top.proofs.Telling.{out_converses, opened_converses, unopened_converses, tells_text}
 use Rattle.pico_top.proofs.serve_with.Goals as goal

@@ -1,4 +1,4 @@
-use Rattle.pico_top.proofs.Names.{refl, ap, ◌∙◌, arith, State}
+use Rattle.pico_top.proofs.Shared.{refl, ap, ◌∙◌, arith, State}
 use Rattle.pico_top.proofs.Walking.{start_cycle}
 use Rattle.pico_top.proofs.open.boot.Goals as goal
 

@@ -1,5 +1,5 @@
 use Rattle.pico_top.proofs.Walking.{leads_out}
-use Rattle.pico_top.proofs.Names.{Err, Memory, refl}
+use Rattle.pico_top.proofs.Shared.{Err, Memory, refl}
 use Rattle.pico_top.proofs.open.linked_image.Goals as goal
 
 pub returns-in-Err-Memory-clause-answer : goal.returns-in-Err-Memory-clause-answer

@@ -1,4 +1,4 @@
-use Rattle.pico_top.proofs.Names.{[], Done, Failed, Lost, Refused, refl}
+use Rattle.pico_top.proofs.Shared.{[], Done, Failed, Lost, Refused, refl}
 use Rattle.pico_top.proofs.open.load.Goals as goal
 
 pub returns-in-Done-clause-answer : goal.returns-in-Done-clause-answer

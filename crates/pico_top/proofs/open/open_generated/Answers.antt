@@ -1,7 +1,7 @@
 use Rattle.pico_top.proofs.Walking.{boots_leads}
 use Rattle.pico_top.specs.declared.outcome.Purpose.TheVariants.{Run}
 use Rattle.uf2_image.specs.Code.{image_of_number}
-use Rattle.pico_top.proofs.Names.{[], refl}
+use Rattle.pico_top.proofs.Shared.{[], refl}
 use Rattle.pico_top.proofs.open.open_generated.Goals as goal
 
 pub returns : goal.returns

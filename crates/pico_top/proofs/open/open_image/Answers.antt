@@ -1,5 +1,5 @@
 use Rattle.std.proofs.Common.{rules, ◌≡◌, Err, refl}
-use Rattle.pico_top.proofs.Names.{image_of, BadImage}
+use Rattle.pico_top.proofs.Shared.{image_of, BadImage}
 use Rattle.pico_top.proofs.Walking.{file_leads, judge_leads, judge_refuses, leads_cut, leads_out, read_has_bytes}
 use Rattle.pico_top.proofs.open.open_image.Goals as goal
 

@@ -1,4 +1,4 @@
-use Rattle.pico_top.proofs.Names.{rules, ◌≡◌, [], Err, Memory, BadSource, entry_in, plans_of, refl}
+use Rattle.pico_top.proofs.Shared.{rules, ◌≡◌, [], Err, Memory, BadSource, entry_in, plans_of, refl}
 use Rattle.pico_top.proofs.Walking.{file_leads, first_none, first_placed, first_refused, first_some, judge_refuses, leads_behind, leads_out, loads_push, places_end}
 use Rattle.pico_top.proofs.open.open_program.Goals as goal
 

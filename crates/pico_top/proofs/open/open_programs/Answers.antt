@@ -1,4 +1,4 @@
-use Rattle.pico_top.proofs.Names.{◌∙◌, at_drop_all, entry_in, map, refl}
+use Rattle.pico_top.proofs.Shared.{◌∙◌, at_drop_all, entry_in, map, refl}
 use Rattle.pico_top.proofs.Walking.{entry_next, places_as, places_end, places_next}
 use Rattle.pico_top.proofs.open.open_programs.Goals as goal
 

@@ -1,4 +1,4 @@
-use Rattle.pico_top.proofs.Names.{◌≡◌, Ok, [], map, drop, entry_in, with_programs, Places}
+use Rattle.pico_top.proofs.Shared.{◌≡◌, Ok, [], map, drop, entry_in, with_programs, Places}
 use Rattle.rp_machine.specs.Boot.{AreLoads}
 use Rattle.pico_top.proofs.open.open_programs.Given as goal
 

@@ -1,5 +1,5 @@
 use Rattle.pico_top.proofs.Walking.{boots_leads, leads_behind, leads_cut}
-use Rattle.pico_top.proofs.Names.{refl}
+use Rattle.pico_top.proofs.Shared.{refl}
 use Rattle.pico_top.proofs.open.open_run.Goals as goal
 
 pub returns-in_err-image-clause-answer : goal.returns-in_err-image-clause-answer

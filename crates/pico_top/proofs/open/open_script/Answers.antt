@@ -1,4 +1,4 @@
-use Rattle.pico_top.proofs.Names.{refl, BadScript}
+use Rattle.pico_top.proofs.Shared.{refl, BadScript}
 use Rattle.pico_top.proofs.Walking.{judge_leads, leads_behind, leads_cut}
 use Rattle.pico_top.proofs.open.open_script.Goals as goal
 

@@ -1,5 +1,5 @@
 use Rattle.std.proofs.Common.{rules, ◌≡◌, Err, refl, rules}
-use Rattle.pico_top.proofs.Names.{plans_of, BadSource}
+use Rattle.pico_top.proofs.Shared.{plans_of, BadSource}
 use Rattle.pico_top.proofs.Walking.{file_leads, judge_refuses, leads_cut, leads_out, listing_leads}
 use Rattle.pico_top.proofs.open.open_source.Goals as goal
 

@@ -1,5 +1,5 @@
 use Rattle.std.proofs.Common.{rules, ◌≡◌, Err, refl, rules}
-use Rattle.pico_top.proofs.Names.{image_of_source, BadThumb}
+use Rattle.pico_top.proofs.Shared.{image_of_source, BadThumb}
 use Rattle.pico_top.proofs.Walking.{file_leads, judge_refuses, leads_cut, leads_out}
 use Rattle.pico_top.proofs.open.open_thumb.Goals as goal
 

@@ -1,4 +1,4 @@
-use Rattle.pico_top.proofs.Names.{◌≡◌, drop, taken_by}
+use Rattle.pico_top.proofs.Shared.{◌≡◌, drop, taken_by}
 use Rattle.pico_top.proofs.open.taken.Given as goal
 
 -- the loads that are left take the rest of the addresses

@@ -1,4 +1,4 @@
-use Rattle.pico_top.proofs.Names.{sym}
+use Rattle.pico_top.proofs.Shared.{sym}
 use Rattle.pico_top.specs.Teller.{after_none}
 use Rattle.pico_top.proofs.runner.hear_event.Goals as goal
 

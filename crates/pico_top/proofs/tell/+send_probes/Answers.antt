@@ -1,7 +1,7 @@
 use Rattle.board_parts.proofs.Viewing.{viewed}
 use Rattle.pico_top.specs.RunText.{probe_lines}
 use Rattle.pico_top.specs.Teller.{appends_none}
-use Rattle.pico_top.proofs.Names.{◌<◌, List, [], ◌∷◌, length, Ok, arith, Aim, seen, SinkFault, Sunk, Writes, sends_cut, sends_part, sends_then, refl}
+use Rattle.pico_top.proofs.Shared.{◌<◌, List, [], ◌∷◌, length, Ok, arith, Aim, seen, SinkFault, Sunk, Writes, sends_cut, sends_part, sends_then, refl}
 use Rattle.pico_top.proofs.tell.+send_probes.Goals as goal
 
 none_sent : {A : Type 0} (view : A → Aim) (list : List A) (x : Sunk) → length list < 1 → Writes {T = Unit {0}} {E = SinkFault} x x (probe_lines (seen list view)) (Ok tt)

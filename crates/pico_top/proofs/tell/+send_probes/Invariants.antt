@@ -1,4 +1,4 @@
-use Rattle.pico_top.proofs.Names.{length}
+use Rattle.pico_top.proofs.Shared.{length}
 use Rattle.pico_top.proofs.tell.+send_probes.Given as goal
 
 -- fewer probes are left

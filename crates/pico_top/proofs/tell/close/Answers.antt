@@ -1,4 +1,4 @@
-use Rattle.pico_top.proofs.Names.{inl, inr}
+use Rattle.pico_top.proofs.Shared.{inl, inr}
 use Rattle.pico_top.proofs.tell.close.Goals as goal
 
 pub returns-in-Closed : goal.returns-in-Closed

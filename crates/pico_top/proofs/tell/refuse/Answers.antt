@@ -1,4 +1,4 @@
-use Rattle.pico_top.proofs.Names.{◌∙◌}
+use Rattle.pico_top.proofs.Shared.{◌∙◌}
 use Rattle.pico_top.proofs.Walking.{refuses_by}
 use Rattle.pico_top.proofs.tell.refuse.Goals as goal
 

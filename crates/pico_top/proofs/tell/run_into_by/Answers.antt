@@ -1,4 +1,4 @@
-use Rattle.pico_top.proofs.Names.{◌∙◌, ap}
+use Rattle.pico_top.proofs.Shared.{◌∙◌, ap}
 use Rattle.pico_top.proofs.Telling.{run_ended, run_cut, run_none}
 use Rattle.pico_top.proofs.tell.run_into_by.Goals as goal
 

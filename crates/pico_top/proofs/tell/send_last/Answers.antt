@@ -1,4 +1,4 @@
-use Rattle.pico_top.proofs.Names.{sends_cut, sends_part, sends_then}
+use Rattle.pico_top.proofs.Shared.{sends_cut, sends_part, sends_then}
 use Rattle.pico_top.proofs.tell.send_last.Goals as goal
 
 pub returns-in_err-send_stop : goal.returns-in_err-send_stop

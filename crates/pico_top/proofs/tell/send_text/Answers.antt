@@ -1,4 +1,4 @@
-use Rattle.pico_top.proofs.Names.{err_from_is_err_and, sent_on, sent_part}
+use Rattle.pico_top.proofs.Shared.{err_from_is_err_and, sent_on, sent_part}
 use Rattle.pico_top.proofs.tell.send_text.Goals as goal
 
 pub returns-in_err-put_line : goal.returns-in_err-put_line

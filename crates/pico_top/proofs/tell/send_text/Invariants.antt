@@ -1,4 +1,4 @@
-use Rattle.pico_top.proofs.Names.{length, ◌-◌, SentTo}
+use Rattle.pico_top.proofs.Shared.{length, ◌-◌, SentTo}
 use Rattle.pico_top.proofs.tell.send_text.Given as goal
 
 abbrev pub invariant-loop-done : goal.invariant-loop-done

@@ -1,4 +1,4 @@
-use Rattle.pico_top.proofs.Names.{refl, sym, first_of, setting_of}
+use Rattle.pico_top.proofs.Shared.{refl, sym, first_of, setting_of}
 use Rattle.pico_top.proofs.Telling.{tells_heard, tells_cut, opened_cycle}
 use Rattle.pico_top.proofs.tell.talk_into.Goals as goal
 

@@ -1,5 +1,5 @@
 use Rattle.std.proofs.Common.{◌≡◌, ◌≤◌, List, ℕ, drop}
-use Rattle.pio_parse.proofs.Names.{Token, Reading, expression_at, expression_from}
+use Rattle.pio_parse.proofs.Shared.{Token, Reading, expression_at, expression_from}
 use Rattle.pio_parse.proofs.expression.read_expression.Given as goal
 
 -- the reading of the whole goes on from here

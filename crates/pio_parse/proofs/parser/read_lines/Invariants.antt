@@ -1,5 +1,5 @@
 use Rattle.std.proofs.Common.{◌≡◌, ◌≤◌, List, ℕ, drop}
-use Rattle.pio_parse.proofs.Names.{slice_range, Token, Groups, source_of, source_from}
+use Rattle.pio_parse.proofs.Shared.{slice_range, Token, Groups, source_of, source_from}
 use Rattle.pio_parse.proofs.parser.read_lines.Given as goal
 
 -- the source of the whole goes on from here

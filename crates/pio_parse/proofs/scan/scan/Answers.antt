@@ -1,5 +1,5 @@
 use Rattle.std.proofs.Common.{◌≡◌, ◌==◌, ℕ, ◌+◌, ◌<◌, ◌≤◌, Bool, true, false, List, [], ◌∷◌, ◌++◌, length, drop, get_or, Option, Ok, Err, option_to_list, arith, refl, sym, ◌∙◌}
-use Rattle.pio_parse.proofs.Names.{drop_all, SourcePosition, Token, FileEnd, Mode, Step, finishes, scanned_from, steps, position_behind, IsPositionBelow}
+use Rattle.pio_parse.proofs.Shared.{drop_all, SourcePosition, Token, FileEnd, Mode, Step, finishes, scanned_from, steps, position_behind, IsPositionBelow}
 use Rattle.pio_parse.proofs.SourceLines.{drop_next}
 use Rattle.pio_parse.proofs.scan.scan.Goals as goal
 

@@ -1,5 +1,5 @@
 use Rattle.std.proofs.Common.{◌≡◌, ◌+◌, ℕ, List, drop}
-use Rattle.pio_parse.proofs.Names.{SourcePosition, Token, Mode, IsStarted, scanned, scanned_from, IsPositionBelow}
+use Rattle.pio_parse.proofs.Shared.{SourcePosition, Token, Mode, IsStarted, scanned, scanned_from, IsPositionBelow}
 use Rattle.pio_parse.proofs.scan.scan.Given as goal
 
 -- the scan of the whole goes on from here

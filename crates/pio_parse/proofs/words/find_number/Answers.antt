@@ -1,5 +1,5 @@
 use Rattle.std.proofs.Common.{◌≡◌, ◌==◌, ◌≤◌, ◌&&◌, ℕ, false, List, [], ◌∷◌, get_or, length, refl, sym, ◌∙◌, arith}
-use Rattle.pio_parse.proofs.Names.{number_of, number_to}
+use Rattle.pio_parse.proofs.Shared.{number_of, number_to}
 use Rattle.pio_parse.proofs.words.find_number.Goals as goal
 
 by_ten : (word : List ℕ) → 3 ≤ length word → ((get_or word 0 0 == 48) && (get_or word 1 0 == 120)) ≡ false → ((get_or word 0 0 == 48) && (get_or word 1 0 == 98)) ≡ false

@@ -1,4 +1,4 @@
-use Rattle.pico_top.proofs.Names.{refl}
+use Rattle.pico_top.proofs.Shared.{refl}
 use Rattle.pico_top.specs.Teller.{told_one}
 use Rattle.pico_top.proofs.runner.TellerTape.event.Goals as goal
 
