@@ -1,93 +1,17 @@
--- Lines and fields, one after the other.
-use Rattle.std.proofs.Common.{◌≡◌, ◌≤◌, ◌<◌, ℕ, ◌+◌, nat_lt, Bool, true, false, cond, ◌==◌, List, [], ◌∷◌, length, take, drop, Some, None, inl, inr, refl, ap, ◌∙◌, arith}
-use Rattle.std.proofs.lemmas.Bool.{cases_Bool}
-use Rattle.std.proofs.lemmas.Bool.Decides.{nat_tests}
-use Rattle.std.proofs.lemmas.List.Splits.{slice_split_first}
-use Rattle.std.proofs.Math.Seq.{drop-length}
-use Rattle.std.specs.List.{slice_split, onto_first, position, position_or_len}
-use Rattle.std.specs.Str.Lines.{lines, lines_of_parts, strip_carriage_return}
+-- A line with more fields than its kind has.
+use Rattle.std.proofs.Common.{◌≡◌, ℕ, List, ◌∷◌, None, refl, ap, ◌∙◌}
+use Rattle.source_text.proofs.LinesOf.{past}
 use Rattle.pin_script.specs.Words.{fields}
 use Rattle.pin_script.specs.Lines.{level_words, send_words}
-use Rattle.pin_script.specs.Script.{is_version_2, is_other_version}
-
--- there is always a part
-some_part : (p : ℕ → Bool) (xs : List ℕ) → (q : List ℕ) × (qs : List (List ℕ)) × (slice_split p xs ≡ q ∷ qs)
-some_part p [] = ([], [], refl)
-some_part p (x ∷ xs) =
-    elim (p x) as (λ b. (q : List ℕ) × (qs : List (List ℕ)) × (cond b ([] ∷ slice_split p xs) (onto_first x (slice_split p xs)) ≡ q ∷ qs)) [
-      | true ↦ ([], slice_split p xs, refl)
-      | false ↦ let rest = some_part p xs in (x ∷ rest.0, rest.1, ap (onto_first x) rest.2)
-    ]
-
-some_place : (m n i : ℕ) → cond (nat_lt m n) (Some m) None ≡ Some i → (m < n) × (m ≡ i)
-some_place m n i h = elim (cases_Bool (nat_lt m n)) [
-  | inl is ↦ (grind (arith, nat_tests), let found = rw is at h in cc)
-  | inr not_so ↦ absurd (let lost = rw not_so at h in cc)
-]
-
-no_place : (m n : ℕ) → cond (nat_lt m n) (Some m) None ≡ None → n ≤ m
-no_place m n h = elim (cases_Bool (nat_lt m n)) [
-  | inl is ↦ absurd (let found = rw is at h in cc)
-  | inr not_so ↦ grind (arith, nat_tests)
-]
-
--- a list is its first part where no element ends it
-split_none : (p : ℕ → Bool) (xs : List ℕ) → length xs ≤ position_or_len p xs → slice_split p xs ≡ xs ∷ []
-split_none p [] h = refl
-split_none p (x ∷ xs) h = elim (cases_Bool (p x)) [
-  | inl is ↦ absurd (let none = rw is at h in omega arith)
-  | inr not_so ↦ let more = rw not_so at h in rw not_so (ap (onto_first x) (split_none p xs (omega arith)))
-]
-
-split_some : (p : ℕ → Bool) (xs : List ℕ) (i : ℕ) → position p xs ≡ Some i → slice_split p xs ≡ take i xs ∷ slice_split p (drop (i + 1) xs)
-split_some p xs i h =
-    let place = some_place (position_or_len p xs) (length xs) i h in
-    slice_split_first p xs 0 place.0 ∙ ap (λ k. take k xs ∷ slice_split p (drop (k + 1) xs)) place.1
-
--- ---- fields
-
-pub fields_none : (line : List ℕ) → position (λ x. x == 32) line ≡ None → fields line ≡ line ∷ []
-fields_none line h = split_none (λ x. x == 32) line (no_place _ _ h)
-
-pub fields_some : (line : List ℕ) (i : ℕ) → position (λ x. x == 32) line ≡ Some i → fields line ≡ take i line ∷ fields (drop (i + 1) line)
-fields_some line i h = split_some (λ x. x == 32) line i h
-
--- what a test of the fields gives where there are too many of them
-past : {X : Type 0} (f : List (List ℕ) → X) (none : X) (rest : List ℕ) →
-    ((q : List ℕ) (qs : List (List ℕ)) → f (q ∷ qs) ≡ none) → f (fields rest) ≡ none
-past f none rest h = let more = some_part (λ x. x == 32) rest in ap f more.2 ∙ h more.0 more.1
 
 pub four_fields : (line first rest second third a b : List ℕ) → fields line ≡ first ∷ fields rest → fields rest ≡ second ∷ fields third → fields third ≡ a ∷ fields b → level_words (fields line) ≡ None
 four_fields line first rest second third a b h i j =
     ap level_words (h ∙ ap (λ parts. first ∷ parts) (i ∙ ap (λ parts. second ∷ parts) j))
-    ∙ past (λ parts. level_words (first ∷ second ∷ a ∷ parts)) None b (λ q qs. refl)
-
-pub not_two : (line first rest second third : List ℕ) → fields line ≡ first ∷ fields rest → fields rest ≡ second ∷ fields third →
-    (is_version_2 (fields line) ≡ false) × (is_other_version (fields line) ≡ false)
-not_two line first rest second third h i = (
-  ap is_version_2 (h ∙ ap (λ parts. first ∷ parts) i) ∙ past (λ parts. is_version_2 (first ∷ second ∷ parts)) false third (λ q qs. refl),
-  ap is_other_version (h ∙ ap (λ parts. first ∷ parts) i)
-      ∙ past (λ parts. is_other_version (first ∷ second ∷ parts)) false third (λ q qs. refl),
-)
+    ∙ past (λ parts. level_words (first ∷ second ∷ a ∷ parts)) None _ b (λ q qs. refl)
 
 -- the first five fields, and what follows them
 pub six_fields : (line a a' b b' c c' d e f g : List ℕ) → fields line ≡ a ∷ fields a' → fields a' ≡ b ∷ fields b' → fields b' ≡ c ∷ fields c' →
     fields c' ≡ d ∷ fields e → fields e ≡ f ∷ fields g → send_words (fields line) ≡ None
 six_fields line a a' b b' c c' d e f g p q r s t =
     ap send_words (p ∙ ap (λ parts. a ∷ parts) (q ∙ ap (λ parts. b ∷ parts) (r ∙ ap (λ parts. c ∷ parts) (s ∙ ap (λ parts. d ∷ parts) t))))
-    ∙ past (λ parts. send_words (a ∷ b ∷ c ∷ d ∷ f ∷ parts)) None g (λ q' qs. refl)
-
--- ---- lines
-
-next_lines : (xs : List ℕ) (parts : List (List ℕ)) → (q : List ℕ) (qs : List (List ℕ)) → parts ≡ q ∷ qs → lines_of_parts (xs ∷ parts) ≡ strip_carriage_return xs ∷ lines_of_parts parts
-next_lines xs parts q qs h = rw h refl
-
-pub lines_some : (bytes : List ℕ) (i : ℕ) → position (λ x. x == 10) bytes ≡ Some i → lines bytes ≡ strip_carriage_return (take i bytes) ∷ lines (drop (i + 1) bytes)
-lines_some bytes i h =
-    let more = some_part (λ x. x == 10) (drop (i + 1) bytes) in
-    ap lines_of_parts (split_some (λ x. x == 10) bytes i h) ∙ next_lines (take i bytes) (slice_split (λ x. x == 10) (drop (i + 1) bytes)) more.0 more.1 more.2
-
-pub lines_none : (bytes : List ℕ) → position (λ x. x == 10) bytes ≡ None → 0 < length bytes → lines bytes ≡ bytes ∷ lines (drop (length bytes) bytes)
-lines_none bytes h some =
-    let full : (length bytes == 0) ≡ false = grind (arith, nat_tests) in
-    ap lines_of_parts (split_none (λ x. x == 10) bytes (no_place _ _ h)) ∙ rw (full, drop-length bytes) refl
+    ∙ past (λ parts. send_words (a ∷ b ∷ c ∷ d ∷ f ∷ parts)) None _ g (λ q' qs. refl)

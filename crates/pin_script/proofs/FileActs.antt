@@ -1,7 +1,8 @@
 -- The entries of a file stand in order of their lines, and so of those for a pin the one with the greatest pair acts.
-use Rattle.std.proofs.Common.{◌≡◌, ◌≤◌, ℕ, ◌+◌, ◌||◌, nat_lt, ◌∙◌, ap, sym, subst, Bool, true, false, if◌then◌else◌, List, [], ◌∷◌, ◌++◌, map, Option, Some, None, Result, Ok, Err, refl, arith}
+use Rattle.std.proofs.Common.{◌≡◌, ◌≤◌, ℕ, ◌+◌, ◌||◌, nat_lt, ◌∙◌, ap, sym, subst, Bool, true, false, if◌then◌else◌, List, [], ◌∷◌, ◌++◌, map, Option, Some, None, Result, Ok, Err, codes, refl, arith}
 use Rattle.std.proofs.lemmas.List.{append-nil}
 use Rattle.std.specs.List.{range_with_len}
+use Rattle.std.specs.Str.{bytes_eq}
 use Rattle.std.specs.Str.Lines.{lines}
 use Rattle.pin_script.specs.declared.entry.Entry.{Entry}
 use Rattle.pin_script.specs.declared.entry.LineEntry.{LineEntry}
@@ -9,9 +10,11 @@ use Rattle.pin_script.specs.declared.entry.Level.{Level}
 use Rattle.pin_script.specs.declared.fault.ScriptFault.{ScriptFault}
 use Rattle.pin_script.specs.declared.fault.ScriptFault.TheVariants.{Version, Pin, Divisor, Bytes}
 use Rattle.pin_script.specs.Levels.{level_at}
-use Rattle.pin_script.specs.Words.{fields, are_bytes, number_of}
-use Rattle.pin_script.specs.Lines.{Earlier, fits, where_fits, added, LevelWords, level_words, level_entry, level_numbers, after_level, SendWords, send_words, sent_entry, sent_count, sent_entries, sent, send_numbers, after_either, is_skipped, after_line}
-use Rattle.pin_script.specs.Script.{unless_fault, after_lines, nothing, is_version_2, is_other_version, headed, of_lines, entries_of, in_order, without_line, ordered, script_of}
+use Rattle.source_text.specs.Numbers.{number_of}
+use Rattle.source_text.specs.Outcome.{and_then, map_ok}
+use Rattle.pin_script.specs.Words.{fields, are_bytes}
+use Rattle.pin_script.specs.Lines.{Earlier, fits, added, LevelWords, level_words, level_entry, level_numbers, after_level, SendWords, send_words, sent_entry, sent_count, sent_entries, sent, send_numbers, after_either, is_skipped, after_line}
+use Rattle.pin_script.specs.Script.{after_lines, nothing, is_other_version, headed, of_lines, entries_of, in_order, without_line, script_of}
 use Rattle.pin_script.specs.Laws.{LinesFrom, TheGreatestPairOfAFileActs}
 use Rattle.pin_script.proofs.Acting.{the_greatest_pair_acts}
 
@@ -57,7 +60,7 @@ chosen : (n : ℕ) (s : Earlier) (b : Bool) (x y : Result Earlier ScriptFault) �
 chosen n s true x y g h = g
 chosen n s false x y g h = h
 
-where_grows : (n : ℕ) (s t : Earlier) (r : Result (Unit {0}) ScriptFault) → Grows n s t → GrowsOk n s (where_fits t r)
+where_grows : (n : ℕ) (s t : Earlier) (r : Result (Unit {0}) ScriptFault) → Grows n s t → GrowsOk n s (map_ok (λ _. t) r)
 where_grows n s t (Err fault) g = tt
 where_grows n s t (Ok done) g = g
 
@@ -72,7 +75,7 @@ level_grows n s level None pin = tt
 
 after_level_grows : (n : ℕ) (s : Earlier) (words : Option LevelWords) → GrowsOk n s (after_level n s words)
 after_level_grows n s None = tt
-after_level_grows n s (Some words) = level_grows n s words.level (number_of 10 words.cycle) (number_of 2 words.pin)
+after_level_grows n s (Some words) = level_grows n s words.level (number_of 10 10 words.cycle) (number_of 10 2 words.pin)
 
 sent-at : (n cycle pin divisor : ℕ) (bytes ks : List ℕ) → AllAt n (map (sent_entry n cycle pin divisor bytes) ks)
 sent-at n cycle pin divisor bytes [] = tt
@@ -98,7 +101,7 @@ send_grows n s bytes (Some cycle) None divisor = tt
 send_grows n s bytes None pin divisor = tt
 
 either_grows : (n : ℕ) (s : Earlier) (send : Option SendWords) (words : List (List ℕ)) → GrowsOk n s (after_either n s send words)
-either_grows n s (Some send) words = send_grows n s send.bytes (number_of 10 send.cycle) (number_of 2 send.pin) (number_of 7 send.divisor)
+either_grows n s (Some send) words = send_grows n s send.bytes (number_of 10 10 send.cycle) (number_of 10 2 send.pin) (number_of 10 7 send.divisor)
 either_grows n s None words = after_level_grows n s (level_words words)
 
 line_grows : (sends : Bool) (n : ℕ) (s : Earlier) (line : List ℕ) → GrowsOk n s (after_line sends n s line)
@@ -116,7 +119,7 @@ Lined (Err fault) = Unit {0}
 Lined (Ok entries) = LinesFrom 0 entries
 
 unless_lined : (n : ℕ) (s : Earlier) (next : Earlier → Result (List LineEntry) ScriptFault) (r : Result Earlier ScriptFault)
-    → GrowsOk n s r → ((t : Earlier) → Grows n s t → Lined (next t)) → Lined (unless_fault next r)
+    → GrowsOk n s r → ((t : Earlier) → Grows n s t → Lined (next t)) → Lined (and_then next r)
 unless_lined n s next (Err fault) g h = tt
 unless_lined n s next (Ok t) g h = h t g
 
@@ -136,8 +139,8 @@ either_lined false x y g h = h
 headed_lined : (n : ℕ) (line : List ℕ) (more : List (List ℕ)) → Lined (headed n line more)
 headed_lined n line more =
     let plain = after_lines false n nothing (line ∷ more) in
-    let other = is_other_version (fields line) in
-    either_lined (is_version_2 (fields line)) (after_lines true (n + 1) nothing more) (if other then Err (Version n) else plain)
+    let other = is_other_version line in
+    either_lined (bytes_eq line (codes "version 2")) (after_lines true (n + 1) nothing more) (if other then Err (Version n) else plain)
     (lines_lined true (n + 1) nothing more tt tt)
     (either_lined other (Err (Version n)) (after_lines false n nothing (line ∷ more)) tt (lines_lined false n nothing (line ∷ more) tt tt))
 
@@ -158,7 +161,7 @@ script_in (Err fault) = []
 script_is : (bytes : List ℕ) (entries : List LineEntry) (script : List Entry) → entries_of bytes ≡ Ok entries → script_of bytes ≡ Ok script
     → script ≡ map without_line (in_order entries)
 unfolding script_of
-script_is bytes entries script h k = sym (ap script_in k) ∙ ap (λ r. script_in (ordered r)) h
+script_is bytes entries script h k = sym (ap script_in k) ∙ ap (λ r. script_in (map_ok (λ entries. map without_line (in_order entries)) r)) h
 
 pub the_greatest_pair_of_a_file_acts : TheGreatestPairOfAFileActs
 the_greatest_pair_of_a_file_acts bytes entries script cycle pin h k =

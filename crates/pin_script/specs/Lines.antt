@@ -3,15 +3,19 @@
 -- line does: each byte is ten bits, 0, its eight bits from the lowest, and 1. The divisor is the length of a bit in sixty-fourths
 -- of 16 cycles, as 64 * IBRD + FBRD of a UART. Of a line's faults the first in the order Form, Number, Pin, Divisor, Bytes, Order,
 -- TooMany counts.
-use Rattle.std.specs.Prelude.{ℕ, ◌+◌, ◌-◌, ◌*◌, ◌/◌, ◌%◌, Bool, true, ◌||◌, ◌==◌, nat_lt, if◌then◌else◌, List, [], ◌∷◌, ◌++◌, length, map, Option, Some, None, Result, Ok, Err}
+use Rattle.std.specs.Prelude.{ℕ, ◌+◌, ◌-◌, ◌*◌, ◌/◌, ◌%◌, Bool, true, ◌||◌, ◌==◌, nat_lt, if◌then◌else◌, List, [], ◌∷◌, ◌++◌, length, map, Option, Some, None, Result, Ok, Err, codes}
 use Rattle.std.specs.List.{range_with_len}
+use Rattle.std.specs.Option.{option_map}
+use Rattle.std.specs.Str.{bytes_eq}
 use Rattle.rp_base.specs.Word.{has_bit}
 use Rattle.pin_script.specs.declared.entry.Level.{Level}
 use Rattle.pin_script.specs.declared.entry.Level.TheVariants.{Low, High}
 use Rattle.pin_script.specs.declared.entry.LineEntry.{LineEntry}
 use Rattle.pin_script.specs.declared.fault.ScriptFault.{ScriptFault}
 use Rattle.pin_script.specs.declared.fault.ScriptFault.TheVariants.{Form, Number, Pin, Order, TooMany, Divisor, Bytes}
-use Rattle.pin_script.specs.Words.{fields, is_empty, level_named, is_send, number_of, are_bytes, byte_at}
+use Rattle.source_text.specs.Numbers.{number_of}
+use Rattle.source_text.specs.Outcome.{map_ok}
+use Rattle.pin_script.specs.Words.{fields, is_empty, level_named, are_bytes, byte_at}
 
 -- what the lines so far gave: their entries, and the cycle of the last of these lines
 pub record Earlier : Type 0 where
@@ -29,13 +33,9 @@ fits n s cycle count =
     if nat_lt cycle s.cycle then Err (Order n)
     else if nat_lt 100000 (length s.entries + count) then Err (TooMany n) else Ok tt
 
-abbrev pub where_fits : Earlier → Result (Unit {0}) ScriptFault → Result Earlier ScriptFault
-where_fits s (Err fault) = Err fault
-where_fits s (Ok _) = Ok s
-
 -- the entries of a line of that cycle come after the earlier ones
 abbrev pub added : ℕ → Earlier → ℕ → List LineEntry → Result Earlier ScriptFault
-added n s cycle more = where_fits (record { entries = s.entries ++ more; cycle = cycle }) (fits n s cycle (length more))
+added n s cycle more = map_ok (λ _. record { entries = s.entries ++ more; cycle = cycle }) (fits n s cycle (length more))
 
 -- ---- level lines
 
@@ -47,14 +47,10 @@ pub record LevelWords : Type 0 where
 abbrev pub level_words_of : List ℕ → List ℕ → Level → LevelWords
 level_words_of cycle pin level = record { cycle = cycle; pin = pin; level = level }
 
-abbrev pub with_level : List ℕ → List ℕ → Option Level → Option LevelWords
-with_level cycle pin None = None
-with_level cycle pin (Some level) = Some (level_words_of cycle pin level)
-
 -- three words of at least one byte, the third of which names a level
 abbrev pub level_words : List (List ℕ) → Option LevelWords
 level_words (cycle ∷ pin ∷ level ∷ []) =
-    if is_empty cycle || is_empty pin then None else with_level cycle pin (level_named level)
+    if is_empty cycle || is_empty pin then None else option_map (level_words_of cycle pin) (level_named level)
 level_words _ = None
 
 abbrev pub level_entry : ℕ → ℕ → ℕ → Level → LineEntry
@@ -69,7 +65,7 @@ level_numbers n s level None pin = Err (Number n)
 
 abbrev pub after_level : ℕ → Earlier → Option LevelWords → Result Earlier ScriptFault
 after_level n s None = Err (Form n)
-after_level n s (Some words) = level_numbers n s words.level (number_of 10 words.cycle) (number_of 2 words.pin)
+after_level n s (Some words) = level_numbers n s words.level (number_of 10 10 words.cycle) (number_of 10 2 words.pin)
 
 -- ---- send lines
 
@@ -85,7 +81,7 @@ send_words_of cycle pin divisor bytes = record { cycle = cycle; pin = pin; divis
 -- `send` and four words of at least one byte
 abbrev pub send_words : List (List ℕ) → Option SendWords
 send_words (first ∷ cycle ∷ pin ∷ divisor ∷ bytes ∷ []) =
-    if is_send first then
+    if bytes_eq first (codes "send") then
     (if is_empty cycle || is_empty pin || is_empty divisor || is_empty bytes then None
     else Some (send_words_of cycle pin divisor bytes))
     else None
@@ -130,7 +126,7 @@ send_numbers n s bytes None pin divisor = Err (Number n)
 
 abbrev pub after_send : ℕ → Earlier → SendWords → Result Earlier ScriptFault
 after_send n s words =
-    send_numbers n s words.bytes (number_of 10 words.cycle) (number_of 2 words.pin) (number_of 7 words.divisor)
+    send_numbers n s words.bytes (number_of 10 10 words.cycle) (number_of 10 2 words.pin) (number_of 10 7 words.divisor)
 
 -- ---- a line of either kind
 

@@ -1,48 +1,39 @@
 -- A script of pin levels (the project's own): a list of lines. A line ends with LF, before which one CR is dropped, and the last
 -- LF may be missing. Empty lines and lines that begin with `#` are skipped. A file whose first line that is not skipped is
 -- `version 2` is of version 2, and that line is no entry; every other file is of version 1, which has level lines alone.
-use Rattle.std.specs.Prelude.{◌≤◌, ◌<◌, ℕ, ◌+◌, Bool, true, false, not, ◌&&◌, ◌==◌, nat_le, if◌then◌else◌, List, [], ◌∷◌, map, Option, Some, None, Result, Ok, Err}
+use Rattle.std.specs.Prelude.{◌≤◌, ◌<◌, ℕ, ◌+◌, Bool, true, false, not, ◌&&◌, ◌==◌, nat_le, if◌then◌else◌, List, [], ◌∷◌, take, drop, map, Result, Ok, Err, codes}
+use Rattle.std.specs.Option.{option_map_or}
+use Rattle.std.specs.Str.{bytes_eq}
 use Rattle.std.specs.Str.Lines.{lines}
+use Rattle.source_text.specs.Numbers.{number_of}
+use Rattle.source_text.specs.Outcome.{and_then, map_ok}
 use Rattle.pin_script.specs.declared.entry.Entry.{Entry}
 use Rattle.pin_script.specs.declared.entry.LineEntry.{LineEntry}
 use Rattle.pin_script.specs.declared.fault.ScriptFault.{ScriptFault}
 use Rattle.pin_script.specs.declared.fault.ScriptFault.TheVariants.{Version}
-use Rattle.pin_script.specs.Words.{fields, is_version, is_two, number_of}
 use Rattle.pin_script.specs.Lines.{Earlier, after_line, is_skipped}
 
 -- ---- the lines after the first one
 
-abbrev pub unless_fault : (Earlier → Result (List LineEntry) ScriptFault) → Result Earlier ScriptFault → Result (List LineEntry) ScriptFault
-unless_fault next (Err fault) = Err fault
-unless_fault next (Ok s) = next s
-
 -- the entries of these lines after the earlier ones, or the first fault; the first of these lines is line n
 unfoldable pub after_lines : Bool → ℕ → Earlier → List (List ℕ) → Result (List LineEntry) ScriptFault
 after_lines sends n s [] = Ok s.entries
-after_lines sends n s (line ∷ more) = unless_fault (λ s'. after_lines sends (n + 1) s' more) (after_line sends n s line)
+after_lines sends n s (line ∷ more) = and_then (λ s'. after_lines sends (n + 1) s' more) (after_line sends n s line)
 
 -- ---- the first line that is not skipped
 
 abbrev pub nothing : Earlier
 nothing = record { entries = []; cycle = 0 }
 
-abbrev pub is_other_number : Option ℕ → Bool
-is_other_number None = false
-is_other_number (Some n) = not (n == 2)
-
--- `version 2`, and `version` with 1 to 10 digits that stand for another number
-abbrev pub is_version_2 : List (List ℕ) → Bool
-is_version_2 (first ∷ second ∷ []) = is_version first && is_two second
-is_version_2 _ = false
-
-abbrev pub is_other_version : List (List ℕ) → Bool
-is_other_version (first ∷ second ∷ []) = is_version first && is_other_number (number_of 10 second)
-is_other_version _ = false
+-- `version ` with 1 to 10 digits that stand for another number than 2
+abbrev pub is_other_version : List ℕ → Bool
+is_other_version line =
+    bytes_eq (take 8 line) (codes "version ") && option_map_or (λ n. not (n == 2)) (number_of 10 10 (drop 8 line)) false
 
 abbrev pub headed : ℕ → List ℕ → List (List ℕ) → Result (List LineEntry) ScriptFault
 headed n line more =
-    if is_version_2 (fields line) then after_lines true (n + 1) nothing more
-    else if is_other_version (fields line) then Err (Version n)
+    if bytes_eq line (codes "version 2") then after_lines true (n + 1) nothing more
+    else if is_other_version line then Err (Version n)
     else after_lines false n nothing (line ∷ more)
 
 unfoldable pub of_lines : ℕ → List (List ℕ) → Result (List LineEntry) ScriptFault
@@ -68,13 +59,9 @@ in_order (entry ∷ more) = inserted entry (in_order more)
 abbrev pub without_line : LineEntry → Entry
 without_line entry = record { cycle = entry.cycle; pin = entry.pin; level = entry.level }
 
-abbrev pub ordered : Result (List LineEntry) ScriptFault → Result (List Entry) ScriptFault
-ordered (Ok entries) = Ok (map without_line (in_order entries))
-ordered (Err fault) = Err fault
-
 -- the script of a file, or its first fault
 unfoldable pub script_of : List ℕ → Result (List Entry) ScriptFault
-script_of bytes = ordered (entries_of bytes)
+script_of bytes = map_ok (λ entries. map without_line (in_order entries)) (entries_of bytes)
 
 -- ---- what holds of every script
 

@@ -2,12 +2,13 @@
 
 ghost use Rattle.std.specs.Prelude.{◌≡◌, ◌≢◌, ◌∷◌, ◌<◌, ◌≤◌, [], None, length, List, ℕ, IfErr, MatchOption, OnOk};
 ghost use Rattle.std.specs.Option.{option_map};
-ghost use Rattle.pin_script.specs.Words.{fields, number_of};
+ghost use Rattle.pin_script.specs.Words.{fields};
 ghost use Rattle.pin_script.specs.Lines.{added, after_level, level_numbers, is_skipped, level_words, level_words_of};
 
 use crate::entry::{Level, LineEntry};
 use crate::fault::ScriptFault;
-use crate::words::{first_field, level_named, number_of};
+use crate::words::level_named;
+use source_text::{first_part, number_of};
 use std::alloc::Global;
 use std::marker::Model;
 
@@ -54,9 +55,9 @@ fn three_fields(line: &[u8]) -> Option<(&[u8], &[u8], &[u8])>
     ensures { MatchOption result (level_words (fields line.now) ≡ None)
         (λ parts. fields line.now ≡ parts.0.now ∷ parts.1.now ∷ parts.2.now ∷ []) }
 {
-    let (first, rest) = first_field(line)?;
-    let (second, third) = first_field(rest)?;
-    match first_field(third) {
+    let (first, rest) = first_part(line, b' ')?;
+    let (second, third) = first_part(rest, b' ')?;
+    match first_part(third, b' ') {
         Some(_) => None,
         None => Some((first, second, third)),
     }
@@ -156,8 +157,8 @@ impl Earlier {
             return Err(ScriptFault::Form(number));
         };
         match (
-            number_of(CYCLE_DIGITS, words.cycle),
-            number_of(PIN_DIGITS, words.pin),
+            number_of(10, CYCLE_DIGITS, words.cycle),
+            number_of(10, PIN_DIGITS, words.pin),
         ) {
             (Some(cycle), Some(pin)) => self.add_level(number, cycle, pin, words.level),
             _ => Err(ScriptFault::Number(number)),

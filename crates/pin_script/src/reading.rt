@@ -1,17 +1,16 @@
 //! The entries of a file, line for line.
 
-ghost use Rattle.std.specs.Prelude.{◌≡◌, ◌≢◌, ◌≤◌, ◌<◌, ◌+◌, ◌∷◌, [], false, length, Option, IfErr, IfOk, MatchOption, OnOk};
+ghost use Rattle.std.specs.Prelude.{◌≡◌, ◌≢◌, ◌≤◌, ◌<◌, ◌+◌, ◌∷◌, [], length, IfErr, IfOk, OnOk};
 ghost use Rattle.std.specs.Str.Lines.{lines};
-ghost use Rattle.pin_script.specs.Words.{fields};
 ghost use Rattle.pin_script.specs.Lines.{after_line};
 ghost use Rattle.pin_script.specs.Reading.{HasPins};
-ghost use Rattle.pin_script.specs.Script.{after_lines, entries_of, is_version_2, is_other_version, headed, nothing};
+ghost use Rattle.pin_script.specs.Script.{after_lines, entries_of, is_other_version, headed, nothing};
 
 use crate::entry::LineEntry;
 use crate::fault::ScriptFault;
 use crate::line::{Earlier, is_skipped};
 use crate::send::send_words;
-use crate::words::{first_field, first_line, is_two, is_version, number_of};
+use source_text::{first_line, number_of};
 use std::alloc::Global;
 
 /// How many digits a version may have.
@@ -25,37 +24,12 @@ struct Heading<'a> {
     rest: &'a [u8],
 }
 
-/// The two fields of a line.
-fn two_fields(line: &[u8]) -> Option<(&[u8], &[u8])>
-    ensures { MatchOption result ((is_version_2 (fields line.now) ≡ false)
-        × (is_other_version (fields line.now) ≡ false))
-        (λ parts. fields line.now ≡ parts.0.now ∷ parts.1.now ∷ []) }
-{
-    let (first, second) = first_field(line)?;
-    match first_field(second) {
-        Some(_) => None,
-        None => Some((first, second)),
-    }
-}
-
-/// The line is `version 2`.
-fn is_version_2(line: &[u8]) -> bool
-    ensures { result ≡ is_version_2 (fields line.now) }
-{
-    match two_fields(line) {
-        Some((first, second)) => is_version(first) && is_two(second),
-        None => false,
-    }
-}
-
 /// The line is `version` with the digits of another number than 2.
 fn is_other_version(line: &[u8]) -> bool
-    ensures { result ≡ is_other_version (fields line.now) }
+    ensures { result ≡ is_other_version line.now }
 {
-    match two_fields(line) {
-        Some((first, second)) => {
-            is_version(first) && number_of(VERSION_DIGITS, second).is_some_and(|number| number != 2)
-        }
+    match line.strip_prefix(b"version ") {
+        Some(digits) => number_of(10, VERSION_DIGITS, digits).is_some_and(|number| number != 2),
         None => false,
     }
 }
@@ -77,7 +51,7 @@ fn headed<'a>(
     ensures fault { IfErr result (λ fault. headed (number + 1) line.now (lines after.now)
         ≡ Err fault) }
 {
-    if is_version_2(line) {
+    if line == b"version 2".as_slice() {
         return Ok(Heading {
             sends: true,
             number: number + 1,

@@ -2,15 +2,16 @@
 
 ghost use Rattle.std.specs.Prelude.{◌≡◌, ◌≢◌, ◌∷◌, ◌<◌, ◌≤◌, ◌++◌, ◌/◌, ◌+◌, ◌*◌, [], None, true, length, IfErr, IfOk, MatchOption, OnOk};
 ghost use Rattle.std.specs.Option.{option_map};
-ghost use Rattle.pin_script.specs.Words.{fields, are_bytes, number_of};
+ghost use Rattle.pin_script.specs.Words.{fields, are_bytes};
 ghost use Rattle.pin_script.specs.Lines.{frame_level, sent_entry, sent_count, sent_entries, send_words, send_words_of};
 ghost use Rattle.pin_script.specs.Reading.{HasPins};
 
 use crate::entry::{Level, LineEntry};
 use crate::fault::ScriptFault;
 use crate::line::{CYCLE_DIGITS, Earlier, LAST_PIN, PIN_DIGITS};
-use crate::words::{are_bytes, byte_at, first_field, is_send, number_of};
+use crate::words::{are_bytes, byte_at};
 use rp_base::bits::has_bit;
+use source_text::{first_part, number_of};
 
 /// How many digits a divisor may have.
 const DIVISOR_DIGITS: usize = 7;
@@ -45,11 +46,11 @@ fn five_fields(line: &[u8]) -> Option<(&[u8], &[u8], &[u8], &[u8], &[u8])>
         (λ parts. fields line.now ≡ parts.0.now ∷ parts.1.now ∷ parts.2.now ∷ parts.3.now
         ∷ parts.4.now ∷ []) }
 {
-    let (first, after_first) = first_field(line)?;
-    let (second, after_second) = first_field(after_first)?;
-    let (third, after_third) = first_field(after_second)?;
-    let (fourth, fifth) = first_field(after_third)?;
-    match first_field(fifth) {
+    let (first, after_first) = first_part(line, b' ')?;
+    let (second, after_second) = first_part(after_first, b' ')?;
+    let (third, after_third) = first_part(after_second, b' ')?;
+    let (fourth, fifth) = first_part(after_third, b' ')?;
+    match first_part(fifth, b' ') {
         Some(_) => None,
         None => Some((first, second, third, fourth, fifth)),
     }
@@ -62,7 +63,7 @@ pub(crate) fn send_words(line: &[u8]) -> Option<SendWords<'_>>
         ≡ send_words (fields line.now) }
 {
     let (first, cycle, pin, divisor, bytes) = five_fields(line)?;
-    if !is_send(first) {
+    if first != b"send".as_slice() {
         return None;
     }
     if cycle.is_empty() || pin.is_empty() || divisor.is_empty() || bytes.is_empty() {
@@ -193,9 +194,9 @@ impl Earlier {
             words.now.bytes.now) ≡ Err fault) }
     {
         match (
-            number_of(CYCLE_DIGITS, words.cycle),
-            number_of(PIN_DIGITS, words.pin),
-            number_of(DIVISOR_DIGITS, words.divisor),
+            number_of(10, CYCLE_DIGITS, words.cycle),
+            number_of(10, PIN_DIGITS, words.pin),
+            number_of(10, DIVISOR_DIGITS, words.divisor),
         ) {
             (Some(cycle), Some(pin), Some(divisor)) => {
                 let sending = LineSend {

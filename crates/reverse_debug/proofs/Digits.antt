@@ -1,53 +1,71 @@
--- Numbers read digit by digit from the front.
-use Rattle.std.proofs.Common.{◌≡◌, ◌<◌, ℕ, ◌+◌, ◌*◌, ◌^◌, Bool, cond, if◌then◌else◌, List, [], ◌∷◌, length, drop, ◌≤◌, Option, Some, None, inl, inr, refl, sym, ap, arith, ◌∙◌}
-use Rattle.std.proofs.Math.Nat.{pow-zero, pow-succ', pow-le-pow_right}
+-- Numbers by the weights of their digits.
+use Rattle.std.proofs.Common.{◌≡◌, ℕ, ◌+◌, ◌*◌, ◌^◌, Bool, true, false, cond, ◌&&◌, nat_le, List, [], ◌∷◌, length, Option, Some, None, inl, inr, refl, sym, ap, arith, ◌∙◌}
+use Rattle.std.proofs.Math.Nat.{pow-zero, pow-succ'}
 use Rattle.std.proofs.lemmas.Bool.{cases_Bool}
-use Rattle.std.proofs.lemmas.List.{drop_all}
+use Rattle.std.proofs.lemmas.Bool.Decides.{nat_tests}
+use Rattle.std.specs.Char.{is_ascii_digit, is_ascii_hexdigit}
 use Rattle.std.specs.List.{list_all}
-use Rattle.reverse_debug.specs.Command.{value_in}
+use Rattle.std.specs.Prelude.{option_and_then}
+use Rattle.source_text.specs.Characters.{digit_of}
+use Rattle.source_text.specs.Numbers.{digits_value, number_of as number_to}
+use Rattle.reverse_debug.specs.Command.{value_in, decimal_digit, hexadecimal_digit, number_of, address_of}
 
--- the number of the digits, where those before them stand for n
-abbrev pub digits_from : ℕ → (ℕ → Bool) → (ℕ → ℕ) → ℕ → List ℕ → Option ℕ
-digits_from base ok value n [] = Some n
-digits_from base ok value n (d ∷ ds) = if ok d then digits_from base ok value (base * n + value d) ds else None
-
-abbrev pub weighed : ℕ → (ℕ → Bool) → (ℕ → ℕ) → ℕ → List ℕ → Option ℕ
-weighed base ok value n ds = if list_all ok ds then Some (n * base ^ length ds + value_in base value ds) else None
+abbrev weighed : ℕ → (ℕ → Bool) → (ℕ → ℕ) → ℕ → List ℕ → Option ℕ
+weighed base ok value n ds = cond (list_all ok ds) (Some (n * base ^ length ds + value_in base value ds)) None
 
 none_left : (base : ℕ) (value : ℕ → ℕ) (n : ℕ) → n ≡ n * base ^ 0 + value_in base value []
 unfolding value_in
 none_left base value n = rw (pow-zero base) (omega arith)
 
-one_more : (base n v p r : ℕ) → (base * n + v) * p + r ≡ n * (base * p) + (v * p + r)
+one_more : (base n v p r : ℕ) → (n * base + v) * p + r ≡ n * (base * p) + (v * p + r)
 one_more base n v p r = grind arith
 
 moved : (base : ℕ) (value : ℕ → ℕ) (n d : ℕ) (ds : List ℕ) →
-    (base * n + value d) * base ^ length ds + value_in base value ds ≡ n * base ^ length (d ∷ ds) + value_in base value (d ∷ ds)
+    (n * base + value d) * base ^ length ds + value_in base value ds ≡ n * base ^ length (d ∷ ds) + value_in base value (d ∷ ds)
 unfolding value_in
 moved base value n d ds =
     one_more base n (value d) (base ^ length ds) (value_in base value ds)
     ∙ ap (λ p. n * p + (value d * base ^ length ds + value_in base value ds)) (sym (pow-succ' base (length ds)))
 
-pub from_front : (base : ℕ) (ok : ℕ → Bool) (value : ℕ → ℕ) (n : ℕ) (ds : List ℕ) → digits_from base ok value n ds ≡ weighed base ok value n ds
-from_front base ok value n [] = ap Some (none_left base value n)
-from_front base ok value n (d ∷ ds) = elim (cases_Bool (ok d)) [
-  | inl is ↦ rw is (from_front base ok value (base * n + value d) ds ∙ ap (λ k. cond (list_all ok ds) (Some k) None) (moved base value n d ds))
-  | inr not_so ↦ rw not_so refl
-]
+-- a character as a digit to a base
+abbrev digit_to : ℕ → ℕ → Option ℕ
+digit_to base c = option_and_then (λ d. cond (nat_le base d) None (Some d)) (digit_of c)
+
+step : (base : ℕ) (next : ℕ → Option ℕ) (digit : Option ℕ) → option_and_then (λ d. cond (nat_le base d) None (next d)) digit
+    ≡ option_and_then next (option_and_then (λ d. cond (nat_le base d) None (Some d)) digit)
+step base next None = refl
+step base next (Some d) = elim (nat_le base d) as (λ b. cond b None (next d) ≡ option_and_then next (cond b None (Some d))) [ true ↦ refl | false ↦ refl ]
+
+abbrev AreDigits : ℕ → (ℕ → Bool) → (ℕ → ℕ) → Type 0
+AreDigits base ok value = (c : ℕ) → digit_to base c ≡ cond (ok c) (Some (value c)) None
+
+from_front : (base : ℕ) (ok : ℕ → Bool) (value : ℕ → ℕ) (n : ℕ) (ds : List ℕ) → AreDigits base ok value → digits_value base n ds ≡ weighed base ok value n ds
+from_front base ok value n [] digits = ap Some (none_left base value n)
+from_front base ok value n (d ∷ ds) digits =
+    step base (λ x. digits_value base (n * base + x) ds) (digit_of d) ∙ ap (option_and_then (λ x. digits_value base (n * base + x) ds)) (digits d)
+    ∙ elim (cases_Bool (ok d)) [
+      | inl is ↦ rw is (from_front base ok value (n * base + value d) ds digits ∙ ap (λ k. cond (list_all ok ds) (Some k) None) (moved base value n d ds))
+      | inr not_so ↦ rw not_so refl
+    ]
 
 zero_first : (base : ℕ) (value : ℕ → ℕ) (ds : List ℕ) → 0 * base ^ length ds + value_in base value ds ≡ value_in base value ds
 zero_first base value ds = grind arith
 
 -- digits stand for the sum of their weights
-pub by_weights : (base : ℕ) (ok : ℕ → Bool) (value : ℕ → ℕ) (ds : List ℕ) → digits_from base ok value 0 ds ≡ (if list_all ok ds then Some (value_in base value ds) else None)
-by_weights base ok value ds = from_front base ok value 0 ds ∙ ap (λ k. cond (list_all ok ds) (Some k) None) (zero_first base value ds)
+by_weights : (base : ℕ) (ok : ℕ → Bool) (value : ℕ → ℕ) (ds : List ℕ) → AreDigits base ok value → digits_value base 0 ds ≡ cond (list_all ok ds) (Some (value_in base value ds)) None
+by_weights base ok value ds digits = from_front base ok value 0 ds digits ∙ ap (λ k. cond (list_all ok ds) (Some k) None) (zero_first base value ds)
 
--- all digits are read
-pub all_read : (base : ℕ) (ok : ℕ → Bool) (value : ℕ → ℕ) (n i : ℕ) (ds : List ℕ) → digits_from base ok value 0 ds ≡ digits_from base ok value n (drop i ds) → length ds ≤ i → Some n ≡ (if list_all ok ds then Some (value_in base value ds) else None)
-all_read base ok value n i ds so_far end = sym (so_far ∙ ap (digits_from base ok value n) (drop_all i ds end)) ∙ by_weights base ok value ds
+decimal : AreDigits 10 is_ascii_digit decimal_digit
+decimal c = grind (arith, nat_tests)
 
--- the value of at most 8 hexadecimal digits
-pub low_value : (n i : ℕ) → n < 16 ^ i → i ≤ 8 → n < 4294967296
-low_value n i lt few =
-    let most : 16 ^ i ≤ 16 ^ 8 = pow-le-pow_right (omega arith) few in
-    omega arith
+hexadecimal : AreDigits 16 is_ascii_hexdigit hexadecimal_digit
+hexadecimal c = grind (arith, nat_tests)
+
+pub number_is : (word : List ℕ) → number_to 10 10 word ≡ number_of word
+number_is word = elim (cases_Bool (nat_le 1 (length word) && nat_le (length word) 10)) [
+  | inl is ↦ rw is (by_weights 10 is_ascii_digit decimal_digit word decimal)
+  | inr not_so ↦ rw not_so refl
+]
+
+pub address_is : (word : List ℕ) → length word ≡ 8 → number_to 16 8 word ≡ address_of word
+address_is word h = rw h (by_weights 16 is_ascii_hexdigit hexadecimal_digit word hexadecimal)

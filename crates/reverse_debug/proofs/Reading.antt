@@ -1,20 +1,12 @@
 -- Words of a line, and words of SRAM.
-use Rattle.std.proofs.Common.{◌≡◌, ◌⊎◌, ◌*◌, ◌^◌, ◌%◌, ◌≤◌, ◌<◌, ℕ, nat_le, Bool, true, false, cond, ◌&&◌, ◌==◌, ◌-◌, List, [], ◌∷◌, length, inl, inr, refl, sym, ap, ◌∙◌, arith, zero, suc, ◌+◌}
+use Rattle.std.proofs.Common.{◌≡◌, ◌⊎◌, ◌*◌, ◌^◌, ◌%◌, ◌≤◌, ◌<◌, ℕ, nat_le, true, false, ◌&&◌, ◌==◌, ◌-◌, List, [], ◌∷◌, length, inl, inr, refl, sym, ap, ◌∙◌, arith, zero, suc, ◌+◌}
 use Rattle.std.proofs.lemmas.Bool.{cases_Bool, cases_lt, and_parts, leb-true}
 use Rattle.std.proofs.lemmas.Bool.Decides.{nat_tests}
-use Rattle.std.specs.List.{slice_split, onto_first, list_all}
+use Rattle.std.specs.List.{list_all}
+use Rattle.source_text.proofs.LinesOf.{past}
 use Rattle.rp_base.specs.Map.{Range, ranges, place_by, place_of}
 use Rattle.reverse_debug.specs.Command.{words, command_by, command_of, is_ram, addresses, are_words}
 use Rattle.reverse_debug.specs.Command.Command.{Bad}
-
--- there is always a word
-some_word : (p : ℕ → Bool) (xs : List ℕ) → (q : List ℕ) × (qs : List (List ℕ)) × (slice_split p xs ≡ q ∷ qs)
-some_word p [] = ([], [], refl)
-some_word p (x ∷ xs) =
-    elim (p x) as (λ b. (q : List ℕ) × (qs : List (List ℕ)) × (cond b ([] ∷ slice_split p xs) (onto_first x (slice_split p xs)) ≡ q ∷ qs)) [
-      | true ↦ ([], slice_split p xs, refl)
-      | false ↦ let rest = some_word p xs in (x ∷ rest.0, rest.1, ap (onto_first x) rest.2)
-    ]
 
 bad_by : (a b c q : List ℕ) (qs : List (List ℕ)) → command_by (a ∷ b ∷ c ∷ q ∷ qs) ≡ Bad
 unfolding command_by
@@ -23,9 +15,8 @@ bad_by a b c q qs = refl
 -- no command has four words
 pub four_words : (line name operands first rest word more : List ℕ) → words line ≡ name ∷ words operands → words operands ≡ first ∷ words rest → words rest ≡ word ∷ words more → command_by (words line) ≡ Bad
 four_words line name operands first rest word more h i j =
-    let last = some_word (λ x. x == 32) more in
-    ap command_by (h ∙ ap (λ ws. name ∷ ws) (i ∙ ap (λ ws. first ∷ ws) (j ∙ ap (λ ws. word ∷ ws) last.2)))
-    ∙ bad_by name first word last.0 last.1
+    ap command_by (h ∙ ap (λ ws. name ∷ ws) (i ∙ ap (λ ws. first ∷ ws) j))
+    ∙ past (λ ws. command_by (name ∷ first ∷ word ∷ ws)) Bad _ more (bad_by name first word)
 
 pub many_words : (line name operands first rest word more : List ℕ) → length line ≤ 255 → words line ≡ name ∷ words operands → words operands ≡ first ∷ words rest → words rest ≡ word ∷ words more → Bad ≡ command_of line
 unfolding command_of

@@ -7,7 +7,8 @@ ghost use Rattle.reverse_debug.specs.Command.Command.{Until, Before, Last};
 ghost use Rattle.reverse_debug.specs.Reading.{meant, sought, Fits, IsThere};
 
 use crate::watch::Watched;
-use crate::words::{address_of, are_words, first_word, is, number_of};
+use crate::words::{address_of, are_words, is, number_of};
+use source_text::first_part;
 
 /// What a line asks for.
 #[derive(Clone, Copy)]
@@ -269,13 +270,13 @@ pub(crate) fn command_of(line: &[u8]) -> Command
     if line.len() > 255 {
         return Command::Bad;
     }
-    let Some((name, operands)) = first_word(line) else {
+    let Some((name, operands)) = first_part(line, b' ') else {
         return bare_command(line);
     };
-    let Some((first, rest)) = first_word(operands) else {
+    let Some((first, rest)) = first_part(operands, b' ') else {
         return with_one(name, operands);
     };
-    match first_word(rest) {
+    match first_part(rest, b' ') {
         None => with_two(name, first, rest),
         Some(_) => Command::Bad,
     }

@@ -1,6 +1,6 @@
 -- A number that is cut at each digit is the number cut at its end.
-use Rattle.std.proofs.Common.{◌≡◌, ◌⊎◌, inl, inr, ◌≤◌, ◌<◌, ℕ, suc, ◌+◌, ◌*◌, ◌^◌, min, true, false, cond, nat_le, drop, get_or, List, [], ◌∷◌, length, Option, Some, None, refl, ap, ◌∙◌, arith, lit<}
-use Rattle.std.proofs.Math.Nat.{le-mul_of_pos_right, mul-le-mul_left, pow-le-pow_right, pow-suc}
+use Rattle.std.proofs.Common.{◌≡◌, ◌⊎◌, inl, inr, ◌≤◌, ◌<◌, ℕ, suc, ◌+◌, ◌*◌, ◌^◌, min, true, false, cond, nat_le, drop, get_or, IfSome, List, [], ◌∷◌, length, Option, Some, None, refl, ap, ◌∙◌, arith, lit<}
+use Rattle.std.proofs.Math.Nat.{le-mul_of_pos_right, mul-le-mul_right, pow-le-pow_left, pow-le-pow_right, pow-suc, pow-zero}
 use Rattle.std.proofs.lemmas.Bool.{cases_Bool, cases_lt}
 use Rattle.std.proofs.lemmas.Bool.Decides.{nat_tests}
 use Rattle.std.proofs.lemmas.List.{drop_more}
@@ -59,20 +59,33 @@ next_digit base most v d index digits positive h digit below =
     ap (λ rest. option_map (min most) (digits_value base v rest)) (drop_more digits index 0 h)
     ∙ read_digit base most v d (drop (index + 1) digits) (digit_of (get_or digits index 0)) positive digit below
 
--- few digits are not cut
-uncut_digit : (base most v k : ℕ) (cs : List ℕ) (digit : Option ℕ) → base ≤ 16 → v < 16 ^ k
-    → ((x : ℕ) → x < 16 ^ suc k → option_map (min most) (digits_value base x cs) ≡ digits_value base x cs)
-    → option_map (min most) (option_and_then (λ d. cond (nat_le base d) None (digits_value base (v * base + d) cs)) digit) ≡ option_and_then (λ d. cond (nat_le base d) None (digits_value base (v * base + d) cs)) digit
-uncut_digit base most v k cs None h small more = refl
-uncut_digit base most v k cs (Some d) h small more = elim (cases_Bool (nat_le base d)) [
-  | inl is ↦ rw is refl
+-- so many digits stand for less than that power of the base
+below_digit : (base v k n : ℕ) (cs : List ℕ) (digit : Option ℕ) → v < base ^ k
+    → ((x : ℕ) → x < base ^ suc k → IfSome (digits_value base x cs) (λ m. m < base ^ n))
+    → IfSome (option_and_then (λ d. cond (nat_le base d) None (digits_value base (v * base + d) cs)) digit) (λ m. m < base ^ n)
+below_digit base v k n cs None small more = tt
+below_digit base v k n cs (Some d) small more = elim (cases_Bool (nat_le base d)) [
+  | inl is ↦ rw is tt
   | inr not_so ↦
       let below : d < base = grind (arith, nat_tests) in
-      let product : v * base ≤ v * 16 = mul-le-mul_left v h in
-      let next : v * base + d < 16 ^ suc k = let power = pow-suc 16 k in omega (arith, below, product, small, power, h) in
+      let product : (v + 1) * base ≤ base ^ k * base = mul-le-mul_right {m = v + 1} {n = base ^ k} base (omega (arith, small)) in
+      let next : v * base + d < base ^ suc k = let power = pow-suc base k in grind arith in
       rw not_so (more (v * base + d) next)
 ]
 
-pub uncut : (base most v k n : ℕ) (cs : List ℕ) → base ≤ 16 → v < 16 ^ k → k + length cs ≤ n → 16 ^ n ≤ most → option_map (min most) (digits_value base v cs) ≡ digits_value base v cs
-uncut base most v k n [] h small few large = ap Some (let power : 16 ^ k ≤ 16 ^ n = pow-le-pow_right {n = 16} (lit< tt) (omega arith) in omega (arith, power, small, large))
-uncut base most v k n (c ∷ cs) h small few large = uncut_digit base most v k cs (digit_of c) h small (λ x s. uncut base most x (suc k) n cs h s (omega arith) large)
+below : (base v k n : ℕ) (cs : List ℕ) → 1 ≤ base → v < base ^ k → k + length cs ≤ n → IfSome (digits_value base v cs) (λ m. m < base ^ n)
+below base v k n [] positive small few = let power : base ^ k ≤ base ^ n = pow-le-pow_right {n = base} positive (omega (arith, few)) in omega (arith, power, small)
+below base v k n (c ∷ cs) positive small few = below_digit base v k n cs (digit_of c) small (λ x s. below base x (suc k) n cs positive s (omega (arith, few)))
+
+pub digits_below : (base most : ℕ) (digits : List ℕ) → 1 ≤ base → length digits ≤ most → IfSome (digits_value base 0 digits) (λ n. n < base ^ most)
+digits_below base most digits positive few = below base 0 0 most digits positive (rw (pow-zero base) (lit< tt)) (omega (arith, few))
+
+-- a small number is not cut
+uncut : (n most : ℕ) (value : Option ℕ) → n ≤ most → IfSome value (λ v. v < n) → option_map (min most) value ≡ value
+uncut n most None large small = refl
+uncut n most (Some v) large small = ap Some (omega (arith, large, small))
+
+pub few_digits : (base : ℕ) (digits : List ℕ) → 1 ≤ base → base ≤ 16 → length digits ≤ 10
+    → option_map (min 1099511627776) (digits_value base 0 digits) ≡ digits_value base 0 digits
+few_digits base digits positive h few =
+    uncut (base ^ 10) 1099511627776 (digits_value base 0 digits) (pow-le-pow_left {n = base} {m = 16} h 10) (digits_below base 10 digits positive few)

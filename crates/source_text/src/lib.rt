@@ -1,4 +1,4 @@
-//! What the texts of all sources have in common: positions and lines, characters and digits, and a table of names.
+//! What all texts have in common: positions, lines and their parts, characters and numbers, and a table of names.
 #![tactic(auto)]
 
 mod characters;
@@ -8,7 +8,7 @@ mod position;
 mod symbols;
 
 pub use characters::is_word_byte;
-pub use lines::{find, first_line};
-pub use numbers::value_of_digits;
+pub use lines::{find, first_line, first_part};
+pub use numbers::{number_of, value_of_digits};
 pub use position::{SourcePosition, position_after};
 pub use symbols::Symbols;

@@ -1,5 +1,4 @@
 pub mod Lists
-pub mod Numbers
 pub mod ReadLines
 pub mod ReadTokens
 pub mod Scanning

@@ -1,10 +1,10 @@
 -- The words of a line: mnemonics, registers, directives, numbers and names (ARMv6-M Architecture Reference Manual, A6.7 for the
 -- mnemonics, A2.3.1 for the registers; the directives, the forms of numbers and which words are no names are the project's own).
-use Rattle.std.specs.Prelude.{ℕ, ◌+◌, ◌-◌, Bool, ◌==◌, ◌&&◌, nat_le, if◌then◌else◌, List, [], ◌∷◌, length, Option, None, Some, codes, find}
+use Rattle.std.specs.Prelude.{ℕ, ◌+◌, ◌-◌, ◌==◌, ◌&&◌, if◌then◌else◌, List, [], ◌∷◌, length, Option, None, Some, codes, find}
 use Rattle.std.specs.Option.{option_map_or}
 use Rattle.std.specs.Str.{bytes_eq}
 use Rattle.source_text.specs.Characters.{is_between, is_digit}
-use Rattle.source_text.specs.Numbers.{digits_value}
+use Rattle.source_text.specs.Numbers.{number_of}
 use Rattle.thumb_parse.specs.declared.mnemonic.Mnemonic.{Mnemonic}
 use Rattle.thumb_parse.specs.declared.mnemonic.Mnemonic.TheVariants.{Movs, Cmp, Adds, Subs, Lsls, Lsrs, Asrs, Ands, Eors, Adcs, Sbcs, Rors, Tst, Rsbs, Cmn, Orrs, Muls, Bics, Mvns, Add, Mov, Bx, Blx, Ldr, Adr, Str, Strh, Strb, Ldrsb, Ldrh, Ldrb, Ldrsh, Sub, Sxth, Sxtb, Uxth, Uxtb, Rev, Rev16, Revsh, Push, Pop, Stm, Ldm, Cpsie, Cpsid, Nop, Yield, Wfe, Wfi, Sev, Dsb, Dmb, Isb, Bkpt, Udf, Svc, B, Bl, Beq, Bne, Bcs, Bcc, Bmi, Bpl, Bvs, Bvc, Bhi, Bls, Bge, Blt, Bgt, Ble, Msr, Mrs, Word, Half, Space, Align}
 use Rattle.thumb_parse.specs.declared.token.Span.{Span}
@@ -115,15 +115,9 @@ register_of word = None
 
 -- ---- numbers: at most ten digits, decimal or after `0x`
 
-abbrev pub has_digits : List ℕ → Bool
-has_digits word = nat_le 1 (length word) && nat_le (length word) 10
-
-abbrev pub number_of : ℕ → List ℕ → Option ℕ
-number_of base digits = if has_digits digits then digits_value base 0 digits else None
-
 abbrev pub digits_of : List ℕ → Option ℕ
-digits_of (a ∷ b ∷ digits) = if a == 48 && b == 120 then number_of 16 digits else number_of 10 (a ∷ b ∷ digits)
-digits_of digits = number_of 10 digits
+digits_of (a ∷ b ∷ digits) = if a == 48 && b == 120 then number_of 16 10 digits else number_of 10 10 (a ∷ b ∷ digits)
+digits_of digits = number_of 10 10 digits
 
 -- ---- a word, which begins at this place of its line
 

@@ -1,17 +1,14 @@
 //! Which token a word is.
 
-ghost use Rattle.std.specs.Prelude.{◌≡◌, ◌≤◌};
-ghost use Rattle.thumb_parse.specs.Words.{digits_of, directive_token, name_token, number_of, register_of, word_token};
+ghost use Rattle.std.specs.Prelude.{◌≡◌};
+ghost use Rattle.thumb_parse.specs.Words.{digits_of, directive_token, name_token, register_of, word_token};
 
 use crate::mnemonic::find_mnemonic;
 use crate::token::{Number, Span, Token};
-use source_text::value_of_digits;
+use source_text::number_of;
 
 /// How many digits a number may have.
 const MOST_DIGITS: usize = 10;
-
-/// More than any number of so many digits.
-const MOST: u64 = 0x100_0000_0000;
 
 /// The register that a word names.
 fn register(word: &[u8]) -> Option<u8>
@@ -27,19 +24,6 @@ fn register(word: &[u8]) -> Option<u8>
     }
 }
 
-/// The number of 1 to 10 digits to a base from 1 to 16.
-#[tactic(auto, using(crate::proofs::Numbers::few_digits))]
-fn number_of(base: u64, digits: &[u8]) -> Option<u64>
-    requires positive { 1 ≤ base }
-    requires base { base ≤ 16 }
-    ensures { result ≡ number_of base digits.now }
-{
-    if digits.is_empty() || digits.len() > MOST_DIGITS {
-        return None;
-    }
-    value_of_digits(base, MOST, digits)
-}
-
 /// The number of a word without its sign.
 fn digits_of(word: &[u8]) -> Option<u64>
     ensures { result ≡ digits_of word.now }
@@ -47,12 +31,12 @@ fn digits_of(word: &[u8]) -> Option<u64>
     match word {
         [first, second, digits @ ..] => {
             if *first == b'0' && *second == b'x' {
-                number_of(16, digits)
+                number_of(16, MOST_DIGITS, digits)
             } else {
-                number_of(10, word)
+                number_of(10, MOST_DIGITS, word)
             }
         }
-        _ => number_of(10, word),
+        _ => number_of(10, MOST_DIGITS, word),
     }
 }
 
