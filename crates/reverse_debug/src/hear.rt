@@ -17,22 +17,12 @@ use lane_look::Device;
 use rp_machine::{Steps, World};
 use rp_ports::sink::Sink;
 use rp_ports::source::Source;
+use source_text::without_return;
 use std::sync::ledger::Ledger;
 use trace_text::writer::{SinkFault, Writer};
 
 /// The bytes of a reply are at most so many.
 const REPLY: usize = 1024;
-
-/// A line without the CR at its end.
-fn without_return(line: &[u8]) -> &[u8]
-    ensures { result.now ≡ without_cr line.now }
-{
-    if !line.is_empty() && line[line.len() - 1] == b'\r' {
-        &line[..line.len() - 1]
-    } else {
-        line
-    }
-}
 
 /// Puts the reply to a line, and tells whether it is no last one.
 fn answer<X: Device, O: Sink, L: Ledger>(

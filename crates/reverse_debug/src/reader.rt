@@ -1,10 +1,11 @@
 //! The lines of a source, one after another.
 
-ghost use Rattle.std.specs.Prelude.{◌≡◌, ◌++◌, position, take, ◌==◌};
+ghost use Rattle.std.specs.Prelude.{◌≡◌, ◌++◌, take};
 ghost use Rattle.reverse_debug.specs.NextLine.{given_bytes};
 
 use arrayvec::ArrayVec;
 use rp_ports::source::{Source, Taken};
+use source_text::find;
 use std::marker::Model;
 use trace_text::line::push_text;
 
@@ -25,13 +26,6 @@ pub enum Next {
     Failed,
     /// The limit of the bytes is reached. The bytes before that are an open line.
     Full,
-}
-
-/// The index of the first LF.
-fn line_end(bytes: &[u8]) -> Option<usize>
-    ensures { result ≡ position (λ byte. byte == 10) bytes.now }
-{
-    bytes.iter().position(|byte| *byte == b'\n')
 }
 
 /// Gives more bytes of a line, as long as there is room for them.
@@ -90,7 +84,7 @@ impl LineReader {
     {
         let front = &self.piece[..self.end];
         let rest = &front[self.at..];
-        match line_end(rest) {
+        match find(rest, b'\n') {
             Some(count) => {
                 give(&rest[..count], line);
                 self.at += count + 1;

@@ -8,7 +8,7 @@ mod position;
 mod symbols;
 
 pub use characters::is_word_byte;
-pub use lines::{find, first_line, first_part};
+pub use lines::{find, first_line, first_part, without_return};
 pub use numbers::{number_of, value_of_digits};
 pub use position::{SourcePosition, position_after};
 pub use symbols::Symbols;

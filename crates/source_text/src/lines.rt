@@ -24,7 +24,7 @@ pub fn first_part(bytes: &[u8], byte: u8) -> Option<(&[u8], &[u8])>
 }
 
 /// A line without the CR at its end.
-fn without_return(line: &[u8]) -> &[u8]
+pub fn without_return(line: &[u8]) -> &[u8]
     ensures { result.now ≡ strip_carriage_return line.now }
 {
     if !line.is_empty() && line[line.len() - 1] == b'\r' {
