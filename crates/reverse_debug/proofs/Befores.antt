@@ -1,16 +1,9 @@
 -- The n-th cycle below the present one, by a session that stands where it stood; and moves back to it.
-use Rattle.std.proofs.Common.{◌≡◌, ℕ, ◌+◌, ◌-◌, ◌%◌, ◌≤◌, List, [], ◌++◌, Option, Some, None, sym, ap, subst, arith, ◌∙◌}
-use Rattle.outer_lane.specs.Setting.{Setting}
-use Rattle.rp_machine.specs.State.{State}
-use Rattle.rp_base.specs.Alias.{or_zero}
+use Rattle.reverse_debug.proofs.Shared.{AreOf, Does, FindsNear, IsIn, Lands, List, Moves, None, Option, Said, Setting, Some, Spends, Standing, StandsFor, State, [], ap, arith, at_or_start, before_nth, codes, first_in, first_of, kept_first, kept_second, last_cycle, move_cost, moved_to, or_zero, search_cost, subst, sym, ℕ, ◌%◌, ◌++◌, ◌+◌, ◌-◌, ◌∙◌, ◌≡◌, ◌≤◌}
 use Rattle.reverse_debug.specs.Command.{Watched}
-use Rattle.reverse_debug.specs.Reply.{last_cycle, before_nth, search_cost, move_cost, Said, at_or_start, moved_to}
-use Rattle.reverse_debug.specs.Session.{Standing, first_in, first_of, IsIn, AreOf, StandsFor, Lands, Does, Moves, FindsNear, Spends}
-use Rattle.std.specs.Prelude.{codes}
 use Rattle.reverse_debug.proofs.Moves.{moved_within, started, text_written}
 use Rattle.reverse_debug.proofs.Stretches.{before_within}
 use Rattle.reverse_debug.proofs.Rings.{restored_any, both_of_run}
-use Rattle.snap_ring.proofs.Nearest.{kept_first, kept_second}
 use Rattle.reverse_debug.proofs.Sessions.{first_kept, every_now, close_now, now_in_last}
 
 -- v is what the parts of the session stand for, and s any machine's state

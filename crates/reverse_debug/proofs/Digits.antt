@@ -1,14 +1,8 @@
 -- Numbers by the weights of their digits.
-use Rattle.std.proofs.Common.{◌≡◌, ℕ, ◌+◌, ◌*◌, ◌^◌, Bool, true, false, cond, ◌&&◌, nat_le, List, [], ◌∷◌, length, Option, Some, None, inl, inr, refl, sym, ap, arith, ◌∙◌}
-use Rattle.std.proofs.Math.Nat.{pow-zero, pow-succ'}
-use Rattle.std.proofs.lemmas.Bool.{cases_Bool}
-use Rattle.std.proofs.lemmas.Bool.Decides.{nat_tests}
+use Rattle.reverse_debug.proofs.Shared.{Bool, List, None, Option, Some, [], address_of, ap, arith, cases_Bool, cond, decimal_digit, false, hexadecimal_digit, inl, inr, length, list_all, nat_le, nat_tests, number_of, option_and_then, pow-succ', pow-zero, refl, sym, true, value_in, ℕ, ◌&&◌, ◌*◌, ◌+◌, ◌^◌, ◌∙◌, ◌∷◌, ◌≡◌}
 use Rattle.std.specs.Char.{is_ascii_digit, is_ascii_hexdigit}
-use Rattle.std.specs.List.{list_all}
-use Rattle.std.specs.Prelude.{option_and_then}
 use Rattle.source_text.specs.Characters.{digit_of}
 use Rattle.source_text.specs.Numbers.{digits_value, number_of as number_to}
-use Rattle.reverse_debug.specs.Command.{value_in, decimal_digit, hexadecimal_digit, number_of, address_of}
 
 abbrev weighed : ℕ → (ℕ → Bool) → (ℕ → ℕ) → ℕ → List ℕ → Option ℕ
 weighed base ok value n ds = cond (list_all ok ds) (Some (n * base ^ length ds + value_in base value ds)) None

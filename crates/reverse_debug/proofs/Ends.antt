@@ -1,29 +1,13 @@
 -- Moves forward that do not end on the way.
-use Rattle.std.proofs.Common.{◌≡◌, ℕ, List, zero, if◌then◌else◌, suc, ◌+◌, ◌-◌, ◌==◌, ◌<◌, ◌≤◌, nat_lt, ◌&&◌, Bool, true, false, not, Option, Some, None, inl, inr, refl, sym, ap, subst, arith, ◌∙◌, add-one}
-use Rattle.std.proofs.lemmas.Bool.Decides.{nat_tests}
-use Rattle.std.proofs.lemmas.Bool.{cases_Bool, cases_lt, eqb-true, eq-eqb, lt-ltb}
-use Rattle.rp_base.specs.Alias.{or_zero}
-use Rattle.rp_base.specs.Map.{place_of}
-use Rattle.rp_base.specs.Word.{has_bit}
-use Rattle.rp_base.specs.declared.Why.{Why}
-use Rattle.m0_core.specs.Begins.{begins}
+use Rattle.reverse_debug.proofs.Shared.{Advances, Approaches, Bool, IsQuiet, List, None, NoneEnds, Option, Path, SeesAs, Setting, Some, State, Why, add-one, ap, arith, begins, cases_Bool, cases_lt, ends, ends_by, eq-eqb, eqb-true, false, has_bit, if◌then◌else◌, inl, inr, is_begun, lt-ltb, nat_lt, nat_tests, next, not, or_zero, place_of, refl, seen, sought, states, states_here, stop, subst, suc, sym, true, zero, ℕ, ◌&&◌, ◌+◌, ◌-◌, ◌<◌, ◌==◌, ◌∙◌, ◌≡◌, ◌≤◌}
 use Rattle.io_bank.specs.State.{State as Bank}
-use Rattle.outer_lane.specs.Setting.{Setting}
-use Rattle.rp_machine.specs.State.{State}
-use Rattle.rp_machine.specs.Cycle.{stop, next}
-use Rattle.rp_machine.specs.Quiet.{IsQuiet}
 use Rattle.rp_machine.specs.Reads.{begins_of}
 use Rattle.rp_machine.specs.Sram.{ram_word}
-use Rattle.rp_machine.specs.Run.{states}
-use Rattle.rp_machine.proofs.Runs.{states_here}
 use Rattle.quiet_run.specs.Parts.{HasNoWork}
 use Rattle.reverse_debug.specs.declared.watch.Watched.{Watched as Written}
 use Rattle.reverse_debug.specs.declared.watch.Watched.TheVariants as written
 use Rattle.reverse_debug.specs.Command.{Watched}
 use Rattle.reverse_debug.specs.Command.Watched.{Word, Pin, Begun}
-use Rattle.reverse_debug.specs.Reading.{sought}
-use Rattle.reverse_debug.specs.Reply.{seen, is_begun, ends, ends_by}
-use Rattle.reverse_debug.specs.Advance.{Path, Advances, Approaches, NoneEnds, SeesAs}
 use Rattle.reverse_debug.proofs.Paths.{joined, one_on, none_first, states_within, next_at, way_on, way_passed, way_stopped, quiet_there}
 
 -- ---- what was seen before

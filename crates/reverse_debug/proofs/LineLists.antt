@@ -1,8 +1,6 @@
 -- Lines of texts that stand one behind another.
-use Rattle.std.proofs.Common.{◌≡◌, ℕ, Bool, true, false, ◌==◌, ◌||◌, if◌then◌else◌, List, [], ◌∷◌, ◌++◌, refl, sym, ap, ◌∙◌, append_assoc}
+use Rattle.reverse_debug.proofs.Shared.{Bool, HasNoEnd, List, [], all_lines, ap, append_assoc, closes, complete_from, complete_lines, false, has_last, if◌then◌else◌, open_from, open_line, refl, sym, true, unless_empty, until, without_cr, ℕ, ◌++◌, ◌==◌, ◌||◌, ◌∙◌, ◌∷◌, ◌≡◌}
 use Rattle.std.proofs.lemmas.List.{append-nil}
-use Rattle.reverse_debug.specs.Lines.{without_cr, complete_from, open_from, complete_lines, open_line, unless_empty, all_lines, has_last, closes, until}
-use Rattle.reverse_debug.specs.NextLine.{HasNoEnd}
 
 -- the complete lines of two texts are those of the first, and those of the second behind the line that the first leaves open
 pub complete_append : (held xs ys : List ℕ) → complete_from held (xs ++ ys) ≡ complete_from held xs ++ complete_from (open_from held xs) ys

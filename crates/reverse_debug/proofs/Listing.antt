@@ -1,8 +1,6 @@
 -- Lists that are written one after another.
 use Rattle.std.proofs.Common.{◌≡◌, ℕ, suc, ◌+◌, ◌-◌, ◌<◌, List, [], ◌∷◌, ◌++◌, flat_map, drop, length, get_or, refl, sym, ap, arith, ◌∙◌, append_assoc, append-nil}
-use Rattle.std.specs.List.{range_with_len}
-use Rattle.trace_text.specs.Line.{hex_word, spaced_word}
-use Rattle.reverse_debug.specs.Reply.{pio_words}
+use Rattle.reverse_debug.proofs.Shared.{hex_word, pio_words, range_with_len, spaced_word}
 
 -- one piece more, where the rest begins with its item
 pub piece_more : (f : ℕ → List ℕ) (now after : List ℕ) (x : ℕ) (left rest : List ℕ) (whole : List ℕ) → left ≡ x ∷ rest → now ++ flat_map f left ≡ whole → after ≡ now ++ f x → after ++ flat_map f rest ≡ whole

@@ -1,22 +1,7 @@
 -- Moves, and what is answered.
-use Rattle.std.proofs.Common.{◌≡◌, ℕ, ◌+◌, ◌-◌, ◌<◌, ◌≤◌, ◌^◌, nat_lt, Bool, true, false, not, cond, List, [], ◌++◌, Option, Some, None, inl, inr, refl, sym, ap, subst, arith, ◌∙◌}
-use Rattle.std.proofs.lemmas.Bool.{cases_lt}
-use Rattle.std.proofs.lemmas.Bool.Decides.{nat_tests}
-use Rattle.std.specs.Prelude.{codes}
-use Rattle.rp_base.specs.declared.Why.{Why}
-use Rattle.trace_text.specs.Line.{stop_text}
-use Rattle.outer_lane.specs.Setting.{Setting}
-use Rattle.rp_machine.specs.State.{State}
-use Rattle.rp_machine.specs.Cycle.{stop}
-use Rattle.rp_machine.specs.Run.{last_state}
-use Rattle.reverse_debug.specs.Reply.{Said, said, last_cycle, at_last, at_or_last, at_or_start, before_nth, behind_next, at_reply, moved_to, moved_back, move_cost, answer, heard, command_cost, cost}
-use Rattle.reverse_debug.specs.Command.{Command, is_quit, command_of}
-use Rattle.reverse_debug.specs.Command.Command.{Step, Back, Goto, End, Until, Before}
+use Rattle.reverse_debug.proofs.Shared.{Back, Before, Bool, Command, Does, End, Fits, Goes, GoesOn, Goto, IsNearBy, Lands, List, Moves, None, Option, Said, Setting, Snapshots, Some, Standing, StandsFor, State, StaysFor, Step, Until, Why, [], answer, ap, arith, at_last, at_or_last, at_or_start, at_reply, before_nth, behind_next, cases_lt, codes, command_cost, command_of, cond, cost, false, first_of, heard, inl, inr, is_quit, last_cycle, last_state, meant, move_cost, moved_back, moved_to, nat_lt, nat_tests, not, refl, said, stop, stop_text, subst, sym, true, ℕ, ◌++◌, ◌+◌, ◌-◌, ◌<◌, ◌^◌, ◌∙◌, ◌≡◌, ◌≤◌}
 use Rattle.reverse_debug.specs.declared.command.Command.{Command as Asked}
 use Rattle.reverse_debug.specs.declared.command.Command.TheVariants as code
-use Rattle.reverse_debug.specs.Reading.{meant, Fits}
-use Rattle.snap_ring.specs.Ring.{Snapshots}
-use Rattle.reverse_debug.specs.Session.{Standing, first_of, StandsFor, StaysFor, Goes, GoesOn, Lands, Does, Moves, IsNearBy}
 use Rattle.reverse_debug.proofs.Paths.{path_last, last_within}
 use Rattle.reverse_debug.proofs.Rings.{in_same}
 use Rattle.reverse_debug.proofs.Sessions.{now_in_last, now_low, path_of, stays_on, goes_here}

@@ -1,13 +1,10 @@
 -- How a reader of lines goes over the bytes of a source.
-use Rattle.std.proofs.Common.{◌≡◌, ℕ, zero, suc, ◌+◌, ◌-◌, ◌<◌, ◌≤◌, ◌==◌, nat_lt, nat_le, min, Bool, true, false, not, cond, List, [], ◌∷◌, ◌++◌, length, take, drop, Option, Some, None, refl, sym, ap, ◌∙◌, subst, arith, append_assoc, length-append}
-use Rattle.std.specs.List.{position, position_or_len}
+use Rattle.reverse_debug.proofs.Shared.{Ahead, Bool, Consumes, EndsBy, Fills, HasNoEnd, List, None, Option, Passes, Reads, Some, Splits, [], ap, append_assoc, arith, cond, drop, false, given_bytes, length, length-append, min, nat_le, nat_lt, not, position, position_or_len, refl, subst, suc, sym, take, true, zero, ℕ, ◌++◌, ◌+◌, ◌-◌, ◌<◌, ◌==◌, ◌∙◌, ◌∷◌, ◌≡◌, ◌≤◌}
 use Rattle.std.specs.Option.{option_map}
 use Rattle.std.proofs.lemmas.List.{append-nil, take_all, take-append-drop}
-use Rattle.rp_ports.specs.Source.{Consumes}
 use Rattle.rp_ports.specs.declared.source.Taken.TheVariants as taken
 use Rattle.reverse_debug.specs.declared.reader.Next.{Next}
 use Rattle.reverse_debug.specs.declared.reader.Next.TheVariants.{Line, Last, Failed, Full}
-use Rattle.reverse_debug.specs.NextLine.{Ahead, HasNoEnd, given_bytes, Passes, Fills, Splits, EndsBy, Reads}
 
 -- ---- the first LF
 

@@ -1,7 +1,5 @@
 -- The near stretch begins at a multiple of the spacing.
-use Rattle.std.proofs.Common.{◌≡◌, ℕ, ◌+◌, ◌-◌, ◌*◌, ◌%◌, ◌<◌, ◌≤◌, inl, inr, arith}
-use Rattle.std.proofs.lemmas.Bool.{cases_lt}
-use Rattle.std.proofs.Math.Nat.{mod-lt}
+use Rattle.reverse_debug.proofs.Shared.{arith, cases_lt, inl, inr, mod-lt, ℕ, ◌%◌, ◌*◌, ◌+◌, ◌-◌, ◌<◌, ◌≡◌, ◌≤◌}
 use Rattle.reverse_debug.specs.Laws.{TheNextMoveBackIsNear}
 use Rattle.reverse_debug.proofs.Rings.{next_multiple, multiple_below, within_of, low_within}
 

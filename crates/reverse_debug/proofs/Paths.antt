@@ -1,15 +1,6 @@
 -- Runs from one state to another.
-use Rattle.std.proofs.Common.{◌≡◌, ℕ, zero, suc, ◌+◌, ◌-◌, ◌<◌, ◌≤◌, Option, Some, None, IfSome, refl, sym, ap, subst, arith, ◌∙◌}
-use Rattle.rp_base.specs.declared.Why.{Why}
-use Rattle.outer_lane.specs.Setting.{Setting}
-use Rattle.rp_machine.specs.State.{State}
-use Rattle.rp_machine.specs.Cycle.{stop, next}
-use Rattle.rp_machine.specs.Quiet.{IsQuiet}
-use Rattle.rp_machine.specs.Run.{states, last_state, unless_stopped}
-use Rattle.rp_machine.proofs.Runs.{states_here, states_on, below_limit, next_cycle}
+use Rattle.reverse_debug.proofs.Shared.{Advances, IfSome, IsQuiet, None, Option, Path, Setting, Some, State, Why, ap, arith, below_limit, last_cycle, last_state, next, next_cycle, refl, states, states_here, states_on, stop, subst, suc, sym, unless_stopped, zero, ℕ, ◌+◌, ◌-◌, ◌<◌, ◌∙◌, ◌≡◌, ◌≤◌}
 use Rattle.rp_machine.proofs.Joining.{join}
-use Rattle.reverse_debug.specs.Reply.{last_cycle}
-use Rattle.reverse_debug.specs.Advance.{Path, Advances}
 
 pub none_first : (w : Setting) (s : State) → states w s zero ≡ s
 unfolding states

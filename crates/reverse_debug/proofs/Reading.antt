@@ -1,12 +1,6 @@
 -- Words of a line, and words of SRAM.
-use Rattle.std.proofs.Common.{◌≡◌, ◌⊎◌, ◌*◌, ◌^◌, ◌%◌, ◌≤◌, ◌<◌, ℕ, nat_le, true, false, ◌&&◌, ◌==◌, ◌-◌, List, [], ◌∷◌, length, inl, inr, refl, sym, ap, ◌∙◌, arith, zero, suc, ◌+◌}
-use Rattle.std.proofs.lemmas.Bool.{cases_Bool, cases_lt, and_parts, leb-true}
-use Rattle.std.proofs.lemmas.Bool.Decides.{nat_tests}
-use Rattle.std.specs.List.{list_all}
+use Rattle.reverse_debug.proofs.Shared.{Bad, List, Range, [], addresses, and_parts, ap, are_words, arith, cases_Bool, cases_lt, command_by, command_of, false, inl, inr, is_ram, leb-true, length, list_all, nat_le, nat_tests, place_by, place_of, ranges, refl, suc, sym, true, words, zero, ℕ, ◌%◌, ◌&&◌, ◌*◌, ◌+◌, ◌-◌, ◌<◌, ◌==◌, ◌^◌, ◌∙◌, ◌∷◌, ◌≡◌, ◌≤◌, ◌⊎◌}
 use Rattle.source_text.proofs.LinesOf.{past}
-use Rattle.rp_base.specs.Map.{Range, ranges, place_by, place_of}
-use Rattle.reverse_debug.specs.Command.{words, command_by, command_of, is_ram, addresses, are_words}
-use Rattle.reverse_debug.specs.Command.Command.{Bad}
 
 bad_by : (a b c q : List ℕ) (qs : List (List ℕ)) → command_by (a ∷ b ∷ c ∷ q ∷ qs) ≡ Bad
 unfolding command_by

@@ -1,15 +1,6 @@
 -- States that are kept.
-use Rattle.std.proofs.Common.{◌≡◌, ℕ, ◌+◌, ◌-◌, ◌*◌, ◌/◌, ◌%◌, ◌==◌, ◌<◌, ◌≤◌, max, nat_lt, nat_le, if◌then◌else◌, Bool, true, false, not, ◌&&◌, ◌||◌, List, [], ◌∷◌, ◌++◌, Some, inl, inr, refl, sym, ap, subst, arith, ◌∙◌}
-use Rattle.std.proofs.lemmas.Bool.{cases_Bool, cases_lt, or_right, and_from, and_parts, eqb-true, eq-eqb, lt-ltb, le-leb, ltb-true, leb-true}
-use Rattle.std.proofs.Math.Nat.{mul-add-mod_self_left, div-add-mod, mod-eq_of_lt, mod-le, zero-mod}
-use Rattle.outer_lane.specs.Setting.{Setting}
-use Rattle.rp_machine.specs.State.{State}
-use Rattle.rp_machine.specs.Run.{states}
-use Rattle.snap_ring.specs.Ring.{Snapshots, near_spacing, is_kept, is_within, is_due, kept_with, state_at, restored}
-use Rattle.snap_ring.proofs.Nearest.{kept_both, kept_only}
+use Rattle.reverse_debug.proofs.Shared.{Bool, IsIn, Keeps, List, Setting, Snapshots, Some, State, [], and_from, and_parts, ap, arith, cases_Bool, cases_lt, div-add-mod, eq-eqb, eqb-true, false, if◌then◌else◌, inl, inr, is_due, is_kept, is_within, keeping_is_faithful, kept_both, kept_only, kept_with, le-leb, leb-true, lt-ltb, ltb-true, max, mod-eq_of_lt, mod-le, mul-add-mod_self_left, nat_le, nat_lt, near_spacing, next_place, not, or_right, refl, restored, state_at, states, subst, sym, true, zero-mod, ℕ, ◌%◌, ◌&&◌, ◌*◌, ◌++◌, ◌+◌, ◌-◌, ◌/◌, ◌<◌, ◌==◌, ◌||◌, ◌∙◌, ◌∷◌, ◌≡◌, ◌≤◌}
 use Rattle.snap_ring.proofs.Room.{due}
-use Rattle.snap_ring.proofs.Faithful.{keeping_is_faithful}
-use Rattle.reverse_debug.specs.Session.{IsIn, Keeps, next_place}
 
 -- ---- multiples of a spacing
 

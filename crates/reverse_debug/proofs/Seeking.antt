@@ -1,14 +1,6 @@
 -- Moves forward to the n-th time of what is watched.
-use Rattle.std.proofs.Common.{◌≡◌, ℕ, zero, suc, ◌+◌, ◌-◌, ◌<◌, ◌≤◌, Bool, true, false, cond, List, Some, None, refl, sym, ap, subst, arith, ◌∙◌}
-use Rattle.rp_base.specs.declared.Why.{Why}
-use Rattle.trace_text.specs.Line.{stop_text}
-use Rattle.outer_lane.specs.Setting.{Setting}
-use Rattle.rp_machine.specs.State.{State}
-use Rattle.rp_machine.specs.Run.{states}
+use Rattle.reverse_debug.proofs.Shared.{Bool, GoesOn, List, Misses, Moves, None, NoneEnds, Path, Said, Seeks, Setting, Some, Standing, StandsFor, State, StaysFor, Why, ap, arith, at_or_last, at_reply, behind_next, behind_nth, cond, ends, ends_by, false, fewer, first_of, last_cycle, refl, said, seen, states, stop_text, subst, suc, sym, true, zero, ℕ, ◌+◌, ◌-◌, ◌<◌, ◌∙◌, ◌≡◌, ◌≤◌}
 use Rattle.reverse_debug.specs.Command.{Watched}
-use Rattle.reverse_debug.specs.Reply.{Said, said, last_cycle, seen, ends, ends_by, fewer, behind_nth, behind_next, at_or_last, at_reply}
-use Rattle.reverse_debug.specs.Advance.{Path, NoneEnds}
-use Rattle.reverse_debug.specs.Session.{Standing, first_of, StandsFor, StaysFor, GoesOn, Seeks, Misses, Moves}
 use Rattle.reverse_debug.proofs.Paths.{joined}
 use Rattle.reverse_debug.proofs.Ends.{ends_on, ends_later, sees_over}
 use Rattle.reverse_debug.proofs.Moves.{arrived, last_at, moved_beyond, moved_to_end}

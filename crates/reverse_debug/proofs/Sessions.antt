@@ -1,17 +1,5 @@
 -- Sessions as they move.
-use Rattle.std.proofs.Common.{◌≡◌, ◌⊎◌, ℕ, ◌+◌, ◌-◌, ◌*◌, ◌%◌, ◌<◌, ◌≤◌, ◌^◌, ◌&&◌, ◌||◌, max, nat_lt, true, false, List, Option, None, inl, inr, refl, sym, ap, subst, arith, ◌∙◌}
-use Rattle.std.proofs.lemmas.Bool.{or_cases, or_parts, and_from, and_parts, ltb-true, lt-ltb, true≢false}
-use Rattle.std.proofs.lemmas.Bool.Decides.{nat_tests}
-use Rattle.std.proofs.Math.Nat.{mod-lt, mod-le, zero-mod}
-use Rattle.rp_base.specs.declared.Why.{Why}
-use Rattle.outer_lane.specs.Setting.{Setting}
-use Rattle.rp_machine.specs.State.{State}
-use Rattle.rp_machine.specs.Run.{states}
-use Rattle.snap_ring.specs.Ring.{Snapshots, spacing_of, near_spacing, is_kept, is_within, kept_with, restarted, state_at, restored, IsGreatest, IsNearest}
-use Rattle.snap_ring.proofs.Faithful.{keeping_is_faithful}
-use Rattle.reverse_debug.specs.Reply.{last_cycle}
-use Rattle.reverse_debug.specs.Advance.{Path, Advances}
-use Rattle.reverse_debug.specs.Session.{Standing, first_of, IsIn, next_place, IsAlong, StandsFor, Stands, OpensAt, StaysFor, Goes, GoesOn, Lands}
+use Rattle.reverse_debug.proofs.Shared.{Advances, Goes, GoesOn, IsAlong, IsGreatest, IsIn, IsNearest, Lands, List, None, OpensAt, Option, Path, Setting, Snapshots, Standing, Stands, StandsFor, State, StaysFor, Why, and_from, and_parts, ap, arith, false, first_of, inl, inr, is_kept, is_within, keeping_is_faithful, kept_with, last_cycle, lt-ltb, ltb-true, max, mod-le, mod-lt, nat_lt, nat_tests, near_spacing, next_place, or_cases, or_parts, refl, restarted, restored, spacing_of, state_at, states, subst, sym, true, true≢false, zero-mod, ℕ, ◌%◌, ◌&&◌, ◌*◌, ◌+◌, ◌-◌, ◌<◌, ◌^◌, ◌||◌, ◌∙◌, ◌≡◌, ◌≤◌, ◌⊎◌}
 use Rattle.reverse_debug.proofs.Paths.{path_join, path_in_last, last_within, none_first, below_to}
 use Rattle.reverse_debug.proofs.Rings.{multiple_below, place_below, place_within, within_of, begun_within, closer_low, closer_fills, restored_cycle, restored_any, spacing_stays, origin_stays, found_still, empty, due_first, keeps_after, keeps_to, keeps_first}
 

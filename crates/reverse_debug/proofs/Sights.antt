@@ -1,15 +1,10 @@
 -- What is watched, while core 0 is at work by itself.
-use Rattle.std.proofs.Common.{◌≡◌, ℕ, ◌+◌, ◌==◌, ◌<◌, ◌≤◌, Bool, true, false, not, if◌then◌else◌, Option, inl, inr, refl, sym, ap, subst, arith, ◌∙◌, add-one}
-use Rattle.std.proofs.lemmas.Bool.{cases_lt}
-use Rattle.m0_core.specs.Begins.{begins}
-use Rattle.rp_machine.specs.State.{State}
+use Rattle.reverse_debug.proofs.Shared.{Bool, Option, State, add-one, ap, arith, begins, cases_lt, ends_by, false, if◌then◌else◌, inl, inr, is_begun, not, refl, seen, sought, subst, sym, true, ℕ, ◌+◌, ◌<◌, ◌==◌, ◌∙◌, ◌≡◌, ◌≤◌}
 use Rattle.rp_machine.specs.Inward.{inward_next, inward_after, StaysInward}
 use Rattle.reverse_debug.specs.declared.watch.Watched.{Watched}
 use Rattle.reverse_debug.specs.declared.watch.Watched.TheVariants as watched
 use Rattle.reverse_debug.specs.declared.sight.Sight.{Sight}
 use Rattle.reverse_debug.specs.declared.sight.Sight.TheVariants.{Word, Begun}
-use Rattle.reverse_debug.specs.Reading.{sought}
-use Rattle.reverse_debug.specs.Reply.{seen, is_begun, ends_by}
 use Rattle.reverse_debug.specs.Sight.{stops_at}
 
 -- ---- it stops where a move forward ends

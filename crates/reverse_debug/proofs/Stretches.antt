@@ -1,19 +1,7 @@
 -- The stretches between the states that are kept, from behind.
-use Rattle.std.proofs.Common.{◌≡◌, ◌⊎◌, ℕ, zero, suc, ◌+◌, ◌-◌, ◌*◌, ◌%◌, ◌<◌, ◌≤◌, ◌==◌, ◌||◌, nat_le, nat_lt, Bool, true, false, cond, Option, Some, None, refl, sym, ap, subst, arith, ◌∙◌, inl, inr}
-use Rattle.std.proofs.lemmas.Bool.{cases_Bool, cases_lt}
-use Rattle.std.proofs.lemmas.Bool.Decides.{nat_tests}
-use Rattle.std.proofs.Math.Nat.{mod-lt}
-use Rattle.rp_base.specs.Alias.{or_zero}
-use Rattle.outer_lane.specs.Setting.{Setting}
-use Rattle.rp_machine.specs.State.{State}
-use Rattle.rp_machine.specs.Run.{states}
-use Rattle.snap_ring.specs.Ring.{Snapshots, state_at, restored, IsNearest}
-use Rattle.reverse_debug.specs.declared.search.Tally.{Tally}
+use Rattle.reverse_debug.proofs.Shared.{AreOf, Bool, IsIn, IsNearest, None, Option, Path, Setting, Snapshots, Some, Spends, State, Tally, all_kept, ap, arith, before_nth, cases_Bool, cases_lt, cond, false, happens, inl, inr, last_cycle, mod-lt, nat_le, nat_lt, nat_tests, or_zero, refl, restored, search_cost, state_at, states, subst, suc, sym, true, zero, ℕ, ◌%◌, ◌*◌, ◌+◌, ◌-◌, ◌<◌, ◌==◌, ◌||◌, ◌∙◌, ◌≡◌, ◌≤◌, ◌⊎◌}
 use Rattle.reverse_debug.specs.Command.{Watched}
-use Rattle.reverse_debug.specs.Reply.{last_cycle, happens, search_cost, before_nth}
-use Rattle.reverse_debug.specs.Advance.{Path}
 use Rattle.reverse_debug.specs.Search.{noted, tally}
-use Rattle.reverse_debug.specs.Session.{IsIn, AreOf, Spends, all_kept}
 use Rattle.reverse_debug.proofs.Paths.{joined, last_within, path_to_last}
 use Rattle.reverse_debug.proofs.Rings.{restored_cycle, within_of, begun_within, low_within}
 use Rattle.reverse_debug.proofs.Tallies.{tally_none, tally_one, few_of}

@@ -1,18 +1,10 @@
 -- What is taken from a source, and how the taking ends.
-use Rattle.std.proofs.Common.{◌≡◌, ◌==◌, ◌||◌, ℕ, suc, ◌+◌, ◌<◌, ◌≤◌, nat_lt, Bool, true, false, List, [], ◌∷◌, ◌++◌, length, take, Option, Result, Ok, Err, IfOk, refl, sym, ap, inl, inr, ◌∙◌, subst, arith, append_assoc, length-append}
-use Rattle.std.proofs.lemmas.Bool.Decides.{nat_tests}
+use Rattle.reverse_debug.proofs.Shared.{Ahead, AnswersLines, Bool, Consumes, Err, HasNoEnd, Hears, IfOk, IsAfterLine, List, Ok, Option, Reads, RepliesTo, Result, SinkFault, Taking, Talk, [], ap, append_assoc, arith, behind, closes, complete_from, complete_lines, false, given_bytes, has_last, inl, inr, length, length-append, nat_lt, nat_tests, open_line, refl, rose_later, subst, suc, sym, take, true, unless_empty, until, without_cr, ℕ, ◌++◌, ◌+◌, ◌<◌, ◌==◌, ◌||◌, ◌∙◌, ◌∷◌, ◌≡◌, ◌≤◌}
 use Rattle.std.proofs.lemmas.List.{append-nil}
-use Rattle.rp_ports.specs.Source.{Consumes}
-use Rattle.trace_text.proofs.Sending.{rose_later}
-use Rattle.trace_text.specs.declared.writer.SinkFault.{SinkFault}
 use Rattle.reverse_debug.specs.declared.way.Way.{Way}
 use Rattle.reverse_debug.specs.declared.way.Way.TheVariants.{Closed, Ended, Broken, Full}
 use Rattle.reverse_debug.specs.declared.reader.Next.TheVariants as read
-use Rattle.reverse_debug.specs.Lines.{without_cr, complete_from, complete_lines, open_line, unless_empty, until, has_last, closes}
-use Rattle.reverse_debug.specs.NextLine.{Ahead, behind, HasNoEnd, given_bytes, Reads}
 use Rattle.reverse_debug.specs.Hearing.{MayEnd, lines_heard, IsTaken, status_by}
-use Rattle.reverse_debug.specs.Talk.{Talk, Hears}
-use Rattle.reverse_debug.specs.Way.{AnswersLines, RepliesTo, Taking, IsAfterLine}
 use Rattle.reverse_debug.proofs.NextLines.{consumes_none, consumes_both}
 use Rattle.reverse_debug.proofs.LineLists.{complete_append, lines_more, open_more, lines_open, all_open, closes_more, has_last_both, until_all, until_both, until_more}
 use Rattle.reverse_debug.proofs.Talks.{tells_none, tells_both, tells_line, tells_so, cut_more}

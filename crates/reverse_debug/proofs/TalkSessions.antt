@@ -1,22 +1,5 @@
 -- What a session says to a line, as a talk says it.
-use Rattle.std.proofs.Common.{◌≡◌, ◌==◌, ℕ, ◌+◌, ◌-◌, ◌<◌, ◌≤◌, nat_lt, nat_le, Bool, true, false, not, if◌then◌else◌, List, length, take, Option, Result, Ok, IfOk, refl, ap, subst, arith, sym, ◌∙◌}
-use Rattle.std.specs.Prelude.{slice_index}
-use Rattle.std.specs.Str.Lines.{strip_carriage_return}
-use Rattle.std.proofs.lemmas.List.{length-take, take_all}
-use Rattle.std.proofs.lemmas.Bool.Decides.{nat_tests}
-use Rattle.trace_text.specs.Sent.{Sends}
-use Rattle.trace_text.specs.declared.writer.SinkFault.{SinkFault}
-use Rattle.outer_lane.specs.Setting.{Setting}
-use Rattle.rp_machine.specs.State.{State}
-use Rattle.snap_ring.specs.Ring.{spacing_of}
-use Rattle.reverse_debug.specs.Command.{Command, is_quit, command_of}
-use Rattle.reverse_debug.specs.Command.Command.{Quit, Bad}
-use Rattle.reverse_debug.specs.Reply.{move_cost, command_cost, answer, heard, cost}
-use Rattle.reverse_debug.specs.Session.{Standing, StandsFor, first_of}
-use Rattle.reverse_debug.specs.Debugger.{talk_of, talk_with}
-use Rattle.reverse_debug.specs.Lines.{without_cr}
-use Rattle.reverse_debug.specs.NextLine.{given_bytes}
-use Rattle.reverse_debug.specs.Way.{Replies, RepliesTo}
+use Rattle.reverse_debug.proofs.Shared.{Bad, Bool, Command, IfOk, List, Ok, Option, Quit, Replies, RepliesTo, Result, Sends, Setting, SinkFault, Standing, StandsFor, State, answer, ap, arith, command_cost, command_of, cost, false, first_of, given_bytes, heard, if◌then◌else◌, is_quit, length, length-take, move_cost, nat_le, nat_lt, nat_tests, not, refl, slice_index, spacing_of, strip_carriage_return, subst, sym, take, take_all, talk_of, talk_with, true, without_cr, ℕ, ◌+◌, ◌-◌, ◌<◌, ◌==◌, ◌∙◌, ◌≡◌, ◌≤◌}
 use Rattle.reverse_debug.proofs.Moves.{quits_exactly}
 use Rattle.reverse_debug.proofs.Talks.{nothing_sent}
 

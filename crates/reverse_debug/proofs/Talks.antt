@@ -1,12 +1,6 @@
 -- Talks: lines one after another, and what was sent of their replies.
-use Rattle.std.proofs.Common.{◌≡◌, ℕ, ◌+◌, Bool, true, false, if◌then◌else◌, List, [], ◌∷◌, ◌++◌, Option, Some, None, Result, Ok, Err, OnOk, refl, sym, ap, ◌∙◌, subst, arith, append_assoc}
+use Rattle.reverse_debug.proofs.Shared.{AnswersLines, Bool, Err, List, None, Ok, OnOk, Option, Replies, RepliesTo, Result, Sends, SinkFault, Some, Talk, [], ap, append_assoc, arith, cost_from, cycle_after, false, if◌then◌else◌, refl, sends_part, sends_then, subst, sym, text_from, true, until, ℕ, ◌++◌, ◌+◌, ◌∙◌, ◌∷◌, ◌≡◌}
 use Rattle.std.proofs.lemmas.List.{append-nil}
-use Rattle.trace_text.specs.Sent.{Sends}
-use Rattle.trace_text.proofs.Sending.{sends_then, sends_part}
-use Rattle.trace_text.specs.declared.writer.SinkFault.{SinkFault}
-use Rattle.reverse_debug.specs.Lines.{until}
-use Rattle.reverse_debug.specs.Talk.{Talk, text_from, cycle_after, cost_from}
-use Rattle.reverse_debug.specs.Way.{AnswersLines, Replies, RepliesTo}
 use Rattle.reverse_debug.proofs.LineLists.{until_front}
 
 -- ---- lines behind lines

@@ -1,15 +1,6 @@
 -- The times of what is watched, on a stretch of a run.
-use Rattle.std.proofs.Common.{◌≡◌, ℕ, zero, suc, ◌+◌, ◌-◌, ◌<◌, ◌≤◌, Bool, true, false, Option, Some, None, refl, sym, ap, subst, arith, ◌∙◌}
-use Rattle.rp_base.specs.declared.Why.{Why}
-use Rattle.outer_lane.specs.Setting.{Setting}
-use Rattle.rp_machine.specs.State.{State}
-use Rattle.rp_machine.specs.Cycle.{stop, next}
-use Rattle.rp_machine.specs.Run.{states}
-use Rattle.rp_machine.proofs.Runs.{states_here, states_on}
+use Rattle.reverse_debug.proofs.Shared.{Advances, Bool, None, Option, Path, Setting, Some, State, Tally, Why, ap, arith, false, happens, happens_by, last_cycle, next, refl, seen, states, states_here, states_on, stop, subst, suc, sym, true, zero, ℕ, ◌+◌, ◌-◌, ◌<◌, ◌∙◌, ◌≡◌, ◌≤◌}
 use Rattle.reverse_debug.specs.Command.{Watched}
-use Rattle.reverse_debug.specs.Reply.{seen, last_cycle, happens, happens_by}
-use Rattle.reverse_debug.specs.Advance.{Path, Advances}
-use Rattle.reverse_debug.specs.declared.search.Tally.{Tally}
 use Rattle.reverse_debug.specs.Search.{noted, tally}
 use Rattle.reverse_debug.proofs.Paths.{path_join, path_last, none_first, way_here, way_join}
 

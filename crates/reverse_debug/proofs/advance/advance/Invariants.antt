@@ -1,6 +1,4 @@
-use Rattle.std.proofs.Common.{◌-◌, None}
-use Rattle.outer_lane.specs.Setting.{setting_of}
-use Rattle.reverse_debug.specs.Advance.{Advances}
+use Rattle.reverse_debug.proofs.Shared.{Advances, None, setting_of, ◌-◌}
 use Rattle.reverse_debug.proofs.advance.advance.Given as goal
 
 abbrev pub invariant-cycles : goal.invariant-cycles

@@ -1,5 +1,4 @@
-use Rattle.std.proofs.Common.{◌+◌, arith}
-use Rattle.reverse_debug.specs.Reading.{sought}
+use Rattle.reverse_debug.proofs.Shared.{arith, sought, ◌+◌}
 use Rattle.reverse_debug.proofs.Ends.{pin_unended, waiting_stays}
 use Rattle.reverse_debug.proofs.Sights.{word_unended, begun_unended}
 use Rattle.reverse_debug.proofs.advance.pass_seeking.Goals as goal

@@ -1,8 +1,4 @@
-use Rattle.std.proofs.Common.{◌+◌, ◌≡◌, ap, sym, arith, ◌∙◌}
-use Rattle.outer_lane.specs.Setting.{setting_of}
-use Rattle.reverse_debug.specs.Advance.{SeesAs}
-use Rattle.reverse_debug.specs.Reading.{sought}
-use Rattle.reverse_debug.specs.Reply.{ends_by}
+use Rattle.reverse_debug.proofs.Shared.{SeesAs, ap, arith, ends_by, setting_of, sought, sym, ◌+◌, ◌∙◌, ◌≡◌}
 use Rattle.reverse_debug.proofs.Paths.{next_at, way_here}
 use Rattle.reverse_debug.proofs.Ends.{Unended, sees_there, unended_none, unended_passed, unended_found, unended_cycle, unended_ended, unended_at_stop, unended_there}
 use Rattle.reverse_debug.proofs.advance.seek.Given.{Over}

@@ -1,6 +1,4 @@
-use Rattle.std.proofs.Common.{◌-◌}
-use Rattle.outer_lane.specs.Setting.{setting_of}
-use Rattle.reverse_debug.specs.Reading.{sought}
+use Rattle.reverse_debug.proofs.Shared.{setting_of, sought, ◌-◌}
 use Rattle.reverse_debug.proofs.Ends.{Unended}
 use Rattle.reverse_debug.proofs.advance.seek.Given as goal
 

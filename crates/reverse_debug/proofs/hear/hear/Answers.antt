@@ -1,7 +1,4 @@
-use Rattle.std.proofs.Common.{refl, ap, Ok, Err, ◌∙◌}
-use Rattle.reverse_debug.specs.NextLine.{behind}
-use Rattle.reverse_debug.specs.Session.{first_of}
-use Rattle.reverse_debug.specs.Debugger.{talk_of}
+use Rattle.reverse_debug.proofs.Shared.{Err, Ok, ap, behind, first_of, refl, talk_of, ◌∙◌}
 use Rattle.reverse_debug.proofs.Takings.{taking_first, after_same}
 use Rattle.reverse_debug.proofs.hear.hear.Goals as goal
 

@@ -1,9 +1,4 @@
-use Rattle.std.proofs.Common.{◌≡◌}
-use Rattle.outer_lane.specs.Setting.{setting_of}
-use Rattle.reverse_debug.specs.NextLine.{behind}
-use Rattle.reverse_debug.specs.Session.{first_of, StandsFor}
-use Rattle.reverse_debug.specs.Debugger.{talk_of}
-use Rattle.reverse_debug.specs.Way.{Taking}
+use Rattle.reverse_debug.proofs.Shared.{StandsFor, Taking, behind, first_of, setting_of, talk_of, ◌≡◌}
 use Rattle.reverse_debug.proofs.hear.hear.Given as goal
 
 -- the lines so far were answered, and the talk goes on

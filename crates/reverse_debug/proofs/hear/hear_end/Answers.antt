@@ -1,5 +1,4 @@
-use Rattle.std.proofs.Common.{sym, ◌∙◌}
-use Rattle.reverse_debug.specs.Session.{first_of}
+use Rattle.reverse_debug.proofs.Shared.{first_of, sym, ◌∙◌}
 use Rattle.reverse_debug.proofs.TalkSessions.{same_open, replied_same}
 use Rattle.reverse_debug.proofs.Takings.{empty_same, end_empty, end_said}
 use Rattle.reverse_debug.proofs.hear.hear_end.Goals as goal

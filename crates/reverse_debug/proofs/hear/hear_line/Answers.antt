@@ -1,7 +1,4 @@
-use Rattle.std.proofs.Common.{ap, ◌∙◌}
-use Rattle.std.specs.Str.Lines.{strip_carriage_return}
-use Rattle.reverse_debug.specs.Session.{first_of}
-use Rattle.reverse_debug.specs.Lines.{without_cr}
+use Rattle.reverse_debug.proofs.Shared.{ap, first_of, strip_carriage_return, without_cr, ◌∙◌}
 use Rattle.reverse_debug.proofs.TalkSessions.{same_line, replied_same}
 use Rattle.reverse_debug.proofs.hear.hear_line.Goals as goal
 

@@ -1,7 +1,4 @@
-use Rattle.std.proofs.Common.{◌+◌, ◌-◌, ◌++◌, ap, arith, ◌∙◌}
-use Rattle.std.specs.List.{range_with_len}
-use Rattle.rp_base.specs.Word.{has_bit}
-use Rattle.trace_text.specs.Line.{level_digit}
+use Rattle.reverse_debug.proofs.Shared.{ap, arith, has_bit, level_digit, range_with_len, ◌++◌, ◌+◌, ◌-◌, ◌∙◌}
 use Rattle.reverse_debug.proofs.Listing.{piece_more, range_on}
 use Rattle.reverse_debug.proofs.reply.push_levels.Goals as goal
 

@@ -1,8 +1,4 @@
-use Rattle.std.proofs.Common.{◌≡◌, ◌+◌, ◌-◌, ◌≤◌, ◌++◌, flat_map}
-use Rattle.std.specs.List.{range_with_len}
-use Rattle.arrayvec.specs.ArrayVec.{array_vec_len}
-use Rattle.rp_base.specs.Word.{has_bit}
-use Rattle.trace_text.specs.Line.{level_digit}
+use Rattle.reverse_debug.proofs.Shared.{array_vec_len, flat_map, has_bit, level_digit, range_with_len, ◌++◌, ◌+◌, ◌-◌, ◌≡◌, ◌≤◌}
 use Rattle.reverse_debug.proofs.reply.push_levels.Given as goal
 
 abbrev pub invariant-loop-pin : goal.invariant-loop-pin

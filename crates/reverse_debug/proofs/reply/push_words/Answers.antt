@@ -1,7 +1,4 @@
-use Rattle.std.proofs.Common.{◌+◌, ◌-◌, ◌++◌, ap, arith, ◌∙◌}
-use Rattle.trace_text.specs.Line.{spaced_word}
-use Rattle.reverse_debug.specs.Command.{addresses}
-use Rattle.reverse_debug.specs.Reply.{word_at}
+use Rattle.reverse_debug.proofs.Shared.{addresses, ap, arith, spaced_word, word_at, ◌++◌, ◌+◌, ◌-◌, ◌∙◌}
 use Rattle.reverse_debug.proofs.Reading.{addresses_on}
 use Rattle.reverse_debug.proofs.Listing.{piece_more}
 use Rattle.reverse_debug.proofs.reply.push_words.Goals as goal

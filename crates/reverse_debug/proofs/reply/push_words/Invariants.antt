@@ -1,8 +1,4 @@
-use Rattle.std.proofs.Common.{◌≡◌, ◌+◌, ◌*◌, ◌≤◌, ◌++◌, flat_map}
-use Rattle.arrayvec.specs.ArrayVec.{array_vec_len}
-use Rattle.trace_text.specs.Line.{spaced_word}
-use Rattle.reverse_debug.specs.Command.{addresses}
-use Rattle.reverse_debug.specs.Reply.{word_at}
+use Rattle.reverse_debug.proofs.Shared.{addresses, array_vec_len, flat_map, spaced_word, word_at, ◌*◌, ◌++◌, ◌+◌, ◌≡◌, ◌≤◌}
 use Rattle.reverse_debug.proofs.reply.push_words.Given as goal
 
 abbrev pub invariant-words : goal.invariant-words

@@ -1,6 +1,4 @@
-use Rattle.outer_lane.specs.Setting.{setting_of}
-use Rattle.reverse_debug.specs.Reading.{sought}
-use Rattle.reverse_debug.specs.Session.{first_in}
+use Rattle.reverse_debug.proofs.Shared.{first_in, setting_of, sought}
 use Rattle.reverse_debug.proofs.Stretches.{Searching}
 use Rattle.reverse_debug.proofs.search.nth_before.Given as goal
 

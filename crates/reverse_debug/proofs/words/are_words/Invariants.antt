@@ -1,7 +1,4 @@
-use Rattle.std.proofs.Common.{◌≡◌, ◌+◌, ◌*◌, ◌<◌, ◌≤◌}
-use Rattle.std.specs.List.{list_all}
-use Rattle.rp_base.specs.Map.{place_of}
-use Rattle.reverse_debug.specs.Command.{is_ram, addresses}
+use Rattle.reverse_debug.proofs.Shared.{addresses, is_ram, list_all, place_of, ◌*◌, ◌+◌, ◌<◌, ◌≡◌, ◌≤◌}
 use Rattle.reverse_debug.proofs.words.are_words.Given as goal
 
 abbrev pub invariant-words : goal.invariant-words

@@ -1,5 +1,4 @@
-use Rattle.std.proofs.Common.{◌<◌, ◌≤◌, ap, arith}
-use Rattle.reverse_debug.specs.NextLine.{Ahead}
+use Rattle.reverse_debug.proofs.Shared.{Ahead, ap, arith, ◌<◌, ◌≤◌}
 use Rattle.reverse_debug.proofs.NextLines.{read_first, passed_first, read_more, passed_more, read_last, read_failed, read_full}
 use Rattle.reverse_debug.proofs.reader.LineReader.next.Goals as goal
 

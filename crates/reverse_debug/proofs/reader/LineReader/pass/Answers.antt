@@ -1,6 +1,4 @@
-use Rattle.std.proofs.Common.{◌++◌, ◌∷◌, ◌+◌, drop, take, sym, ap, subst, ◌∙◌}
-use Rattle.std.proofs.lemmas.List.{drop-drop, take_rest}
-use Rattle.reverse_debug.specs.NextLine.{Ahead, HasNoEnd, given_bytes}
+use Rattle.reverse_debug.proofs.Shared.{Ahead, HasNoEnd, ap, drop, drop-drop, given_bytes, subst, sym, take, take_rest, ◌++◌, ◌+◌, ◌∙◌, ◌∷◌}
 use Rattle.reverse_debug.proofs.NextLines.{first_end, no_end, drop_taken}
 use Rattle.reverse_debug.proofs.reader.LineReader.pass.Goals as goal
 

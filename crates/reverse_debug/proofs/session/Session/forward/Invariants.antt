@@ -1,6 +1,4 @@
-use Rattle.std.proofs.Common.{◌-◌, None}
-use Rattle.outer_lane.specs.Setting.{setting_of}
-use Rattle.reverse_debug.specs.Session.{GoesOn}
+use Rattle.reverse_debug.proofs.Shared.{GoesOn, None, setting_of, ◌-◌}
 use Rattle.reverse_debug.proofs.session.Session.forward.Given as goal
 
 abbrev pub invariant-stretches : goal.invariant-stretches

@@ -1,5 +1,4 @@
-use Rattle.std.proofs.Common.{◌≤◌, ◌+◌, max, ap, arith, ◌∙◌}
-use Rattle.reverse_debug.specs.Session.{next_place}
+use Rattle.reverse_debug.proofs.Shared.{ap, arith, max, next_place, ◌+◌, ◌∙◌, ◌≤◌}
 use Rattle.reverse_debug.proofs.Sessions.{low_number, part_low, part_stretched}
 use Rattle.reverse_debug.proofs.session.Session.seek.Goals as goal
 

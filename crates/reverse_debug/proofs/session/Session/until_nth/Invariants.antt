@@ -1,7 +1,4 @@
-use Rattle.std.proofs.Common.{◌-◌}
-use Rattle.outer_lane.specs.Setting.{setting_of}
-use Rattle.reverse_debug.specs.Reading.{sought}
-use Rattle.reverse_debug.specs.Session.{Seeks}
+use Rattle.reverse_debug.proofs.Shared.{Seeks, setting_of, sought, ◌-◌}
 use Rattle.reverse_debug.proofs.session.Session.until_nth.Given as goal
 
 abbrev pub invariant-cycles : goal.invariant-cycles
