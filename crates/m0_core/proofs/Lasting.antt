@@ -13,7 +13,7 @@ use Rattle.m0_nvic.specs.State.{State as Exceptions}
 use Rattle.m0_nvic.specs.Numbers.{members}
 use Rattle.m0_nvic.specs.Priority.{nearer, least, least_of, best_of, rank_or_none, active_priority, comes_before, wakes_of}
 use Rattle.m0_nvic.specs.Cycle.{with_timer}
-use Rattle.m0_nvic.specs.Quiet.{after_all, counted_down, timer_down}
+use Rattle.m0_nvic.specs.Quiet.{after_all, timer_down}
 use Rattle.m0_nvic.specs.Quiet as nvic
 use Rattle.lane_look.specs.declared.lane.Ask.{Ask}
 use Rattle.lane_look.specs.declared.lane.Ask.TheVariants.{Lines}

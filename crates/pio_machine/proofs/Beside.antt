@@ -1,9 +1,6 @@
 -- The operation that stands beside a word of the instruction memory.
-use Rattle.std.proofs.Common.{◌≡◌, ℕ, ◌<◌, List, map, length, sym}
+use Rattle.pio_machine.proofs.Shared.{List, PioOp, get_or-map, length, map, map-set, operation_of, sym, ℕ, ◌<◌, ◌≡◌}
 use Rattle.std.specs.Prelude.{slice_index, slice_index_or, slice_set}
-use Rattle.std.proofs.lemmas.List.{get_or-map, map-set}
-use Rattle.pio_words.specs.declared.op.PioOp.{PioOp}
-use Rattle.pio_words.specs.Operation.{operation_of}
 
 pub operation_at : (operations : List PioOp) (words : List ℕ) (i : ℕ) (d : PioOp) → operations ≡ map operation_of words
     → i < length words

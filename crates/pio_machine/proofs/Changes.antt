@@ -1,30 +1,10 @@
 -- What holds of the small changes of a machine holds of its operations.
-use Rattle.std.proofs.Common.{◌≡◌, ℕ, Bool, true, false, ◌&&◌, nat_lt, if◌then◌else◌, List, [], ◌∷◌, Option, Some, None, refl}
-use Rattle.std.proofs.lemmas.Bool.{cond_both}
+use Rattle.pio_machine.proofs.Shared.{Bool, Completed, Ending, Executes, InSource, Jumped, List, Machine1, MovDestination, None, Option, OutDestination, Progress, Seen, SetDestination, Some, Stalled, Waiting, [], after_irq, after_jmp, after_set, autopull, completed, cond_both, ended, false, if◌then◌else◌, is_pull_void, is_rx_full, is_spent, kept_in, loaded, loaded_from, nat_lt, out_done, out_stalls, progress_of, pulled_from, push_threshold, pushed, refilled, refl, shifted_in, shifted_once, shifted_out, stalled, starved, stepped, stepped_past, true, try_in, try_out, try_pull, try_push, try_push_now, waits_for_clear, with_isr_cleared, with_moved, with_out, with_raised, with_rx_stall, with_shifted, ℕ, ◌&&◌, ◌∷◌, ◌≡◌}
 use Rattle.pio_words.specs.declared.op.JmpCondition.{JmpCondition}
 use Rattle.pio_words.specs.declared.op.JmpCondition.TheVariants as jump
-use Rattle.pio_words.specs.declared.op.InSource.{InSource}
-use Rattle.pio_words.specs.declared.op.OutDestination.{OutDestination}
 use Rattle.pio_words.specs.declared.op.OutDestination.TheVariants as out
-use Rattle.pio_words.specs.declared.op.SetDestination.{SetDestination}
 use Rattle.pio_words.specs.declared.op.SetDestination.TheVariants as set
-use Rattle.pio_words.specs.declared.op.MovDestination.{MovDestination}
 use Rattle.pio_words.specs.declared.op.MovDestination.TheVariants as moved
-use Rattle.pio_machine.specs.declared.machine.Machine1.{Machine1}
-use Rattle.pio_machine.specs.declared.machine.Seen.{Seen}
-use Rattle.pio_machine.specs.declared.machine.Waiting.{Waiting}
-use Rattle.pio_machine.specs.declared.machine.Progress.{Progress}
-use Rattle.pio_machine.specs.Ending.{Ending}
-use Rattle.pio_machine.specs.Ending.Ending.{Stalled, Completed, Jumped, Executes}
-use Rattle.pio_machine.specs.Fields.{is_rx_full, autopull, push_threshold}
-use Rattle.pio_machine.specs.Flags.{waits_for_clear, after_irq}
-use Rattle.pio_machine.specs.Progress.{kept_in, with_shifted, with_raised, progress_of}
-use Rattle.pio_machine.specs.Jump.{after_jmp}
-use Rattle.pio_machine.specs.Input.{shifted_in, shifted_once, try_in}
-use Rattle.pio_machine.specs.Queue.{completed, stalled, loaded_from, loaded, is_spent, refilled, with_rx_stall, is_pull_void, pulled_from, try_pull, pushed, with_isr_cleared, try_push_now, try_push}
-use Rattle.pio_machine.specs.Output.{shifted_out, with_out, out_stalls, starved, out_done, try_out, after_set}
-use Rattle.pio_machine.specs.Move.{with_moved}
-use Rattle.pio_machine.specs.Operation.{stepped_past, stepped, ended}
 
 -- it holds where neither the registers, the divider, the shift registers nor the FIFOs change,
 -- and of two changes where it holds of each

@@ -1,12 +1,5 @@
 -- How often a machine ticks, and that its FIFOs stay within their depths.
-use Rattle.std.proofs.Common.{◌≡◌, ◌∙◌, ap, sym, subst, ℕ, zero, suc, ◌+◌, ◌-◌, ◌*◌, ◌/◌, ◌%◌, ◌^◌, ◌<◌, ◌≤◌, Bool, true, false, ◌&&◌, ◌==◌, nat_lt, if◌then◌else◌, List, [], ◌∷◌, length, Option, Some, None, refl, arith}
-use Rattle.std.proofs.lemmas.Bool.{cond_both, ltb-true, ltb-false}
-use Rattle.std.proofs.lemmas.Nat.{div-mul-add}
-use Rattle.std.proofs.Math.Nat.{add-mul, one-mul, zero-add}
-use Rattle.pio_machine.specs.declared.machine.Machine1.{Machine1}
-use Rattle.pio_machine.specs.declared.machine.Seen.{Seen}
-use Rattle.pio_machine.specs.Fields.{divider, tx_depth, rx_depth}
-use Rattle.pio_machine.specs.Cycle.{ticks, divided, advanced, word_tried, passed, after_word, after_cycle}
+use Rattle.pio_machine.proofs.Shared.{Bool, List, Machine1, None, Option, Seen, Some, [], add-mul, advanced, after_cycle, after_word, ap, arith, cond_both, div-mul-add, divided, divider, false, if◌then◌else◌, length, ltb-false, ltb-true, nat_lt, one-mul, passed, refl, rx_depth, subst, suc, sym, ticks, true, tx_depth, word_tried, zero, zero-add, ℕ, ◌%◌, ◌&&◌, ◌*◌, ◌+◌, ◌-◌, ◌/◌, ◌<◌, ◌==◌, ◌^◌, ◌∙◌, ◌∷◌, ◌≡◌, ◌≤◌}
 use Rattle.pio_machine.specs.Clock.{ticks_over, AMachineTicksByItsDivider, ACycleKeepsTheFifosWithin}
 use Rattle.pio_machine.proofs.Changes.{refill}
 use Rattle.pio_machine.proofs.Goes.{Goes, same_depth, next_goes, stays, holds, load, goes-try}

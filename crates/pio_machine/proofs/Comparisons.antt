@@ -1,6 +1,5 @@
 -- The comparisons of what waits in a machine are true exactly where both are one.
-use Rattle.std.proofs.Common.{refl}
-use Rattle.rp_base.proofs.Exact.{IsExact, numbers, flags, pairs, parts}
+use Rattle.pio_machine.proofs.Shared.{IsExact, flags, numbers, pairs, parts, refl}
 use Rattle.pio_machine.specs.contracts.machine.ProgressPartialEq.TheImpl as progress
 use Rattle.pio_machine.specs.contracts.machine.WaitingPartialEq.TheImpl as waiting
 

@@ -1,32 +1,9 @@
 -- What a machine writes to a pin does not depend on what was written before it.
-use Rattle.std.proofs.Common.{◌≡◌, ◌∙◌, ap, sym, subst, ℕ, zero, suc, ◌-◌, ◌/◌, ◌%◌, ◌^◌, ◌<◌, ◌≤◌, ◌==◌, min, max, Bool, true, false, if◌then◌else◌, Option, Some, None, refl, arith, bit_and, bit_or}
-use Rattle.std.specs.Int.{bit_at, bit_not, rotate_left, w32}
-use Rattle.std.proofs.lemmas.Nat.{or_lt}
-use Rattle.std.proofs.Math.Nat.{pow-le-pow_right, div-le_self, zero-div}
-use Rattle.std.proofs.lemmas.Nat.Bits.{bit_at_and, bit_at_or, bit_at_not, bit_at-lt}
-use Rattle.pio_words.specs.declared.op.PioOp.{PioOp}
-use Rattle.pio_words.specs.declared.op.PioOp.TheVariants.{Wait, Out, Mov, Irq, Set}
-use Rattle.pio_words.specs.declared.op.WaitSource.{WaitSource}
+use Rattle.pio_machine.proofs.Shared.{Bool, Done, Irq, Machine1, Mov, MovDestination, None, Option, Out, OutDestination, PioOp, Seen, Set, SetDestination, Some, Wait, WaitSource, advanced, ap, arith, bit_and, bit_at, bit_at-lt, bit_at_and, bit_at_not, bit_at_or, bit_not, bit_or, cleared_by, div-le_self, false, flag_of, has_side, if◌then◌else◌, is_high, max, min, mov_value, nothing_done, operation_of, or_lt, out_base, out_count, out_pins, out_stalls, out_value, overlaid, pins_from, pow-le-pow_right, progress_of, refl, rotate_left, set_base, set_count, side_base, side_enable, side_pindir, side_pins, side_value, subst, suc, sym, true, w32, with_clear, with_enables, with_levels, with_set, with_side, word_tried, worked, written, written_by_mov, written_by_out, written_by_set, written_by_try, written_by_word, written_in_cycle, zero, zero-div, ℕ, ◌%◌, ◌-◌, ◌/◌, ◌<◌, ◌==◌, ◌^◌, ◌∙◌, ◌≡◌, ◌≤◌}
 use Rattle.pio_words.specs.declared.op.WaitSource.TheVariants as wait
-use Rattle.pio_words.specs.declared.op.OutDestination.{OutDestination}
 use Rattle.pio_words.specs.declared.op.OutDestination.TheVariants as out
-use Rattle.pio_words.specs.declared.op.SetDestination.{SetDestination}
 use Rattle.pio_words.specs.declared.op.SetDestination.TheVariants as set
-use Rattle.pio_words.specs.declared.op.MovDestination.{MovDestination}
 use Rattle.pio_words.specs.declared.op.MovDestination.TheVariants as moved
-use Rattle.pio_words.specs.Operation.{operation_of}
-use Rattle.pio_machine.specs.declared.machine.Machine1.{Machine1}
-use Rattle.pio_machine.specs.declared.machine.Seen.{Seen}
-use Rattle.pio_machine.specs.declared.machine.Done.{Done}
-use Rattle.pio_machine.specs.Start.{nothing_done}
-use Rattle.pio_machine.specs.Fields.{side_pindir, side_base, side_enable, out_base, out_count, set_base, set_count}
-use Rattle.pio_machine.specs.Pins.{pins_from, overlaid, with_levels, with_enables}
-use Rattle.pio_machine.specs.Flags.{flag_of, is_high, cleared_by, with_set, with_clear}
-use Rattle.pio_machine.specs.Progress.{progress_of}
-use Rattle.pio_machine.specs.Output.{out_stalls, out_value, out_pins, written_by_out, written_by_set}
-use Rattle.pio_machine.specs.Move.{mov_value, written_by_mov}
-use Rattle.pio_machine.specs.Operation.{written, has_side, side_pins, side_value, with_side}
-use Rattle.pio_machine.specs.Cycle.{worked, written_by_try, word_tried, advanced, written_by_word, written_in_cycle}
 use Rattle.pio_machine.specs.Drives.{decided, Overrides, TheLaterMachineDecides, TheSideSetDecides}
 
 -- what a writer does to a pin, whatever was written before: whether it writes its level and its enable, and which

@@ -1,19 +1,5 @@
 -- What no try of a word changes: the divider and the registers; and how far it changes the FIFOs.
-use Rattle.std.proofs.Common.{◌≡◌, ◌∙◌, ap, ℕ, ◌+◌, ◌≤◌, max, false, nat_le, List, [], ◌∷◌, ◌++◌, length, length-append, refl, arith}
-use Rattle.std.proofs.lemmas.Grind.{common_steps}
-use Rattle.std.proofs.lemmas.Bool.{cond_both}
-use Rattle.std.proofs.lemmas.Bool.Decides.{nat_tests}
-use Rattle.pio_words.specs.declared.op.PioOp.{PioOp}
-use Rattle.pio_words.specs.declared.op.PioOp.TheVariants.{Jmp, In, Out, Push, Pull, Mov, Irq, Set}
-use Rattle.pio_words.specs.Operation.{operation_of}
-use Rattle.pio_machine.specs.declared.machine.Machine1.{Machine1}
-use Rattle.pio_machine.specs.declared.machine.Seen.{Seen}
-use Rattle.pio_machine.specs.Fields.{rx_depth}
-use Rattle.pio_machine.specs.Flags.{flag_of}
-use Rattle.pio_machine.specs.Queue.{refilled}
-use Rattle.pio_machine.specs.Move.{mov_value}
-use Rattle.pio_machine.specs.Operation.{tried, loads_osr}
-use Rattle.pio_machine.specs.Cycle.{worked, after_try}
+use Rattle.pio_machine.proofs.Shared.{In, Irq, Jmp, List, Machine1, Mov, Out, PioOp, Pull, Push, Seen, Set, [], after_try, ap, arith, common_steps, cond_both, false, flag_of, length, length-append, loads_osr, max, mov_value, nat_le, nat_tests, operation_of, refilled, refl, rx_depth, tried, worked, ℕ, ◌++◌, ◌+◌, ◌∙◌, ◌∷◌, ◌≡◌, ◌≤◌}
 use Rattle.pio_machine.proofs.Changes.{Holds, OfIsr, OfOsr, OfLoad, OfPush, refill}
 use Rattle.pio_machine.proofs.Changes as change
 

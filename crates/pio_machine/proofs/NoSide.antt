@@ -1,14 +1,6 @@
 -- A side-set of no pins writes nothing.
-use Rattle.std.proofs.Common.{◌≡◌, ◌∙◌, ap, ℕ, ◌^◌, ◌<◌, refl, arith, bit_and, bit_or}
-use Rattle.std.specs.Int.{bit_not, w32}
-use Rattle.std.proofs.lemmas.Nat.{and_mask}
+use Rattle.pio_machine.proofs.Shared.{Done, Machine1, and_mask, ap, arith, bit_and, bit_not, bit_or, either-way, has_side, overlaid, pins_from, refl, side_base, side_pindir, side_pins, w32, with_side, ℕ, ◌<◌, ◌^◌, ◌∙◌, ◌≡◌}
 use lib.Bits.{and_zero_r, or_zero_r}
-use Rattle.rp_base.proofs.Rows.{either-way}
-use Rattle.pio_machine.specs.declared.machine.Machine1.{Machine1}
-use Rattle.pio_machine.specs.declared.machine.Done.{Done}
-use Rattle.pio_machine.specs.Fields.{side_pindir, side_base}
-use Rattle.pio_machine.specs.Operation.{has_side, side_pins, with_side}
-use Rattle.pio_machine.specs.Pins.{overlaid, pins_from}
 
 none_over : (bits word : ℕ) → word < 2 ^ 32 → overlaid 0 bits word ≡ word
 none_over bits word fits =

@@ -1,24 +1,6 @@
 -- What words that stall do once, they do once.
 use Rattle.std.specs.Int.Bits.{or_zero_l}
-use Rattle.rp_base.specs.Word.{has_bit}
-use Rattle.std.proofs.Common.{◌≡◌, suc, ◌∙◌, ap, sym, subst, ℕ, ◌^◌, Bool, true, false, if◌then◌else◌, List, [], ◌∷◌, ◌++◌, length, map, replicate, min, refl, Option, Some, None}
-use Rattle.pio_words.specs.declared.op.InSource.{InSource}
-use Rattle.pio_words.specs.declared.op.IrqIndex.{IrqIndex}
-use Rattle.pio_words.specs.declared.op.PioOp.{PioOp}
-use Rattle.pio_words.specs.declared.op.PioOp.TheVariants.{In, Irq}
-use Rattle.pio_machine.specs.declared.machine.Machine1.{Machine1}
-use Rattle.pio_machine.specs.declared.machine.Seen.{Seen}
-use Rattle.pio_machine.specs.declared.machine.Waiting.{Waiting}
-use Rattle.pio_machine.specs.declared.machine.Progress.{Progress}
-use Rattle.pio_machine.specs.Ending.Ending.{Stalled, Completed}
-use Rattle.pio_machine.specs.Fields.{is_rx_full}
-use Rattle.pio_machine.specs.Queue.{Try, completed, stalled, pushed, with_rx_stall, refilled}
-use Rattle.pio_machine.specs.Flags.{flag_of, with_set, waits_for_clear}
-use Rattle.pio_machine.specs.Start.{nothing_done}
-use Rattle.pio_machine.specs.Input.{in_value, shifted_in, shifted_once, try_in}
-use Rattle.pio_machine.specs.Operation.{tried}
-use Rattle.pio_machine.specs.Progress.{untried, progress_in, progress_of, kept_in, with_raised, with_shifted}
-use Rattle.pio_machine.specs.Cycle.{after_op}
+use Rattle.pio_machine.proofs.Shared.{Bool, Completed, In, InSource, Irq, IrqIndex, List, Machine1, None, Option, PioOp, Progress, Seen, Some, Stalled, Try, Waiting, [], after_op, ap, completed, false, flag_of, has_bit, if◌then◌else◌, in_value, is_rx_full, kept_in, length, map, min, nothing_done, progress_in, progress_of, pushed, refilled, refl, replicate, shifted_in, shifted_once, stalled, subst, suc, sym, tried, true, try_in, untried, waits_for_clear, with_raised, with_rx_stall, with_set, with_shifted, ℕ, ◌++◌, ◌^◌, ◌∙◌, ◌∷◌, ◌≡◌}
 use Rattle.pio_machine.specs.Once.{Attempt, AreTries, last_of, LeavesTheIsr, once_shifted, once_counted, reaches, IsShiftedOnce, AnInShiftsOnce, LeavesTheMemory, set_by, AnIrqRaisesOnce}
 use Rattle.pio_machine.proofs.Refills.{Ignores, refilled-keeps, ended-completed, ended-stalled}
 

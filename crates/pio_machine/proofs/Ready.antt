@@ -1,11 +1,5 @@
 -- No cycle changes what the registers say.
-use Rattle.std.proofs.Common.{◌≡◌, ◌∙◌, ℕ, refl}
-use Rattle.pio_machine.specs.declared.machine.Machine1.{Machine1}
-use Rattle.pio_machine.specs.declared.machine.Seen.{Seen}
-use Rattle.pio_words.specs.declared.op.PioOp.{PioOp}
-use Rattle.pio_machine.specs.Operation.{tried}
-use Rattle.pio_machine.specs.Cycle.{advanced, worked, after_cycle}
-use Rattle.pio_machine.specs.Ready.{settings_of}
+use Rattle.pio_machine.proofs.Shared.{Machine1, PioOp, Seen, advanced, after_cycle, refl, settings_of, tried, worked, ℕ, ◌∙◌, ◌≡◌}
 use Rattle.pio_machine.proofs.Goes.{Goes, goes-op, goes-worked}
 use Rattle.pio_machine.proofs.Clock.{goes-cycle, advanced-keeps}
 

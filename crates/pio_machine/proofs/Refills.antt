@@ -1,13 +1,5 @@
 -- What autopull and the end of a word leave.
-use Rattle.std.proofs.Common.{◌≡◌, ◌∙◌, ap, ℕ, List, Option, Some, None, refl}
-use Rattle.pio_machine.specs.declared.machine.Machine1.{Machine1}
-use Rattle.pio_machine.specs.declared.machine.Progress.{Progress}
-use Rattle.pio_machine.specs.declared.machine.Waiting.{Waiting}
-use Rattle.pio_machine.specs.Ending.{Ending}
-use Rattle.pio_machine.specs.Ending.Ending.{Stalled, Completed}
-use Rattle.pio_machine.specs.Queue.{refilled}
-use Rattle.pio_machine.specs.Progress.{untried}
-use Rattle.pio_machine.specs.Operation.{next_address, stepped_past, stepped, with_delay, ended}
+use Rattle.pio_machine.proofs.Shared.{Completed, Ending, List, Machine1, None, Option, Progress, Some, Stalled, Waiting, ap, ended, next_address, refilled, refl, stepped, stepped_past, untried, with_delay, ℕ, ◌∙◌, ◌≡◌}
 use Rattle.pio_machine.proofs.Changes.{refill}
 
 -- it changes the OSR, its count and the TX FIFO alone

@@ -1,28 +1,7 @@
 -- What OUTs give, bit after bit, is what was sent, word after word.
-use Rattle.std.proofs.Common.{◌≡◌, ◌∙◌, ap, sym, ℕ, zero, suc, ◌+◌, ◌-◌, ◌*◌, ◌/◌, ◌%◌, ◌^◌, ◌<◌, ◌≤◌, min, Bool, true, false, not, nat_le, if◌then◌else◌, List, [], ◌∷◌, ◌++◌, Option, Some, None, refl, arith, true≢false}
-use Rattle.std.specs.Int.{bit_at}
+use Rattle.pio_machine.proofs.Shared.{Bool, In, Irq, Jmp, List, Machine1, Mov, None, Option, Out, OutDestination, PioOp, Pull, Push, Seen, Set, Some, [], advanced, after_cycle, after_op, after_try, after_word, and_parts, ap, append-nil, append_assoc, arith, autopull, bit_at, completed, cond_both, counted, div-div-eq-div-mul, div-mul-add, false, flag_of, flat_map-append, if◌then◌else◌, is_osr, is_pull_void, is_spent, loaded, loaded_from, loads_osr, min, mod-lt, mod-pow-add, mov_value, mul-div_cancel, nat_le, nat_tests, not, operation_of, out_done, out_right, out_stalls, out_value, passed, pow-add, pow_pos, pull_threshold, pulled_from, refilled, refl, remaining, shifted_out, stalled, starved, sub-zero, suc, sym, taken, ticks, tried, true, true≢false, try_out, try_pull, with_out, word_tried, worked, zero, zero-add, ℕ, ◌%◌, ◌*◌, ◌++◌, ◌+◌, ◌-◌, ◌/◌, ◌<◌, ◌^◌, ◌∙◌, ◌∷◌, ◌≡◌, ◌≤◌}
 use Rattle.std.specs.List.{flat_map}
-use Rattle.std.proofs.lemmas.Bool.{and_parts, cond_both}
-use Rattle.std.proofs.lemmas.Bool.Decides.{nat_tests}
-use Rattle.std.proofs.lemmas.Grind.{flat_map-append}
-use Rattle.std.proofs.lemmas.List.{append_assoc, append-nil}
-use Rattle.std.proofs.lemmas.Nat.{pow-add, pow_pos, mod-pow-add, div-mul-add}
-use Rattle.std.proofs.Math.Nat.{div-div-eq-div-mul, mul-div_cancel, mod-lt, zero-add, sub-zero}
 use Rattle.std.proofs.Math.Pow.{mod-mod-pow}
-use Rattle.pio_words.specs.declared.op.PioOp.{PioOp}
-use Rattle.pio_words.specs.declared.op.PioOp.TheVariants.{Jmp, In, Out, Push, Pull, Mov, Irq, Set}
-use Rattle.pio_words.specs.declared.op.OutDestination.{OutDestination}
-use Rattle.pio_words.specs.Operation.{operation_of}
-use Rattle.pio_machine.specs.declared.machine.Machine1.{Machine1}
-use Rattle.pio_machine.specs.declared.machine.Seen.{Seen}
-use Rattle.pio_machine.specs.Bits.{taken, remaining, counted}
-use Rattle.pio_machine.specs.Fields.{out_right, pull_threshold, autopull}
-use Rattle.pio_machine.specs.Flags.{flag_of}
-use Rattle.pio_machine.specs.Queue.{completed, stalled, loaded_from, loaded, is_spent, refilled, is_pull_void, pulled_from, try_pull}
-use Rattle.pio_machine.specs.Output.{out_value, shifted_out, with_out, out_stalls, starved, out_done, try_out}
-use Rattle.pio_machine.specs.Move.{mov_value}
-use Rattle.pio_machine.specs.Operation.{tried, is_osr, loads_osr}
-use Rattle.pio_machine.specs.Cycle.{worked, after_op, after_try, ticks, advanced, word_tried, passed, after_word, after_cycle}
 use Rattle.pio_machine.specs.Stream.{listed, bit_index, leading, bits_of_word, bits_waiting, bits_of_out, given_by, given_by_word, given_in_cycle, replaces_osr, word_replaces_osr, Feeds, end_of, given_over, sent_over, TheBitsOutAreThoseSent}
 use Rattle.pio_machine.proofs.Changes.{Holds, OfIsr, OfPush}
 use Rattle.pio_machine.proofs.Changes as change

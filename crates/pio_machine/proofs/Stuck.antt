@@ -1,19 +1,6 @@
 -- A machine that stalls on the word at PC, to which nothing happens when it is tried again.
-use Rattle.std.proofs.Common.{◌≡◌, ◌∙◌, ap, sym, refl, ℕ, Bool, true, false, not, ◌&&◌, if◌then◌else◌, List, [], ◌∷◌, None}
-use Rattle.rp_base.specs.Word.{has_bit}
-use Rattle.pio_words.specs.declared.op.InSource.{InSource}
-use Rattle.pio_words.specs.declared.op.IrqIndex.{IrqIndex}
-use Rattle.pio_words.specs.declared.op.OutDestination.{OutDestination}
-use Rattle.pio_words.specs.declared.op.PioOp.TheVariants.{Wait, In, Out, Push, Pull, Irq}
-use Rattle.pio_words.specs.declared.op.WaitSource.{WaitSource}
+use Rattle.pio_machine.proofs.Shared.{Bool, In, InSource, Irq, IrqIndex, List, Machine1, None, Out, OutDestination, Pull, Push, Seen, Wait, WaitSource, [], ap, autopull, false, flag_of, has_bit, if◌then◌else◌, is_autopush_due, is_high, is_met, is_pull_void, is_push_void, is_rx_full, is_spent, not, out_stalls, refilled, refl, sym, true, try_in, try_out, try_pull, try_push, written_by_out, ℕ, ◌&&◌, ◌∙◌, ◌∷◌, ◌≡◌}
 use Rattle.pio_words.specs.declared.op.WaitSource.TheVariants as source
-use Rattle.pio_machine.specs.declared.machine.Machine1.{Machine1}
-use Rattle.pio_machine.specs.declared.machine.Seen.{Seen}
-use Rattle.pio_machine.specs.Fields.{autopull, is_rx_full}
-use Rattle.pio_machine.specs.Flags.{flag_of, is_high, is_met}
-use Rattle.pio_machine.specs.Input.{is_autopush_due, try_in}
-use Rattle.pio_machine.specs.Output.{out_stalls, try_out, written_by_out}
-use Rattle.pio_machine.specs.Queue.{is_spent, is_pull_void, is_push_void, refilled, try_pull, try_push}
 use Rattle.pio_machine.specs.Quiet.{loads, IsStuck}
 
 -- ---- autopull

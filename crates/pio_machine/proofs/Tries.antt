@@ -1,32 +1,7 @@
 -- A word from its first try to its last.
-use Rattle.std.proofs.Common.{◌≡◌, ◌∙◌, ap, sym, ℕ, ◌+◌, ◌-◌, ◌*◌, ◌/◌, ◌%◌, ◌^◌, ◌<◌, ◌≤◌, Bool, true, false, ◌&&◌, if◌then◌else◌, nat_lt, List, [], ◌∷◌, Option, Some, None, refl, arith}
-use Rattle.std.proofs.Common.{subst, add_comm}
-use Rattle.std.proofs.lemmas.Bool.{cond_both}
-use Rattle.std.proofs.lemmas.Nat.{pow-add, pow_pos, mod-pow-add, mod-mul-add, div-mul-add}
-use Rattle.std.proofs.Math.Nat.{mod-lt, mul_comm, mul-div-le, lt_of_mul-lt-mul_left}
-use Rattle.pio_words.specs.declared.op.PioOp.{PioOp}
-use Rattle.pio_words.specs.declared.op.PioOp.TheVariants.{Jmp, Wait, In, Out, Push, Pull, Mov, Irq}
-use Rattle.pio_words.specs.declared.op.InSource.{InSource}
-use Rattle.pio_words.specs.declared.op.OutDestination.{OutDestination}
+use Rattle.pio_machine.proofs.Shared.{Bool, Completed, In, InSource, Irq, Jmp, Jumped, List, Machine1, Mov, MovDestination, None, Option, Out, OutDestination, PioOp, Progress, Pull, Push, Seen, Some, Stalled, Try, Wait, Waiting, [], add_comm, ap, arith, completed, cond_both, delay_of, div-mul-add, ended, ending_of_mov, ending_of_out, entered, false, flag_of, if◌then◌else◌, is_pull_void, is_rx_full, is_taken, kept_in, loaded_from, loads_osr, lt_of_mul-lt-mul_left, mod-lt, mod-mul-add, mod-pow-add, mov_value, mul-div-le, mul_comm, nat_lt, out_done, out_stalls, out_value, pow-add, pow_pos, progress_in, progress_of, pulled_from, push_threshold, pushed, refilled, refl, shifted_in, shifted_once, stalled, starved, stepped_past, subst, sym, tried, true, try_in, try_out, try_pull, try_push, try_push_now, untried, waits_for_clear, with_isr_cleared, with_raised, with_rx_stall, with_shifted, word_tried, worked, ℕ, ◌%◌, ◌&&◌, ◌*◌, ◌+◌, ◌-◌, ◌/◌, ◌<◌, ◌^◌, ◌∙◌, ◌∷◌, ◌≡◌, ◌≤◌}
 use Rattle.pio_words.specs.declared.op.OutDestination.TheVariants as out
-use Rattle.pio_words.specs.declared.op.MovDestination.{MovDestination}
 use Rattle.pio_words.specs.declared.op.MovDestination.TheVariants as moved
-use Rattle.pio_machine.specs.declared.machine.Machine1.{Machine1}
-use Rattle.pio_machine.specs.declared.machine.Seen.{Seen}
-use Rattle.pio_machine.specs.declared.machine.Waiting.{Waiting}
-use Rattle.pio_machine.specs.declared.machine.Progress.{Progress}
-use Rattle.pio_machine.specs.Bits.{entered}
-use Rattle.pio_machine.specs.Ending.Ending.{Stalled, Completed, Jumped}
-use Rattle.pio_machine.specs.Fields.{is_rx_full, push_threshold}
-use Rattle.pio_machine.specs.Flags.{flag_of, waits_for_clear}
-use Rattle.pio_machine.specs.Progress.{untried, progress_in, progress_of, kept_in, with_shifted, with_raised}
-use Rattle.pio_machine.specs.Jump.{is_taken}
-use Rattle.pio_machine.specs.Input.{shifted_in, shifted_once, try_in}
-use Rattle.pio_machine.specs.Queue.{Try, completed, stalled, loaded_from, refilled, with_rx_stall, is_pull_void, pulled_from, try_pull, pushed, with_isr_cleared, try_push_now, try_push}
-use Rattle.pio_machine.specs.Output.{out_value, out_stalls, starved, out_done, ending_of_out, try_out}
-use Rattle.pio_machine.specs.Move.{mov_value, ending_of_mov}
-use Rattle.pio_machine.specs.Operation.{tried, loads_osr, delay_of, stepped_past, ended}
-use Rattle.pio_machine.specs.Cycle.{worked, word_tried}
 use Rattle.pio_machine.specs.WordLaws.{IsUntried, AWordBeginsUntried, AWrittenWordComesNext, TheBitsInStandAtTheirEnd, IsKept, AStallKeepsTheRest}
 use Rattle.pio_machine.proofs.Changes.{refill}
 use Rattle.pio_machine.proofs.Refills.{ended-stalled}

@@ -1,22 +1,7 @@
 -- A machine that only waits: what is left of its divider and its delay after so many cycles, and for how long it does.
 use Rattle.std.proofs.Common.{◌≡◌, ◌∙◌, ap, sym, subst, refl, ℕ, zero, suc, ◌+◌, ◌-◌, ◌*◌, ◌/◌, ◌%◌, ◌^◌, ◌<◌, ◌≤◌, Bool, true, false, ◌&&◌, ◌==◌, nat_lt, if◌then◌else◌, Option, Some, None, slice_index, bit_and, arith}
-use Rattle.std.specs.Int.{bit_at, bit_not, w32}
-use Rattle.std.proofs.lemmas.Bool.{ltb-true, ltb-false}
-use Rattle.std.proofs.lemmas.Nat.Bits.{same_from_bits_below}
+use Rattle.pio_machine.proofs.Shared.{Done, Machine1, Seen, Waiting, add-mul, advanced, after_cycle, after_try, after_word, and_le_r, bit_at, bit_not, delay_of, divider, either-way, ended, has_side, ltb-false, ltb-true, nothing_done, operation_of, or_lt, overlaid, same_from_bits_below, side_pindir, ticks, w32, with_autopull, with_side, word_of, word_tried, worked, written, written_by_try, written_by_word, written_in_cycle, zero-div}
 use Rattle.std.proofs.Math.Dec.{eqb-suc-zero}
-use Rattle.std.proofs.Math.Nat.{add-mul, zero-div}
-use Rattle.std.proofs.lemmas.Nat.{and_le_r, or_lt}
-use Rattle.rp_base.proofs.Rows.{either-way}
-use Rattle.pio_words.specs.Operation.{operation_of}
-use Rattle.pio_machine.specs.declared.machine.Machine1.{Machine1}
-use Rattle.pio_machine.specs.declared.machine.Seen.{Seen}
-use Rattle.pio_machine.specs.declared.machine.Done.{Done}
-use Rattle.pio_machine.specs.declared.machine.Waiting.{Waiting}
-use Rattle.pio_machine.specs.Start.{nothing_done}
-use Rattle.pio_machine.specs.Fields.{divider, side_pindir}
-use Rattle.pio_machine.specs.Pins.{overlaid}
-use Rattle.pio_machine.specs.Operation.{written, with_autopull, has_side, with_side, delay_of, ended}
-use Rattle.pio_machine.specs.Cycle.{ticks, advanced, word_of, word_tried, after_word, worked, after_try, after_cycle, written_by_word, written_by_try, written_in_cycle}
 use Rattle.pio_machine.specs.Quiet.{waited_once, waited, LeavesPins, IsQuiet, is_forced, loads, IsStuck}
 use Rattle.pio_machine.proofs.Clock.{at_least, one_more}
 use Rattle.pio_machine.proofs.Drives.{bit_overlaid, writes-side}

@@ -1,22 +1,14 @@
 -- What each part of a cycle leaves of the copies that lanes keep: they agree as before.
 use Rattle.std.proofs.Common.{◌≡◌, ◌<◌, ◌^◌, ℕ, Bool, List, Option, refl, ◌∙◌}
-use Rattle.rp_base.specs.Word.{has_bit}
+use Rattle.rp_machine.proofs.Shared.{Block, SameCopies, SeenOutputs, Setting, Turn, access_leaves, device_leaves, has_bit, offers_of, outer_accessed, pads_reset, pins_of}
 use Rattle.rp_base.specs.ResetBits.{DMA, IO_BANK0, PADS_BANK0, PIO0, PIO1}
-use Rattle.rp_base.specs.declared.map.Block.{Block}
-use Rattle.lane_look.specs.declared.lane.Turn.{Turn}
 use Rattle.m0_core.specs.State.{State as Core}
 use Rattle.m0_core.specs.declared.doing.Doing.{Doing as CoreDoing}
 use Rattle.m0_core.specs.Cycle as core_steps
-use Rattle.outer_lane.specs.Setting.{Setting}
-use Rattle.outer_lane.specs.declared.world.SeenOutputs.{SeenOutputs}
 use Rattle.outer_lane.specs.State.{State as OuterState, outer_reset}
 use Rattle.outer_lane.specs.Step as outer_steps
-use Rattle.outer_lane.specs.Words.{outer_accessed}
 use Rattle.outer_lane.specs.Device.{device_accessed}
 use Rattle.sio_block.specs.State.{State as SioState}
-use Rattle.sio_block.specs.Launcher.{offers_of}
-use Rattle.outer_lane.proofs.Accesses.{SameCopies, access_leaves, device_leaves, pads_reset}
-use Rattle.rp_machine.specs.Cycle.{pins_of}
 use Rattle.rp_machine.specs.Copies.{Agree}
 use Rattle.rp_machine.proofs.HeldLanes.{outer_next, core_next}
 

@@ -1,14 +1,9 @@
 -- What the lanes keep of SIO is what it holds.
 use Rattle.std.proofs.Common.{◌==◌, Bool, true, false, if◌then◌else◌, List, [], ◌∷◌, refl}
-use Rattle.rp_base.specs.Resettable.{with_block}
+use Rattle.rp_machine.proofs.Shared.{KnowsSio, Setting, SioIsKnown, State, after_deeds, block_loaded, ended, first_state, next, next_by, start, with_block, with_load, with_loads, with_sio}
 use Rattle.lane_look.specs.Device.{DeviceMeaning}
 use Rattle.uf2_image.specs.declared.parts.Image.{Image}
-use Rattle.outer_lane.specs.Setting.{Setting}
 use Rattle.rp_machine.specs.declared.load.PioLoad.{PioLoad}
-use Rattle.rp_machine.specs.State.{State, first_state}
-use Rattle.rp_machine.specs.Boot.{block_loaded, with_load, with_loads, start}
-use Rattle.rp_machine.specs.Cycle.{with_sio, ended, after_deeds, next_by, next}
-use Rattle.rp_machine.specs.Laws.{KnowsSio, SioIsKnown}
 
 either : (c : Bool) (s t : State) → KnowsSio s → KnowsSio t → KnowsSio (if c then s else t)
 either true s t a b = a

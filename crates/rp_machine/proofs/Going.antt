@@ -1,6 +1,5 @@
 -- Core 1, the DMA engine and both PIO blocks, which are quiet.
-use Rattle.std.proofs.Common.{◌≡◌, ◌∙◌, ℕ, ◌≤◌, true, refl, sym, ap, subst, arith}
-use Rattle.rp_base.specs.Resettable.{with_block}
+use Rattle.rp_machine.proofs.Shared.{AreBlocksQuiet, IsCore1Quiet, State, ap, arith, block_none, blocks_after, core1_after, refl, subst, sym, true, with_block, with_blocks, ℕ, ◌∙◌, ◌≡◌, ◌≤◌}
 use Rattle.dma_engine.specs.State.{State as Engine}
 use Rattle.dma_engine.specs.Quiet as dma
 use Rattle.dma_engine.proofs.Lasting.{engine_none, none_quiet}
@@ -9,14 +8,11 @@ use Rattle.pio_block.specs.State.{State as Pio}
 use Rattle.pio_block.specs.declared.inputs.Inputs.{Inputs}
 use Rattle.pio_block.specs.Cycle.{inputs_of as pins_of}
 use Rattle.pio_block.specs.Quiet as pio
-use Rattle.pio_block.proofs.Between.{block_none}
 use Rattle.pio_block.proofs.Between as pio_proofs
-use Rattle.rp_machine.specs.State.{State}
 use Rattle.m0_core.specs.State.{State as Core}
 use Rattle.m0_core.specs.Quiet as core
 use Rattle.m0_core.proofs.Lasting.{quiet_asleep, stays_asleep}
 use Rattle.rp_machine.specs.Answers.{lines_of, pacing_of, inputs_of}
-use Rattle.rp_machine.specs.Alone.{AreBlocksQuiet, blocks_after, with_blocks, IsCore1Quiet, core1_after}
 
 pub none_after : (s : State) → blocks_after 0 s ≡ record { dma = s.dma.block; pio0 = s.pio0.block; pio1 = s.pio1.block }
 none_after s = rw (engine_none s.dma.block, block_none s.pio0.block, block_none s.pio1.block) refl

@@ -1,18 +1,12 @@
 -- The peripherals keep their bits of RESETS in a cycle, and core 1 what its launcher has.
 use Rattle.std.proofs.Common.{◌≡◌, ◌+◌, ◌==◌, nat_lt, ℕ, Bool, true, false, if◌then◌else◌, Option, Some, None, List, refl}
-use Rattle.rp_base.specs.declared.Request.{Request}
-use Rattle.rp_base.specs.declared.op.Op.{Op}
-use Rattle.lane_look.specs.declared.lane.Turn.{Turn}
-use Rattle.outer_lane.specs.Setting.{Setting}
-use Rattle.outer_lane.specs.declared.world.SeenOutputs.{SeenOutputs}
+use Rattle.rp_machine.proofs.Shared.{Doing, Op, Request, SameCopies, SeenOutputs, Setting, Turn}
 use Rattle.outer_lane.specs.State.{State as OuterState}
 use Rattle.outer_lane.specs.Step as outer
-use Rattle.outer_lane.proofs.Accesses.{SameCopies}
 use Rattle.m0_core.specs.declared.doing.Act.{Act}
 use Rattle.m0_core.specs.declared.doing.Act.TheVariants as act
 use Rattle.m0_core.specs.declared.doing.Work.{Work}
 use Rattle.m0_core.specs.declared.doing.Work.TheVariants as works
-use Rattle.m0_core.specs.declared.doing.Doing.{Doing}
 use Rattle.m0_core.specs.State.{State as Core}
 use Rattle.m0_nvic.specs.Changes.{entered}
 use Rattle.m0_core.specs.Entry.{entry_ended, taken_first}

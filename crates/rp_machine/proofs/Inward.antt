@@ -1,28 +1,14 @@
 -- Core 0 goes on alone beside lanes that lie behind: each cycle is the definition's.
-use Rattle.std.proofs.lemmas.Bool.Decides.{eqb_tells}
+use Rattle.rp_machine.proofs.Shared.{AgreeWithSio, AreBlocksQuiet, Ask, Asking, Block, Blocks, Core0GoesOnAlone, Deed, Doing, GoesAlone, GoesOn, GoesOnward, IsCore0Alone, IsCore1Quiet, IsQuiet, Mark, Master, Op, Outer, Question, Ready, Request, Resets, SeenOutputs, Setting, Spot, State, StaysInward, TellsSame, Turn, Want, Why, a_quiet_block_shows_the_same, accessed_at, after_deed, alone_next, answered, asked_of, begun, blocks_after, cause_in, cause_of, core0_stepped, core0_want, core1_after, core1_launched, deed_of, ended, eqb_tells, events, found_by, goes_inward, granted_alone, has_hold, inward_after, inward_cycle, inward_deed, inward_next, inward_turn, inward_wantless, is_done_at, is_inward, is_lasting, is_lasting_read, is_none, is_open, is_peripheral, is_theirs, lasts_at, mark, next, nobody-after, offers_of, onward_after, opens, outer_after, outer_allowed, own_word, pins_of, place_of, read_at, read_there, seen_in, states, stop, stored_at, turn_at, turn_of, unwrap_or, wanted, wanted_by, with_beside, with_blocks, with_grant, with_sio, with_store, word_for}
 use Rattle.std.proofs.Common.{◌≡◌, ◌+◌, ◌*◌, ◌%◌, ◌^◌, ◌<◌, ◌≤◌, zero, suc, inl, inr, arith, ℕ, true, false, Bool, if◌then◌else◌, List, [], ◌∷◌, Option, Some, None, ◌==◌, ◌&&◌, bit_or, refl, sym, ap, ◌∙◌}
-use Rattle.std.specs.Prelude.{is_none, unwrap_or}
-use Rattle.rp_base.specs.declared.Master.{Master}
 use Rattle.rp_base.specs.declared.Master.TheVariants as master
-use Rattle.rp_base.specs.declared.Request.{Request}
-use Rattle.rp_base.specs.declared.Why.{Why}
 use Rattle.rp_base.specs.declared.Why.TheVariants as why
-use Rattle.rp_base.specs.declared.map.Block.{Block}
-use Rattle.rp_base.specs.declared.map.Spot.{Spot}
 use Rattle.rp_base.specs.declared.map.Spot.TheVariants as spot
-use Rattle.rp_base.specs.Map.{place_of}
-use Rattle.lane_look.specs.declared.lane.Ask.{Ask}
 use Rattle.lane_look.specs.declared.lane.Ask.TheVariants as ask
-use Rattle.lane_look.specs.declared.marks.Mark.{Mark}
-use Rattle.lane_look.specs.declared.lane.Want.{Want}
 use Rattle.lane_look.specs.declared.lane.Want.TheVariants as want
-use Rattle.lane_look.specs.declared.lane.Turn.{Turn}
 use Rattle.lane_look.specs.declared.lane.Turn.TheVariants as turn
-use Rattle.lane_look.specs.Asking.{Asking, answered}
-use Rattle.lane_look.specs.Asking.Asking.{Ready, Question}
 use Rattle.m0_core.specs.State.{State as Core}
 use Rattle.m0_core.specs.Quiet.{rested}
-use Rattle.m0_core.specs.declared.doing.Doing.{Doing}
 use Rattle.m0_core.specs.Fetch as core_asks
 use Rattle.m0_core.specs.Fetch.{asks_second, ends_with}
 use Rattle.m0_core.specs.Begins.{begins}
@@ -30,42 +16,23 @@ use Rattle.m0_core.specs.Kinds.{is_signal}
 use Rattle.m0_core.specs.declared.doing.Act.TheVariants.{Inner}
 use Rattle.m0_core.specs.declared.doing.Work.TheVariants.{Instruction}
 use Rattle.m0_core.proofs.Carrying.{begun_short}
-use Rattle.rp_base.specs.declared.op.Op.{Op}
 use Rattle.m0_core.specs.Cycle as core
-use Rattle.bus_fabric.specs.State.{has_hold}
-use Rattle.bus_fabric.proofs.Alone.{nobody-after}
 use Rattle.dma_engine.specs.Words as dma_words
 use Rattle.pio_block.specs.Words as pio_words
 use Rattle.pio_block.specs.Cycle.{inputs_of as pins_in}
-use Rattle.pio_block.proofs.Between.{a_quiet_block_shows_the_same}
 use Rattle.sio_block.specs.State.{State as SioState}
-use Rattle.sio_block.specs.Launcher.{offers_of}
 use Rattle.io_bank.specs.State.{State as Bank}
 use Rattle.io_bank.specs.Levels.{inputs_of as inputs_of_pads}
-use Rattle.outer_lane.specs.Setting.{Setting}
 use Rattle.outer_lane.specs.State.{State as OuterState}
 use Rattle.outer_lane.specs.Lines.{outer_lines, outer_inputs, outer_pacing}
-use Rattle.outer_lane.specs.declared.world.SeenOutputs.{SeenOutputs}
 use Rattle.outer_lane.specs.Step as outer
 use Rattle.outer_lane.specs.Step.{marked}
-use Rattle.outer_lane.specs.Quiet.{IsQuiet, seen_in, outer_after, is_lasting_read}
-use Rattle.outer_lane.specs.Words.{outer_allowed, own_word}
 use Rattle.outer_lane.proofs.BroughtUp.{lasting_stays, lasting_word}
 use Rattle.lane_look.specs.Times.{times}
-use Rattle.rp_machine.specs.State.{State}
-use Rattle.rp_machine.specs.declared.deed.Deed.{Deed}
 use Rattle.rp_machine.specs.declared.deed.Deed.TheVariants as deed
 use Rattle.rp_machine.proofs.Wantless.{both}
 use Rattle.rp_machine.specs.Answers.{answer_of, pair_number, sio_lines, lines_of, block_lines, packed_pair, pacing_of, inputs_of, outs_of}
-use Rattle.rp_machine.specs.Deeds.{word_for, opens, is_open, asked_of, is_done_at, turn_at, turn_of, accessed_at, deed_of, cause_of, stored_at}
 use Rattle.rp_machine.specs.Registers.{Part, part_of, part_word, part_accessed, plain_write}
-use Rattle.rp_machine.specs.Registers.Part.{Resets, Fabric, Dma, Pio0, Pio1, Outer}
-use Rattle.rp_machine.specs.Cycle.{begun, wanted, wanted_by, cause_in, pins_of, with_sio, found_by, ended, after_deed, mark, stop, next}
-use Rattle.rp_machine.specs.Wantless.{core1_launched}
-use Rattle.rp_machine.specs.Alone.{Blocks, AreBlocksQuiet, blocks_after, with_blocks, IsCore1Quiet, core1_after, IsCore0Alone, alone_next, granted_alone, with_grant, with_store}
-use Rattle.rp_machine.specs.Inward.{with_beside, is_theirs, is_peripheral, lasts_at, is_lasting, read_at, read_there, is_inward, core0_want, goes_inward, inward_turn, inward_deed, core0_stepped, inward_wantless, inward_next, TellsSame, AgreeWithSio, GoesAlone, GoesOn, inward_cycle, inward_after, StaysInward, onward_after, GoesOnward, Core0GoesOnAlone}
-use Rattle.rp_machine.specs.Events.{events}
-use Rattle.rp_machine.specs.Run.{states}
 use Rattle.rp_machine.proofs.Quietly.{RunsThrough, states_through, fewer, no_events, seen_later, seen_number}
 use Rattle.rp_machine.proofs.Opening.{opens_outer}
 use Rattle.rp_machine.proofs.OneCore.{next_alone, cause_alone}

@@ -1,12 +1,6 @@
 -- Runs one after another.
 use Rattle.std.proofs.Common.{◌≡◌, ℕ, zero, suc, ◌+◌, [], ◌++◌, Option, Some, None, refl, sym, ap, arith, ◌∙◌, zero-add, append_assoc}
-use Rattle.rp_base.specs.declared.Why.{Why}
-use Rattle.outer_lane.specs.Setting.{Setting}
-use Rattle.rp_machine.specs.State.{State}
-use Rattle.rp_machine.specs.Cycle.{stop, next}
-use Rattle.rp_machine.specs.Events.{events}
-use Rattle.rp_machine.specs.Run.{states, events_in}
-use Rattle.rp_machine.specs.Laws.{AreOneRun, RunsFollowEachOther}
+use Rattle.rp_machine.proofs.Shared.{AreOneRun, RunsFollowEachOther, Setting, State, Why, events, events_in, next, states, stop}
 use Rattle.rp_machine.proofs.Runs.{states_here, states_on, events_none, events_more}
 
 none_first : (w : Setting) (s : State) → states w s zero ≡ s

@@ -1,28 +1,16 @@
 -- What the deeds of a cycle leave as it was: SRAM, core 0 but for its event register, core 1 while it is awake, the levels of the pads, and each
 -- part for which none of them is.
-use Rattle.std.proofs.lemmas.Bool.Decides.{eqb_tells}
+use Rattle.rp_machine.proofs.Shared.{Deed, Dma, EffectsComeAfterTheSteps, Fabric, Launch, Master, Outer, Pio0, Pio1, Resets, Setting, SramChangesByTheWritesAlone, State, after_deed, after_deeds, after_launcher, after_master, after_masters, after_turn, all_stored, begun, core_alone, deeds_in, ended, eqb_tells, found_by, is_dma, is_for, is_for_outer, is_outer, is_pio0, is_pio1, keeps, launch_of, launched_where, list_any, next, next_by, offers_of, outer_alone, reaches, sio_accessed, slice_index, started_by, stepped, stored, wanted, with_event, with_sio, with_turns, word_after, word_with}
 use Rattle.std.proofs.lemmas.List.{get_or-set_same, get_or-set_other, length-set}
 use Rattle.std.proofs.Common.{inl, inr, ◌≢◌, ◌≡◌, ℕ, ◌<◌, Bool, true, false, ◌||◌, if◌then◌else◌, List, [], ◌∷◌, length, Option, Some, None, refl, sym, ap, arith, ◌∙◌, ◌%◌, ◌^◌, true≢false}
-use Rattle.std.specs.Prelude.{slice_index}
-use Rattle.std.specs.List.{list_any}
-use Rattle.rp_base.specs.declared.Master.{Master}
 use Rattle.rp_base.specs.declared.Master.TheVariants as master
-use Rattle.rp_base.proofs.Rows.{keeps}
 use Rattle.m0_core.specs.State.{State as Core}
 use Rattle.ram_banks.specs.Lanes.{with_lanes}
-use Rattle.sio_block.specs.declared.Launch.{Launch}
 use Rattle.sio_block.specs.State.{State as SioState}
-use Rattle.sio_block.specs.Launcher.{offers_of, launch_of, after_turn}
-use Rattle.outer_lane.specs.Setting.{Setting}
 use Rattle.outer_lane.proofs.Accesses as outer_accesses
-use Rattle.rp_machine.specs.declared.deed.Deed.{Deed}
 use Rattle.rp_machine.specs.declared.deed.Deed.TheVariants as deed
-use Rattle.rp_machine.specs.State.{State}
 use Rattle.rp_machine.specs.Registers.{Part, part_of, with_reset, resets_rows, part_accessed}
-use Rattle.rp_machine.specs.Registers.Part.{Resets, Fabric, Dma, Pio0, Pio1, Outer}
 use Rattle.bus_fabric.specs.Masters.{masters}
-use Rattle.rp_machine.specs.Cycle.{begun, wanted, with_event, with_sio, found_by, sio_accessed, after_deed, started_by, after_launcher, launched_where, after_master, after_masters, stored, all_stored, ended, after_deeds, with_turns, stepped, next_by, next}
-use Rattle.rp_machine.specs.Laws.{deeds_in, word_with, word_after, SramChangesByTheWritesAlone, core_alone, outer_alone, reaches, is_for, is_dma, is_pio0, is_pio1, is_outer, is_for_outer, EffectsComeAfterTheSteps}
 
 -- ---- what deeds leave that are for the DMA engine, for the PIO blocks or for the peripherals, or not
 

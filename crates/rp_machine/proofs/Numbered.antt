@@ -3,15 +3,10 @@ use Rattle.std.proofs.Common.{◌≡◌, ℕ, zero, suc, ◌+◌, ◌*◌, ◌/�
 use Rattle.std.specs.Prelude.{bit_or, unwrap_or, is_none, if◌then◌else◌}
 use Rattle.std.proofs.Math.Nat.{pow-le-pow_right, lt_of_lt_of_le, div-eq_of_lt}
 use Rattle.std.proofs.lemmas.Bool.{eq-eqb}
-use Rattle.std.proofs.lemmas.Bool.Decides.{nat_tests}
+use Rattle.rp_machine.proofs.Shared.{Request, SeenOutputs, Setting, Spot, State, Want, bit_number, block_lines, has_bit, input_of, is_done_at, lines_of, nat_tests, place_of, told_at, turn_at, turn_of, word_for}
 use Rattle.std.proofs.lemmas.Grind.{common_steps}
 use Rattle.rp_base.specs.declared.Master.TheVariants as master
-use Rattle.rp_base.specs.declared.Request.{Request}
-use Rattle.rp_base.specs.declared.map.Spot.{Spot}
 use Rattle.rp_base.specs.declared.map.Spot.TheVariants as spot
-use Rattle.rp_base.specs.Map.{place_of}
-use Rattle.rp_base.specs.Word.{has_bit, bit_number}
-use Rattle.lane_look.specs.declared.lane.Want.{Want}
 use Rattle.lane_look.specs.declared.lane.Want.TheVariants as want
 use Rattle.lane_look.specs.declared.lane.Turn.TheVariants as turn
 use Rattle.io_bank.proofs.Bits.{has_or}
@@ -24,14 +19,9 @@ use Rattle.sio_block.specs.Locks.{lock_word}
 use Rattle.sio_block.specs.Side.{line_of}
 use Rattle.sio_block.specs.State.{State as SioState}
 use Rattle.sio_block.specs.Words as sio
-use Rattle.outer_lane.specs.declared.world.SeenOutputs.{SeenOutputs}
 use Rattle.outer_lane.specs.Lines.{bank_line, outer_lines}
 use Rattle.outer_lane.specs.Lines as outer
-use Rattle.outer_lane.specs.Setting.{Setting}
-use Rattle.rp_machine.specs.Answers.{lines_of, block_lines}
-use Rattle.rp_machine.specs.Deeds.{input_of, word_for, turn_of, told_at, turn_at, is_done_at}
 use Rattle.rp_machine.specs.Deeds as deeds
-use Rattle.rp_machine.specs.State.{State}
 use Rattle.rp_machine.specs.LineLaws.{has_line, with_device, line_at, AreNumbered, EachLineHasItsNumber, IsLockRead, OneCoreGetsALock}
 
 -- ---- tables

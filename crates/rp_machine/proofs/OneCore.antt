@@ -1,26 +1,14 @@
 -- A cycle in which core 0 alone is at work is the one that the definition says.
 use Rattle.std.proofs.Common.{◌≡◌, ◌+◌, true, false, List, [], ◌∷◌, Option, Some, None, refl, sym, ap, ◌∙◌}
-use Rattle.std.specs.Prelude.{slice_index_or}
+use Rattle.rp_machine.proofs.Shared.{Begun, Blocks, IsCore0Alone, Setting, State, Turn, Want, Wanted, Why, after_deed, after_deeds, alone_next, asked, asked_of, begun, beside, cause_in, cause_of, core1_launched, deed_of, deeds, first_cause, first_next, granted, has_hold, is_first_alone, is_nothing, next, next_by, slice_index_or, stepped, stepped_alone, turn_for, turn_of, turns, wanted, wanted_by, wantless_next, with_grants, with_turns}
 use Rattle.rp_base.specs.declared.Master.TheVariants as master
-use Rattle.rp_base.specs.declared.Why.{Why}
-use Rattle.lane_look.specs.declared.lane.Want.{Want}
 use Rattle.lane_look.specs.declared.lane.Want.TheVariants as want
-use Rattle.lane_look.specs.declared.lane.Turn.{Turn}
 use Rattle.lane_look.specs.declared.lane.Turn.TheVariants as turn
 use Rattle.m0_core.specs.State.{State as Core}
 use Rattle.m0_core.specs.Cycle as core
 use Rattle.dma_engine.specs.Cycle as dma
 use Rattle.pio_block.specs.Cycle as pio
-use Rattle.bus_fabric.specs.State.{has_hold}
-use Rattle.outer_lane.specs.Setting.{Setting}
-use Rattle.rp_machine.specs.declared.begun.Begun.{Begun}
-use Rattle.rp_machine.specs.State.{State}
-use Rattle.rp_machine.specs.Deeds.{asked_of, turn_of, deed_of, cause_of}
-use Rattle.rp_machine.specs.Cycle.{begun, wanted, wanted_by, first_cause, cause_in, asked, granted, turns, turn_for, deeds, with_turns, with_grants, after_deed, after_deeds, stepped, next_by, next}
-use Rattle.rp_machine.specs.Wantless.{is_nothing, core1_launched, wantless_next}
 use Rattle.rp_machine.proofs.Wantless.{both, nothing, wantless_four}
-use Rattle.rp_machine.specs.declared.wanted.Wanted.{Wanted}
-use Rattle.rp_machine.specs.Alone.{Blocks, IsCore0Alone, beside, stepped_alone, alone_next, first_next, is_first_alone}
 
 -- ---- what the others begin
 

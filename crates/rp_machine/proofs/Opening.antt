@@ -1,22 +1,13 @@
 -- An access to a word of a PIO block by its plain addresses, or of the peripherals, is open exactly where the block allows it: it
 -- allows none where it has no word.
-use Rattle.std.proofs.Common.{◌≡◌, ◌&&◌, not, Bool, ℕ, refl, ap, ◌∙◌}
+use Rattle.rp_machine.proofs.Shared.{Bool, Outer, Pio0, Pio1, Request, Resettable, SeenOutputs, Setting, ap, not, opens, outer_allowed, outer_open, outer_word, plain_write, refl, some-read, ℕ, ◌&&◌, ◌∙◌, ◌≡◌}
 use Rattle.std.specs.Prelude.{Option, Some, None, is_some}
 use Rattle.rp_base.specs.Access.{word_written}
 use Rattle.rp_base.specs.Held.{unless_held}
-use Rattle.rp_base.specs.declared.resettable.Resettable.{Resettable}
-use Rattle.rp_base.specs.declared.Request.{Request}
 use Rattle.rp_base.specs.declared.map.Block.{Block as Place}
 use Rattle.pio_block.specs.State.{State as Block}
 use Rattle.pio_block.specs.Words.{pio_rows, is_word, is_allowed, sets_left_out, word_of}
-use Rattle.outer_lane.specs.declared.world.SeenOutputs.{SeenOutputs}
-use Rattle.outer_lane.specs.Setting.{Setting}
 use Rattle.outer_lane.specs.State.{State as OuterState}
-use Rattle.outer_lane.specs.Words.{outer_word, outer_allowed}
-use Rattle.outer_lane.proofs.Accesses.{some-read, outer_open}
-use Rattle.rp_machine.specs.Deeds.{opens}
-use Rattle.rp_machine.specs.Registers.{plain_write}
-use Rattle.rp_machine.specs.Registers.Part.{Pio0, Pio1, Outer}
 
 same_write : (r : Request) (write : Option ℕ) (word : ℕ) → word_written r.size write ≡ plain_write r write 0 word
 same_write r None word = refl

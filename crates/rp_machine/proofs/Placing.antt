@@ -1,11 +1,9 @@
 -- The parts of an image, put at their places one after another.
-use Rattle.std.proofs.Common.{◌≡◌, ℕ, ◌+◌, ◌<◌, ◌≤◌, List, [], ◌∷◌, length, take, drop, get_or, refl, sym, ap, arith, ◌∙◌, drop-cons, add-one, zero-add, subst, map, ◌++◌}
+use Rattle.rp_machine.proofs.Shared.{List, [], add-one, ap, arith, bytes_with, drop, drop-cons, get_or, length, map, range_with_len, refl, subst, sym, take, with_part, word_at, zero-add, zeros, ℕ, ◌++◌, ◌+◌, ◌<◌, ◌∙◌, ◌∷◌, ◌≡◌, ◌≤◌}
 use Rattle.std.proofs.lemmas.List.Sums.{fold_more}
 use Rattle.std.proofs.lemmas.List.FromFn.{map-range_with_len_more}
-use Rattle.std.specs.List.{range_with_len}
 use Rattle.uf2_image.specs.declared.parts.Part.{Part}
 use Rattle.uf2_image.specs.Uf2.{LieFrom}
-use Rattle.rp_machine.specs.Loading.{with_part, bytes_with, zeros, word_at}
 
 -- the parts so far are in place, and the others lie behind some address of SRAM
 pub record Placed (bytes : List ℕ) (parts : List Part) (i : ℕ) : Type 0 where

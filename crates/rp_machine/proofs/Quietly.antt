@@ -1,22 +1,11 @@
 -- Cycles without a stop and without events, one after another.
 use Rattle.std.proofs.Common.{◌≡◌, ℕ, zero, suc, ◌+◌, ◌<◌, ◌≤◌, Bool, true, false, List, [], ◌∷◌, if◌then◌else◌, None, refl, sym, ap, ◌∙◌, arith}
 use Rattle.std.specs.Int.Bits.{xor_self}
-use Rattle.lane_look.specs.declared.lane.Ask.{Ask}
+use Rattle.rp_machine.proofs.Shared.{Ask, Asking, Mark, Question, Ready, SeenOutputs, Setting, State, answer_of, answered, begun, events, events_of, next, outs_of, seen_in, states, stop}
 use Rattle.lane_look.specs.declared.lane.Ask.TheVariants as ask
-use Rattle.lane_look.specs.declared.marks.Mark.{Mark}
-use Rattle.lane_look.specs.Asking.{Asking, answered}
-use Rattle.lane_look.specs.Asking.Asking.{Ready, Question}
 use Rattle.io_bank.specs.Levels.{is_used}
-use Rattle.outer_lane.specs.Setting.{Setting}
 use Rattle.outer_lane.specs.State.{State as OuterState}
-use Rattle.outer_lane.specs.declared.world.SeenOutputs.{SeenOutputs}
 use Rattle.outer_lane.specs.Step.{asks, asks_second, seen_of, pins_in, no_pins}
-use Rattle.outer_lane.specs.Quiet.{seen_in}
-use Rattle.rp_machine.specs.State.{State}
-use Rattle.rp_machine.specs.Answers.{answer_of, outs_of}
-use Rattle.rp_machine.specs.Cycle.{begun, stop, next}
-use Rattle.rp_machine.specs.Events.{events, events_of}
-use Rattle.rp_machine.specs.Run.{states}
 use Rattle.rp_machine.proofs.Runs.{states_on}
 
 -- ---- states that follow each other without a stop and without events

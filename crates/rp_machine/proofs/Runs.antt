@@ -1,12 +1,6 @@
 -- Runs up to the first state with a stop.
-use Rattle.std.proofs.lemmas.Bool.Decides.{eqb_tells}
+use Rattle.rp_machine.proofs.Shared.{Setting, State, Why, all_events, eqb_tells, events, events_in, last_state, next, next_by, states, stop}
 use Rattle.std.proofs.Common.{inl, inr, ◌≢◌, ◌≡◌, ℕ, zero, suc, ◌+◌, ◌-◌, ◌<◌, ◌≤◌, [], ◌++◌, Some, None, refl, sym, ap, arith, ◌∙◌}
-use Rattle.rp_base.specs.declared.Why.{Why}
-use Rattle.outer_lane.specs.Setting.{Setting}
-use Rattle.rp_machine.specs.State.{State}
-use Rattle.rp_machine.specs.Cycle.{stop, next, next_by}
-use Rattle.rp_machine.specs.Events.{events}
-use Rattle.rp_machine.specs.Run.{states, events_in, last_state, all_events}
 
 -- a state with a stop is the last one, and leaves no events
 pub states_here : (w : Setting) (s : State) (why : Why) (n : ℕ) → stop w s ≡ Some why → states w s n ≡ s

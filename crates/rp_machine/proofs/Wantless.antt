@@ -1,20 +1,8 @@
 -- A cycle in which nobody wants anything.
 use Rattle.std.proofs.Common.{◌≡◌, ◌&&◌, Bool, true, false, not, if◌then◌else◌, List, [], ◌∷◌, length, Option, Some, None, refl, ap, arith, ◌∙◌}
-use Rattle.std.specs.List.{list_all}
-use Rattle.lane_look.specs.declared.lane.Want.{Want}
+use Rattle.rp_machine.proofs.Shared.{Begun, CyclesWithoutWantsChangeTheLanesAlone, Launch, Setting, State, Want, Wanted, after_deed, after_deeds, after_launcher, after_turn, asked, asked_of, begun, core1_launched, deed_of, deeds, ended, granted, has_hold, is_nothing, is_wantless, launch_of, launched_where, list_all, next, next_by, no_turns, nobody-after, offers_of, started_by, stepped, turn_of, turns, wanted, wantless_next, wants_nothing, with_sio, with_turns}
 use Rattle.lane_look.specs.declared.lane.Want.TheVariants as want
-use Rattle.bus_fabric.specs.State.{has_hold}
-use Rattle.bus_fabric.proofs.Alone.{nobody-after}
-use Rattle.sio_block.specs.declared.Launch.{Launch}
 use Rattle.sio_block.specs.State.{State as SioState}
-use Rattle.sio_block.specs.Launcher.{offers_of, launch_of, after_turn}
-use Rattle.outer_lane.specs.Setting.{Setting}
-use Rattle.rp_machine.specs.declared.begun.Begun.{Begun}
-use Rattle.rp_machine.specs.declared.wanted.Wanted.{Wanted}
-use Rattle.rp_machine.specs.State.{State}
-use Rattle.rp_machine.specs.Deeds.{asked_of, turn_of, deed_of}
-use Rattle.rp_machine.specs.Cycle.{begun, wanted, asked, granted, turns, deeds, with_turns, with_sio, started_by, after_deed, after_launcher, launched_where, ended, after_deeds, stepped, next_by, next}
-use Rattle.rp_machine.specs.Wantless.{is_nothing, wants_nothing, is_wantless, no_turns, core1_launched, wantless_next, CyclesWithoutWantsChangeTheLanesAlone}
 
 pub both : (a b : Bool) → (a && b) ≡ true → (a ≡ true) × (b ≡ true)
 both true b h = (refl, h)

@@ -6,7 +6,7 @@ use Rattle.rp_base.specs.declared.op.Op.TheVariants.{LdrLit, Adr, B, Bl, BCond}
 use Rattle.thumb_words.specs.declared.halfwords.Code.{Code}
 use Rattle.thumb_words.specs.Codes.{code_of, coded}
 use Rattle.thumb_parse.specs.declared.item.Item.{Item}
-use Rattle.thumb_parse.specs.declared.item.Item.TheVariants.{Empty, Instruction, OutOfRange, WrongRegister, Literal, Address, Branch, Call, BranchIf, Word, WordAt, Half, Space, Align}
+use Rattle.thumb_parse.specs.declared.item.Item.TheVariants.{Empty, Instruction, OutOfRange, WrongRegister, Literal, Address, Branch, Call, BranchIf, Word, WordAt, Half}
 use Rattle.thumb_asm.specs.Lines.{statement_at}
 use Rattle.thumb_asm.specs.Placed.{bytes_at, call_by, code_bytes, half_bytes, op_bytes, size_at}
 use Rattle.thumb_asm.specs.Source.{Names, address_after, line_bytes, target_of}

@@ -1,9 +1,9 @@
 -- The seven kinds of step. Each keeps the rule, and is the event of its name.
-use Rattle.std.specs.Prelude.{◌≡◌, ℕ, suc, ◌+◌, ◌%◌, ◌^◌, ◌<◌, ◌≤◌, true, false, [], ◌∷◌, ◌++◌, length, bit_or, slice_index}
+use Rattle.std.specs.Prelude.{◌≡◌, ℕ, suc, ◌+◌, ◌%◌, ◌^◌, ◌<◌, ◌≤◌, true, false, [], ◌∷◌, length, bit_or, slice_index}
 use mathlib.Core.Option.{some, none}
 use lib.ListN.{get_elem?}
 use Rattle.atomic_table.specs.Table.{State, Act, Valid, step, stepped, carried_after, Splits, opening}
-use Rattle.turn_board.specs.Tickets.{BoardState, IsUnfinished, IsFree, Event, IsLegal, after}
+use Rattle.turn_board.specs.Tickets.{IsUnfinished, IsFree, Event, IsLegal, after}
 use Rattle.turn_board.specs.Tickets.Event.{Draw, SeeOpen, Finish, Open, Close, SeeDone}
 use Rattle.turn_board.specs.Slots.{MasterHolds}
 use Rattle.turn_board.specs.Rule.{Ruled, first_view, seat_view, fresh}

@@ -1,5 +1,5 @@
 -- Each image that a file holds can be written.
-use Rattle.std.proofs.Common.{◌≡◌, ◌≤◌, ◌<◌, ◌⊎◌, inl, inr, ℕ, zero, suc, ◌+◌, ◌-◌, ◌*◌, ◌/◌, ◌%◌, Bool, true, false, cond, not, List, [], ◌∷◌, ◌++◌, length, map, min, Option, Some, None, Result, Ok, Err, refl, sym, ap, ◌∙◌, subst, arith, length-append, ltb, leb, eqb}
+use Rattle.std.proofs.Common.{◌≡◌, ◌≤◌, inl, inr, ℕ, zero, suc, ◌+◌, ◌-◌, ◌*◌, ◌/◌, ◌%◌, Bool, true, false, cond, not, List, [], ◌∷◌, length, map, min, Option, Some, None, Result, Ok, Err, refl, sym, ap, ◌∙◌, subst, arith, length-append, ltb, eqb}
 use Rattle.std.specs.List.{fold, filter, AllByRecursion}
 use Rattle.std.proofs.lemmas.Bool.{lt-ltb, le-ltb, cases_lt}
 use Rattle.std.proofs.lemmas.List.{length-map}
@@ -7,8 +7,8 @@ use Rattle.std.proofs.lemmas.List.Elements.{recursion_from_All}
 use Rattle.uf2_image.specs.declared.parts.Part.{Part}
 use Rattle.uf2_image.specs.declared.parts.Image.{Image}
 use Rattle.uf2_image.specs.declared.fault.ImageFault.{ImageFault}
-use Rattle.uf2_image.specs.declared.fault.ImageFault.TheVariants.{Empty, Missing, Ragged}
-use Rattle.uf2_image.specs.Uf2.{block_at, count_of, entry_of, first_fault, image_of, in_order, insert_part, is_kept, kept, least_missing, part_of, size_of, target_of, unless_fault, unless_missing, whole, LieFrom}
+use Rattle.uf2_image.specs.declared.fault.ImageFault.TheVariants.{Empty, Ragged}
+use Rattle.uf2_image.specs.Uf2.{block_at, count_of, first_fault, image_of, in_order, insert_part, is_kept, kept, least_missing, part_of, target_of, unless_fault, unless_missing, whole}
 use Rattle.uf2_image.specs.Reading.{AreSpread, HasPayload}
 use Rattle.uf2_image.specs.Writing.{first_address, IsSized, IsWritable}
 use Rattle.uf2_image.proofs.Files.{kept_more, kept_start}

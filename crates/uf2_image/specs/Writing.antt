@@ -1,5 +1,5 @@
 -- The UF2 file of an image (Microsoft, "USB Flashing Format (UF2)", sections File format, Flags and Family ID).
-use Rattle.std.specs.Prelude.{◌≡◌, ◌≤◌, ◌<◌, ℕ, ◌+◌, ◌-◌, ◌%◌, List, [], ◌∷◌, ◌++◌, length, replicate, Result, Ok}
+use Rattle.std.specs.Prelude.{◌≡◌, ◌≤◌, ◌<◌, ℕ, ◌+◌, ◌-◌, ◌%◌, List, [], ◌∷◌, ◌++◌, length, replicate, Ok}
 use Rattle.std.specs.List.{concat, flat_map, AllByRecursion}
 use Rattle.byteorder.specs.Endian.{little_bytes}
 use Rattle.uf2_image.specs.declared.parts.Part.{Part}

@@ -1,6 +1,6 @@
 -- The characters and tokens of a source (RP2040 Datasheet, 3.3, Comments; code blocks: Raspberry Pi Pico C/C++ SDK, pioasm, Output
 -- pass through). Which characters are faults, and where, is the project's own.
-use Rattle.std.specs.Prelude.{◌==◌, ◌≡◌, ◌||◌, ◌&&◌, not, ℕ, ◌+◌, ◌≤◌, Bool, false, if◌then◌else◌, List, [], ◌∷◌, ◌++◌, Option, None, Some, Result, Ok, Err, length, slice_range, drop, option_to_list, ⊤}
+use Rattle.std.specs.Prelude.{◌==◌, ◌≡◌, ◌||◌, ◌&&◌, not, ℕ, ◌+◌, ◌≤◌, false, if◌then◌else◌, List, [], ◌∷◌, ◌++◌, Option, None, Some, Result, Ok, Err, length, slice_range, drop, option_to_list, ⊤}
 use Rattle.std.specs.Option.{option_map_or}
 use Rattle.source_text.specs.Position.{first_position, position_behind}
 use Rattle.source_text.specs.Outcome.{and_then, map_ok}

@@ -1,8 +1,4 @@
-use Rattle.std.proofs.Common.{◌≡◌, subst}
-use Rattle.lane_look.specs.Asking.{answered}
-use Rattle.lane_look.proofs.Answers.{runs_answered}
-use Rattle.rp_machine.specs.State.{State}
-use Rattle.rp_machine.specs.Answers.{answer_of}
+use Rattle.rp_machine.proofs.Shared.{State, answer_of, answered, runs_answered, subst, ◌≡◌}
 use Rattle.rp_machine.proofs.begun.begin_lane.Goals as goal
 
 pub returns : goal.returns

@@ -1,5 +1,4 @@
-use Rattle.std.proofs.Common.{◌≡◌, ◌+◌, drop}
-use Rattle.rp_machine.specs.Boot.{words_loaded}
+use Rattle.rp_machine.proofs.Shared.{drop, words_loaded, ◌+◌, ◌≡◌}
 use Rattle.rp_machine.proofs.boot.load_words.Given as goal
 
 -- what is still to be loaded leads to the same block

@@ -1,7 +1,5 @@
-use Rattle.std.proofs.Common.{refl}
-use Rattle.rp_base.proofs.Rows.{listed}
+use Rattle.rp_machine.proofs.Shared.{listed, refl, resets_rows}
 use Rattle.bus_fabric.specs.Words.{busctrl_rows}
-use Rattle.rp_machine.specs.Registers.{resets_rows}
 use Rattle.rp_machine.proofs.laws.each_register_is_at_its_offset.Goals as goal
 
 pub returns : goal.returns

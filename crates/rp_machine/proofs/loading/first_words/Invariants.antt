@@ -1,6 +1,4 @@
-use Rattle.std.proofs.Common.{◌≡◌, map, vec_len}
-use Rattle.std.specs.List.{range_with_len}
-use Rattle.rp_machine.specs.Loading.{word_at}
+use Rattle.rp_machine.proofs.Shared.{map, range_with_len, vec_len, word_at, ◌≡◌}
 use Rattle.rp_machine.proofs.loading.first_words.Given as goal
 
 abbrev pub invariant-loop-index : goal.invariant-loop-index

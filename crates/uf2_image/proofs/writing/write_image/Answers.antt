@@ -1,4 +1,4 @@
-use Rattle.std.proofs.Common.{◌≡◌, length, refl, arith}
+use Rattle.std.proofs.Common.{length, refl, arith}
 use Rattle.uf2_image.proofs.Written.{part_all, what_is_written_is_read}
 use Rattle.uf2_image.proofs.writing.write_image.Goals as goal
 

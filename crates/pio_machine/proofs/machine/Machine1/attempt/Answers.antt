@@ -1,5 +1,4 @@
-use Rattle.std.proofs.Common.{◌∙◌, ap, sym}
-use Rattle.pio_machine.specs.Ready.{settings_of}
+use Rattle.pio_machine.proofs.Shared.{ap, settings_of, sym, ◌∙◌}
 use Rattle.pio_machine.proofs.Ready.{settings_tried}
 use Rattle.pio_machine.proofs.machine.Machine1.attempt.Goals as goal
 

@@ -1,5 +1,4 @@
-use Rattle.std.proofs.Common.{refl}
-use Rattle.rp_base.proofs.Exact.{numbers, flags, options, both, whole, told}
+use Rattle.pio_machine.proofs.Shared.{both, flags, numbers, options, refl, told, whole}
 use Rattle.pio_machine.proofs.Comparisons.{exact_progress, exact_waiting}
 use Rattle.pio_machine.proofs.machine.Machine1.is_same.Goals as goal
 

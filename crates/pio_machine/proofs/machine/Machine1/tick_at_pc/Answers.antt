@@ -1,5 +1,4 @@
-use Rattle.std.proofs.Common.{◌∙◌, ap, sym}
-use Rattle.pio_words.specs.Operation.{operation_of}
+use Rattle.pio_machine.proofs.Shared.{ap, operation_of, sym, ◌∙◌}
 use Rattle.pio_machine.proofs.machine.Machine1.tick_at_pc.Goals as goal
 
 pub attempt-requires-clause-operation : goal.attempt-requires-clause-operation

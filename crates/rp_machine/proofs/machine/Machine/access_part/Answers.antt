@@ -1,5 +1,4 @@
-use Rattle.std.proofs.Common.{ap, refl}
-use Rattle.rp_base.specs.declared.resettable.Resettable.{Resettable}
+use Rattle.rp_machine.proofs.Shared.{Resettable, ap, refl}
 use Rattle.dma_engine.specs.State.{State as Engine}
 use Rattle.pio_block.specs.State.{State as Block}
 use Rattle.rp_machine.proofs.Agreeing.{bits_agree, outer_agrees}

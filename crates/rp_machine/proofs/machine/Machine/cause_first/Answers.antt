@@ -1,5 +1,4 @@
-use Rattle.std.proofs.Common.{◌∙◌}
-use Rattle.outer_lane.specs.Setting.{setting_of}
+use Rattle.rp_machine.proofs.Shared.{setting_of, ◌∙◌}
 use Rattle.rp_machine.proofs.OneCore.{cause_first}
 use Rattle.rp_machine.proofs.machine.Machine.cause_first.Goals as goal
 

@@ -1,6 +1,4 @@
-use Rattle.std.proofs.Common.{◌≡◌, ◌∙◌, ap, arith, sym}
-use Rattle.outer_lane.specs.Setting.{setting_of}
-use Rattle.rp_machine.specs.State.{State}
+use Rattle.rp_machine.proofs.Shared.{State, ap, arith, setting_of, sym, ◌∙◌, ◌≡◌}
 use Rattle.rp_machine.proofs.Inward.{stop_none}
 use Rattle.rp_machine.proofs.OneCore.{goes_on, next_first, next_wantless, next_begun}
 use Rattle.rp_machine.proofs.machine.Machine.cycle_of.Goals as goal

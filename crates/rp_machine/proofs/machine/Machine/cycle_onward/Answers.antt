@@ -1,6 +1,4 @@
-use Rattle.std.proofs.Common.{◌≡◌, true, refl, ap, subst, ◌∙◌}
-use Rattle.rp_machine.specs.Inward.{goes_inward, inward_cycle}
-use Rattle.rp_machine.specs.State.{State}
+use Rattle.rp_machine.proofs.Shared.{State, ap, goes_inward, inward_cycle, refl, subst, true, ◌∙◌, ◌≡◌}
 use Rattle.rp_machine.proofs.Inward.{wants_nothing_inward}
 use Rattle.rp_machine.proofs.machine.Machine.cycle_onward.Goals as goal
 

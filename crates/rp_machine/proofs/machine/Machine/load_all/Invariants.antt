@@ -1,5 +1,4 @@
-use Rattle.std.proofs.Common.{◌≡◌, drop}
-use Rattle.rp_machine.specs.Boot.{with_loads, AreLoads}
+use Rattle.rp_machine.proofs.Shared.{AreLoads, drop, with_loads, ◌≡◌}
 use Rattle.rp_machine.proofs.machine.Machine.load_all.Given as goal
 
 -- what is still to be loaded leads to the same machine

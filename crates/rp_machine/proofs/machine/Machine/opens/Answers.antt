@@ -1,7 +1,5 @@
-use Rattle.std.proofs.Common.{◌≡◌, ap, arith, ◌∙◌}
-use Rattle.outer_lane.specs.Setting.{setting_of}
+use Rattle.rp_machine.proofs.Shared.{ap, arith, part_word, setting_of, ◌∙◌, ◌≡◌}
 use Rattle.pio_block.specs.Words.{is_allowed}
-use Rattle.rp_machine.specs.Registers.{part_word}
 use Rattle.rp_machine.proofs.Opening.{plainly_open, opens_outer}
 use Rattle.rp_machine.proofs.machine.Machine.opens.Goals as goal
 

@@ -1,10 +1,6 @@
-use Rattle.std.proofs.Common.{sym, ap, ◌∙◌, arith}
-use Rattle.lane_look.specs.Asking.{answered}
+use Rattle.rp_machine.proofs.Shared.{State, answer_of, answered, ap, arith, sym, the_view, ◌∙◌}
 use Rattle.dma_engine.specs.Asks as dma
 use Rattle.pio_block.specs.Cycle.{inputs_of as pins_of}
-use Rattle.rp_machine.specs.State.{State}
-use Rattle.rp_machine.specs.Answers.{answer_of}
-use Rattle.rp_machine.specs.contracts.machine.Machine.{the_view}
 use Rattle.rp_machine.proofs.Going.{quiet_by, none_by}
 use Rattle.rp_machine.proofs.machine.Machine.quiet_blocks.Goals as goal
 

@@ -1,5 +1,4 @@
-use Rattle.std.proofs.Common.{sym, ◌∙◌, ◌^◌, ◌-◌}
-use Rattle.rp_machine.specs.contracts.machine.Machine.{the_view}
+use Rattle.rp_machine.proofs.Shared.{sym, the_view, ◌-◌, ◌^◌, ◌∙◌}
 use Rattle.rp_machine.proofs.Going.{core1_sleeps, core1_quiet_by}
 use Rattle.rp_machine.proofs.machine.Machine.quiet_core1.Goals as goal
 

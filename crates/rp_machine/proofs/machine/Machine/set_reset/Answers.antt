@@ -1,5 +1,4 @@
-use Rattle.std.proofs.Common.{rules, ◌≡◌}
-use Rattle.std.specs.Prelude.{slice_index, slice_set}
+use Rattle.rp_machine.proofs.Shared.{rules, slice_index, slice_set, ◌≡◌}
 use Rattle.rp_machine.proofs.Agreeing.{reset_agrees}
 use Rattle.rp_machine.proofs.machine.Machine.set_reset.Goals as goal
 

@@ -1,12 +1,7 @@
-use Rattle.std.proofs.Common.{◌≡◌, ◌+◌, refl, sym, ap, subst, ◌∙◌}
+use Rattle.rp_machine.proofs.Shared.{State, answer_of, ap, core0_want, ended, inward_cycle, lines_of, refl, subst, sym, the_view, ◌+◌, ◌∙◌, ◌≡◌}
 use Rattle.lane_look.specs.declared.lane.Ask.TheVariants.{Half}
 use Rattle.lane_look.specs.declared.lane.Want.TheVariants.{Nothing}
 use Rattle.m0_core.specs.State.{State as Core}
-use Rattle.rp_machine.specs.Answers.{answer_of, lines_of}
-use Rattle.rp_machine.specs.Cycle.{ended}
-use Rattle.rp_machine.specs.Inward.{core0_want, inward_cycle}
-use Rattle.rp_machine.specs.State.{State}
-use Rattle.rp_machine.specs.contracts.machine.Machine.{the_view}
 use Rattle.rp_machine.proofs.Inward.{short_by}
 use Rattle.rp_machine.proofs.machine.Machine.short_onward.Goals as goal
 

@@ -1,5 +1,4 @@
-use Rattle.std.proofs.Common.{◌∙◌, sym}
-use Rattle.outer_lane.specs.Setting.{setting_of}
+use Rattle.rp_machine.proofs.Shared.{setting_of, sym, ◌∙◌}
 use Rattle.rp_machine.proofs.OneCore.{next_first, next_wantless}
 use Rattle.rp_machine.proofs.machine.Machine.step.Goals as goal
 
