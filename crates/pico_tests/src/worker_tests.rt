@@ -61,18 +61,23 @@ fn a_generated_program_runs(rt: HostRuntime) -> Result<(), Fail> {
     Ok(())
 }
 
-/// A shorter run, of which three windows go over the board.
+/// A shorter run, of which two windows go over the board, or three where they are counted.
 const SHORTER: Case = Case {
-    words: &["gen", "1", "--cycles", "60000", "--stats"],
+    words: &["gen", "1", "--cycles", "60000", "--workers"],
     ..NOTHING
 };
+
+/// No worker and four, where windows are not counted and where they are.
+const NONE_AND_FOUR: [[&[&str]; 2]; 2] = [[&["0"], &["4"]], [&["0", "--stats"], &["4", "--stats"]]];
 
 #[test]
 fn workers_run_a_generated_program(rt: HostRuntime) -> Result<(), Fail> {
     let alloc = rt.alloc();
-    let alone = found(&rt, alloc, &SHORTER, &[])?;
-    let worked = found(&rt, alloc, &SHORTER, &["--workers", "4"])?;
-    assert!(rt; worked.status == 0 && worked.text.as_slice() == alone.text.as_slice());
+    for [none, four] in NONE_AND_FOUR {
+        let alone = found(&rt, alloc, &SHORTER, none)?;
+        let worked = found(&rt, alloc, &SHORTER, four)?;
+        assert!(rt; worked.status == 0 && worked.text.as_slice() == alone.text.as_slice());
+    }
     Ok(())
 }
 
@@ -148,11 +153,25 @@ impl Gate for HoldsSecond {
     }
 }
 
-/// The third line of a run is not put.
+/// A run whose windows are counted, so that the first of them goes over the board.
+const COUNTED: Case = Case {
+    words: &[
+        "run",
+        "a.uf2",
+        "--cycles",
+        "24",
+        "--pio",
+        "0:0:b.pio",
+        "--stats",
+    ],
+    ..BLINKS
+};
+
+/// The third line of it is not put.
 const CUT: Case = Case {
     failing_put: Some(2),
     status: 7,
-    ..BLINKS
+    ..COUNTED
 };
 
 #[test]
@@ -213,7 +232,7 @@ fn counted_pieces<R: Threads + Wait + Sync>(
 /// The threads are joined before the answer, whole and cut: no piece is at the gate then, and none comes later.
 #[test]
 fn no_piece_is_run_behind_the_answer(rt: HostRuntime) -> Result<(), Fail> {
-    for case in [BLINKS, CUT] {
+    for case in [COUNTED, CUT] {
         let pieces = counted_pieces(&rt, rt.alloc(), &case)?;
         assert!(rt; pieces.is_some_and(|count| count >= 6));
     }
