@@ -1,7 +1,7 @@
 -- An engine that is quiet: nothing is begun, no timer gives a credit, and the timers alone step.
 use Rattle.std.proofs.Common.{◌≡◌, ℕ, zero, suc, ◌+◌, ◌-◌, ◌*◌, ◌/◌, ◌%◌, ◌^◌, ◌<◌, ◌≤◌, min, Bool, true, false, not, ◌&&◌, ◌==◌, nat_le, cond, if◌then◌else◌, List, [], ◌∷◌, length, map, get_or, Option, Some, None, ◌⊎◌, inl, inr, refl, sym, ap, ◌∙◌, arith}
-use Rattle.std.specs.List.{list_all, list_any}
-use Rattle.std.proofs.lemmas.Bool.{and_parts, and_right, or_parts}
+use Rattle.std.specs.List.{list_any}
+use Rattle.std.proofs.lemmas.Bool.{and_right, or_parts}
 use Rattle.std.proofs.lemmas.Bool.Decides.{nat_tests}
 use Rattle.std.proofs.Math.Nat.{add-mul, one-mul, zero-mul, div-mul-le_self, mul-le-mul_right}
 use Rattle.rp_base.specs.declared.Request.{Request}
@@ -13,6 +13,8 @@ use Rattle.lane_look.specs.declared.lane.Ask.TheVariants.{Pacing}
 use Rattle.lane_look.specs.Asking.{Asking, answered}
 use Rattle.lane_look.specs.Asking.Asking.{Question}
 use Rattle.lane_look.specs.Times.{times}
+use Rattle.dma_engine.specs.declared.awaited.Awaited.{Awaited}
+use Rattle.dma_engine.specs.declared.awaited.Awaited.TheVariants as awaited
 use Rattle.dma_engine.specs.declared.timer.PacingTimer.{PacingTimer}
 use Rattle.dma_engine.specs.declared.begun.Access.{Access}
 use Rattle.dma_engine.specs.declared.begun.Access.TheVariants as access
@@ -21,9 +23,9 @@ use Rattle.dma_engine.specs.State.{State}
 use Rattle.dma_engine.specs.Timer.{runs, step_of, sum_of, gives, accumulated, stepped}
 use Rattle.dma_engine.specs.Asks.{asks, asks_read, asks_for, asks_at, waits_for_counts, write_begun, next_request}
 use Rattle.dma_engine.specs.Cycle.{wanted, next}
-use Rattle.dma_engine.specs.Rest.{is_idle_timer, is_paused, StaysBy}
-use Rattle.dma_engine.specs.Quiet.{timer_after, engine_after, GivesNone, IsQuiet}
-use Rattle.dma_engine.proofs.Rest.{idle_timer, gives_off, none_give, asks-paused, next-paused, unmoved_cycle}
+use Rattle.dma_engine.specs.Awaited.{awaits_credits, NoneMoves, Awaits}
+use Rattle.dma_engine.specs.Quiet.{timer_after, engine_after, IsQuiet}
+use Rattle.dma_engine.proofs.Unmoved.{stands, gives_off, all_stand, none_give, kept, asks_nothing, next-credits, unmoved_cycle}
 
 -- ---- one timer
 
@@ -78,20 +80,19 @@ fits t (suc n) h a y =
 
 -- ---- for how long
 
-stands_still : (t : PacingTimer) (n : ℕ) → is_idle_timer t ≡ true → timer_after n t ≡ t
+stands_still : (n : ℕ) (t : PacingTimer) → runs t ≡ false → timer_after n t ≡ t
 unfolding times
-stands_still t zero h = refl
-stands_still t (suc n) h = ap stepped (stands_still t n h) ∙ idle_timer t h
+stands_still zero t h = refl
+stands_still (suc n) t h = ap stepped (stands_still n t h) ∙ stands t h
 
-runs_by : (x y : ℕ) → min x y ≡ 0 → not (not (x == 0) && not (y == 0)) ≡ true
+runs_by : (x y : ℕ) → min x y ≡ 0 → (not (x == 0) && not (y == 0)) ≡ false
 runs_by zero y h = refl
-runs_by (suc x) zero h = ap not (and_right (not (suc x == 0)) false refl)
+runs_by (suc x) zero h = and_right (not (suc x == 0)) false refl
 runs_by (suc x) (suc y) h = absurd (omega (arith, h))
 
 pub none_still : (t : PacingTimer) (n : ℕ) → step_of t ≡ 0 → NoneOf t n
 none_still t n e k lt =
-    let off : is_idle_timer t ≡ true = runs_by t.x t.y e in
-    ap gives (stands_still t k off) ∙ gives_off t off
+    let off : runs t ≡ false = runs_by t.x t.y e in ap gives (stands_still k t off) ∙ gives_off t off
 
 none_by : (r : Bool) (y sum : ℕ) → sum < y → (r && nat_le y sum) ≡ false
 none_by true y sum lt = grind (arith, nat_tests)
@@ -129,11 +130,6 @@ none_all [] n i d h lt k l = absurd (omega (arith, lt))
 none_all (t ∷ ts) n zero d h lt k l = (or_parts (gives (timer_after k t)) _ (h k l)).0
 none_all (t ∷ ts) n (suc i) d h lt k l = none_all ts n i d (λ j m. (or_parts (gives (timer_after j t)) _ (h j m)).1) (omega (arith, lt)) k l
 
-all_still : (ts : List PacingTimer) (n : ℕ) → list_all is_idle_timer ts ≡ true → map (timer_after n) ts ≡ ts
-all_still [] n h = refl
-all_still (t ∷ ts) n h =
-    let both = and_parts (is_idle_timer t) _ h in rw (stands_still t n both.0, all_still ts n both.1) refl
-
 step_more : (ts : List PacingTimer) (k : ℕ) → map (timer_after (suc k)) ts ≡ map stepped (map (timer_after k) ts)
 unfolding times
 step_more [] k = refl
@@ -141,21 +137,21 @@ step_more (t ∷ ts) k = ap (λ xs. timer_after (suc k) t ∷ xs) (step_more ts 
 
 -- ---- the engine, whose timers stand still
 
-pub engine_still : (s : State) (n : ℕ) → list_all is_idle_timer s.timers ≡ true → engine_after n s ≡ s
-engine_still s n h = ap (λ ts. record s { timers = ts }) (all_still s.timers n h)
+engine_still : (s : State) (n : ℕ) → list_any runs s.timers ≡ false → engine_after n s ≡ s
+engine_still s n h = ap (λ ts. record s { timers = ts }) (all_stand s.timers (timer_after n) (stands_still n) h)
+
+pub kept_passed : (w : Awaited) (s : State) (n : ℕ) → Awaits w s → Awaits w (engine_after n s)
+kept_passed w s n h = kept w s (timer_after n) (stands_still n) h
 
 -- ---- the engine that lacks credits
 
-paused_on : (s : State) (k : ℕ) → is_paused s ≡ true → is_paused (engine_after k s) ≡ true
-unfolding is_paused
-paused_on s k h = h
-
-pub paused_quiet : (counts : ℕ) (s : State) (n : ℕ) → is_paused s ≡ true → GivesNone s n → IsQuiet counts s n
-paused_quiet counts s n h none = record {
-  credits = none;
-  wants = λ k lt answer e. rw (asks-paused (engine_after k s) (paused_on s k h)) refl;
+pub credits_quiet : (counts : ℕ) (s : State) (n : ℕ) → awaits_credits s ≡ true → ((k : ℕ) → k < n → list_any gives (map (timer_after k) s.timers) ≡ false)
+    → IsQuiet counts s n
+credits_quiet counts s n h none = record {
+  credits = record { credits = none };
+  wants = λ k lt answer e. rw (asks_nothing (engine_after k s) (kept_passed awaited.Credit s k h)) refl;
   steps = λ k lt answer e turns.
-      next-paused (engine_after k s) (answered answer (asks (engine_after k s))) turns (paused_on s k h) (none.credits k lt)
+      next-credits (engine_after k s) (answered answer (asks (engine_after k s))) turns (kept_passed awaited.Credit s k h) (none k lt)
       ∙ ap (λ ts. record s { timers = ts }) (sym (step_more s.timers k));
 }
 
@@ -188,18 +184,18 @@ same_begun : (f g : Ask → ℕ) (s : State) → g Pacing ≡ f Pacing → (answ
 unfolding asks
 same_begun f g s e h = same_by (list_any waits_for_counts s.channels) f g s e h
 
-pub unmoved_quiet : (s : State) (begun : BegunTransfer) (n : ℕ) (f : Ask → ℕ) → begun ≡ answered f (asks s) → StaysBy begun.counts s
-    → begun.read ≡ access.Nothing → begun.write ≡ access.Nothing → IsQuiet (f Pacing) s n
-unmoved_quiet s begun n f e by read write =
+pub unmoved_quiet : (s : State) (begun : BegunTransfer) (n : ℕ) (f : Ask → ℕ) → begun ≡ answered f (asks s) → NoneMoves begun.counts s 12
+    → list_any runs s.timers ≡ false → begun.read ≡ access.Nothing → begun.write ≡ access.Nothing → IsQuiet (f Pacing) s n
+unmoved_quiet s begun n f e none off read write =
     let begins : (g : Ask → ℕ) → g Pacing ≡ f Pacing → answered g (asks s) ≡ begun =
     λ g p. same_begun f g s p (sym (ap (λ (b : BegunTransfer). b.read) e) ∙ read) ∙ sym e in
-    let same : (k : ℕ) → engine_after k s ≡ s = λ k. engine_still s k by.timers in
+    let same : (k : ℕ) → engine_after k s ≡ s = λ k. engine_still s k off in
     record {
-      credits = record { credits = λ k lt. ap (λ (x : State). list_any gives x.timers) (same k) ∙ none_give s.timers by.timers };
+      credits = record { credits = λ k lt. ap (λ (x : State). list_any gives x.timers) (same k) ∙ none_give s.timers off };
       wants = λ k lt g p. ap (λ x. wanted (answered g (asks x))) (same k) ∙ ap wanted (begins g p) ∙ rw (read, write) refl;
       steps = λ k lt g p turns.
           ap (λ x. next x (answered g (asks x)) turns) (same k) ∙ ap (λ (b : BegunTransfer). next s b turns) (begins g p)
-          ∙ unmoved_cycle s begun turns by read write ∙ sym (same (suc k));
+          ∙ unmoved_cycle s begun turns none off read write ∙ sym (same (suc k));
     }
 
 -- ---- fewer cycles
@@ -233,9 +229,6 @@ pub four_none : (ts : List PacingTimer) (k : ℕ) (d : PacingTimer) → length t
     → gives (timer_after k (get_or ts 2 d)) ≡ false → gives (timer_after k (get_or ts 3 d)) ≡ false → list_any gives (map (timer_after k) ts) ≡ false
 four_none (a ∷ b ∷ c ∷ e ∷ []) k d h p q r s = rw (p, q, r, s) refl
 four_none _ k d h p q r s = absurd (omega arith)
-
-pub none_by_timers : (i s : State) (n : ℕ) → i ≡ s → ((k : ℕ) → k < n → list_any gives (map (timer_after k) i.timers) ≡ false) → GivesNone s n
-none_by_timers i s n e h = record { credits = λ k lt. ap (λ (x : State). list_any gives (map (timer_after k) x.timers)) (sym e) ∙ h k lt }
 
 -- what a call of one timer reckons, whose step and sum so far are these
 pub reckons : (t : PacingTimer) (n step sum : ℕ) → NoneOf t n → t.y < 2 ^ 16 → t.accumulator < 2 ^ 16

@@ -7,7 +7,7 @@ pub mod Four
 pub mod InTurn
 pub mod Lasting
 pub mod Packing
-pub mod Rest
 pub mod Ring
 pub mod Rows
 pub mod Search
+pub mod Unmoved

@@ -1,4 +1,5 @@
 pub mod Asks
+pub mod Awaited
 pub mod Bounds
 pub mod Channel
 pub mod Choice
@@ -10,7 +11,6 @@ pub mod Pace
 pub mod PaceMeant
 pub mod Quiet
 pub mod Requests
-pub mod Rest
 pub mod State
 pub mod Timer
 pub mod TransferLaws

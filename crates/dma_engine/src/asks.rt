@@ -116,7 +116,7 @@ impl Engine {
 
     /// The read and the write, where the counts are found. Where no channel is chosen and no write waits nothing is begun.
     #[inline(always)]
-    #[tactic(auto, using(crate::proofs::Rest::begins_nothing))]
+    #[tactic(auto, using(crate::proofs::Unmoved::begins_nothing))]
     fn begin<K: Look>(&self, look: &mut K, begun: &mut BegunTransfer)
         ensures { Runs K.answers look.old (asks_read begun.old.counts self.now) begun.new look.new }
     {

@@ -1,6 +1,7 @@
 //! What the engine has begun in a cycle.
 
-ghost use Rattle.std.specs.Prelude.{◌≡◌};
+ghost use Rattle.std.specs.Prelude.{◌≡◌, true};
+ghost use Rattle.dma_engine.specs.declared.begun.Access.TheVariants as Access;
 ghost use Rattle.dma_engine.specs.Asks.{idle_begun};
 
 use rp_base::{Request, Why};
@@ -42,5 +43,14 @@ impl BegunTransfer {
             write: Access::Nothing,
             counts: 0,
         }
+    }
+
+    /// Nothing is read or written.
+    #[inline(always)]
+    pub(crate) fn is_nothing(&self) -> bool
+        ensures read { result ≡ true → self.now.read ≡ Access.Nothing }
+        ensures write { result ≡ true → self.now.write ≡ Access.Nothing }
+    {
+        matches!((self.read, self.write), (Access::Nothing, Access::Nothing))
     }
 }

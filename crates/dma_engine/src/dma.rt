@@ -3,9 +3,9 @@
 ghost use Rattle.std.specs.Prelude.{◌≡◌};
 ghost use Rattle.dma_engine.specs.Words.{word_of, is_word, effect_of};
 
+use crate::awaited::Awaited;
 use crate::begun::BegunTransfer;
 use crate::engine::Engine;
-use crate::finish::is_nothing;
 use lane_look::Turn;
 use rp_base::{Registers, Reset};
 use std::marker::Model;
@@ -14,36 +14,23 @@ use std::marker::Model;
 #[derive(Drop)]
 pub struct Dma {
     pub(crate) engine: Engine,
-    /// The engine is paused and no timer runs, so that no cycle changes it; it may be false where that is so.
-    pub(crate) stays: bool,
-    /// `is_paused` of the engine: nothing moves until a register is written or a pacing timer gives a credit.
-    pub(crate) paused: bool,
-    /// `is_silent` of the engine: no interrupt is raised or forced.
-    pub(crate) silent: bool,
-    /// The counts with which a cycle in which nothing is begun changes nothing, where they were found.
-    pub(crate) unmoved_by: Option<u128>,
+    pub(crate) awaited: Awaited,
 }
 
 impl Model for Dma {
-    ghost use Rattle.std.specs.Prelude.{◌≡◌, true, IfSome};
     ghost use Rattle.dma_engine.specs.State.{State};
-    ghost use Rattle.dma_engine.specs.Rest.{is_paused, Stays, StaysBy};
-    ghost use Rattle.dma_engine.specs.Words.{is_silent};
+    ghost use Rattle.dma_engine.specs.Awaited.{Awaits};
 
     ghost Value = { State };
 
     ghost view = { λ d. d.engine };
 
-    ghost invariant = { λ d. (d.stays ≡ true → Stays d.engine) × (d.paused ≡ is_paused d.engine)
-        × (d.silent ≡ is_silent d.engine)
-        × IfSome d.unmoved_by (λ counts. StaysBy counts d.engine) };
+    ghost invariant = { λ d. Awaits d.awaited d.engine };
 }
 
 impl Dma {
     ghost use Rattle.std.specs.Prelude.{Decides, false, true, ◌∷◌, []};
-    ghost use Rattle.dma_engine.specs.declared.begun.Access.TheVariants as Access;
     ghost use Rattle.dma_engine.specs.Cycle.{next};
-    ghost use Rattle.dma_engine.specs.Rest.{StaysBy};
     ghost use Rattle.dma_engine.specs.State.{at_reset};
     ghost use Rattle.dma_engine.specs.Words.{word_of, is_word, effect_of, is_silent, lines_of};
 
@@ -52,16 +39,8 @@ impl Dma {
         ensures { result ≡ at_reset }
     {
         let engine = Engine::new();
-        let paused = engine.is_paused();
-        let stays = engine.stays(paused);
-        let silent = engine.is_silent();
-        Dma {
-            engine,
-            stays,
-            paused,
-            silent,
-            unmoved_by: None,
-        }
+        let awaited = engine.awaited();
+        Dma { engine, awaited }
     }
 
     /// The word at an offset of the plain view (RP2040 Datasheet, 2.5.7). None exactly where there is no such word.
@@ -78,10 +57,7 @@ impl Dma {
         ensures allowed { result ≡ is_word offset }
     {
         let allowed = self.engine.effect(offset, write);
-        self.paused = self.engine.is_paused();
-        self.stays = self.engine.stays(self.paused);
-        self.silent = self.engine.is_silent();
-        self.unmoved_by = None;
+        self.awaited = self.engine.awaited();
         allowed
     }
 
@@ -92,51 +68,21 @@ impl Dma {
         self.engine.allows(offset)
     }
 
-    /// Nothing was begun, and the counts are those with which that changes nothing: a channel that waits for a FIFO goes on to wait.
-    #[inline(always)]
-    pub(crate) fn is_unmoved_by(&self, begun: &BegunTransfer) -> bool
-        ensures stays { result ≡ true → StaysBy begun.now.counts self.now }
-        ensures read { result ≡ true → begun.now.read ≡ Access.Nothing }
-        ensures write { result ≡ true → begun.now.write ≡ Access.Nothing }
-    {
-        match self.unmoved_by {
-            Some(counts) if counts == begun.counts => {
-                is_nothing(&begun.read) && is_nothing(&begun.write)
-            }
-            _ => false,
-        }
-    }
-
-    /// The cycle, where this was begun and these turns were given. In most cycles the engine is paused, and its timers alone step.
+    /// The cycle, where this was begun and these turns were given. In most cycles the engine waits for a credit, and its timers alone step.
     #[inline(never)]
+    #[tactic(auto, using(crate::proofs::Unmoved::stepping))]
     pub(crate) fn move_on(&mut self, begun: &BegunTransfer, turns: &[Turn; 2])
         ensures { self.new ≡ next self.old begun.now turns.now }
     {
-        if self.paused {
-            if self.engine.step_paused() {
-                self.stays = false;
-                self.unmoved_by = None;
-                return;
-            }
+        if self.engine.some_gives() {
+            self.engine.finish_with_credits(begun, turns);
+            self.awaited = self.engine.awaited();
+            return;
         }
-        self.move_transfers(begun, turns);
-    }
-
-    /// The cycle. Whether the engine stays or is paused is found again where something moved, and whether it is silent; where only
-    /// timers stepped it does not stay, and the others are as before.
-    #[inline(never)]
-    fn move_transfers(&mut self, begun: &BegunTransfer, turns: &[Turn; 2])
-        ensures { self.new ≡ next self.old begun.now turns.now }
-    {
-        if self.engine.finish(begun, turns) {
-            self.paused = self.engine.is_paused();
-            self.stays = self.engine.stays(self.paused);
-            self.silent = self.engine.is_silent();
-            self.unmoved_by = None;
-        } else {
-            self.stays = false;
-            self.unmoved_by = self.engine.stays_by(begun.counts);
+        if !matches!(self.awaited, Awaited::Credit) {
+            self.awaited = self.engine.transfer(begun, turns);
         }
+        self.engine.advance_timers();
     }
 
     /// Both are in the same state.
@@ -149,12 +95,12 @@ impl Dma {
 
     /// No interrupt is raised or forced, so that both lines are low.
     #[inline(always)]
-    #[tactic(auto, using(crate::proofs::Rest::silent_lines))]
+    #[tactic(auto, using(crate::proofs::Unmoved::silent_lines))]
     pub fn is_silent(&self) -> bool
         ensures value { result ≡ is_silent self.now }
         ensures lines { result ≡ true → lines_of self.now ≡ false ∷ false ∷ [] }
     {
-        self.silent
+        self.engine.raised == 0 && self.engine.line_0.force == 0 && self.engine.line_1.force == 0
     }
 
     /// The two interrupt lines, DMA_IRQ_0 and DMA_IRQ_1: some bit of INTS0, and some bit of INTS1.

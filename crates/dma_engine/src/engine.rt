@@ -44,7 +44,7 @@ impl Model for Engine {
 
 impl Engine {
     ghost use Rattle.dma_engine.specs.State.{at_reset};
-    ghost use Rattle.dma_engine.specs.Words.{is_silent, lines_of};
+    ghost use Rattle.dma_engine.specs.Words.{lines_of};
 
     /// The reset state.
     pub(crate) fn new() -> Engine
@@ -60,14 +60,6 @@ impl Engine {
             line_1: InterruptLine::SILENT,
             timers: [PacingTimer::STOPPED; 4],
         }
-    }
-
-    /// No interrupt is raised or forced.
-    #[inline(always)]
-    pub(crate) fn is_silent(&self) -> bool
-        ensures { result ≡ is_silent self.now }
-    {
-        self.raised == 0 && self.line_0.force == 0 && self.line_1.force == 0
     }
 
     /// The two interrupt lines.

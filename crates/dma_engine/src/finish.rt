@@ -1,21 +1,18 @@
 //! How a cycle ends: sequences end, the read and the write are done or wait, the next channel is chosen, and the pacing
 //! timers give their credits.
 
-ghost use Rattle.std.specs.Prelude.{◌≡◌, ◌<◌, ℕ, List, false, true, length, slice_index_or, IfSome, Some};
-ghost use Rattle.std.specs.List.{list_all, list_any};
-ghost use Rattle.lane_look.specs.declared.lane.Turn.{Turn};
+ghost use Rattle.std.specs.Prelude.{◌≡◌, ◌<◌, ℕ, false, length, slice_index_or, Some};
+ghost use Rattle.std.specs.List.{list_any};
 ghost use Rattle.dma_engine.specs.Control.{treq_of};
 ghost use Rattle.dma_engine.specs.Choice.{is_candidate};
 ghost use Rattle.dma_engine.specs.Requests.{pace_of};
-ghost use Rattle.dma_engine.specs.declared.begun.Access.TheVariants as Access;
-ghost use Rattle.dma_engine.specs.declared.begun.BegunTransfer.{BegunTransfer};
 ghost use Rattle.dma_engine.specs.State.{channel_at};
 ghost use Rattle.dma_engine.specs.Timer.{gives, given_by, is_given, gets_credit, credited, with_credit, with_stepped_timers, after_timers};
-ghost use Rattle.dma_engine.specs.Rest.{is_idle_timer, is_paused, AreIdle, StaysBy};
-ghost use Rattle.dma_engine.specs.Words.{is_silent};
+ghost use Rattle.dma_engine.specs.Awaited.{NoneMoves, Awaits};
 ghost use Rattle.dma_engine.specs.Cycle.{want_of, word_of, word_read, with_data, with_read, after_read, is_written, after_write, credits_left, counted, after_choice, is_over, after_transfers, next};
 ghost use Rattle.dma_engine.specs.Channel.{in_turn};
 
+use crate::awaited::Awaited;
 use crate::begun::{Access, BegunTransfer};
 use crate::channel::Channel;
 use crate::engine::{CHANNELS, Engine};
@@ -67,25 +64,6 @@ fn given_by(timers: &[PacingTimer; 4]) -> [bool; 4]
         timers[2].gives(),
         timers[3].gives(),
     ]
-}
-
-/// Some timer gives a credit.
-#[inline(always)]
-fn some_gives(timers: &[PacingTimer; 4]) -> bool
-    ensures { result ≡ list_any gives timers.now }
-{
-    timers.iter().any(|timer| timer.gives())
-}
-
-/// The access is none.
-#[inline(always)]
-pub(crate) fn is_nothing(access: &Access) -> bool
-    ensures { result ≡ true → access.now ≡ Access.Nothing }
-{
-    match *access {
-        Access::Nothing => true,
-        _ => false,
-    }
 }
 
 impl Channel {
@@ -228,8 +206,8 @@ impl Engine {
 
     /// Some channel can be chosen, or is over.
     #[inline(always)]
-    fn has_work(&self, counts: u128) -> bool
-        ensures { result ≡ false → AreIdle counts self.now 12 }
+    fn some_moves(&self, counts: u128) -> bool
+        ensures { result ≡ false → NoneMoves counts self.now 12 }
     {
         for number in 0..CHANNELS {
             if self.channels[number as usize].busy {
@@ -241,23 +219,12 @@ impl Engine {
         false
     }
 
-    /// No timer runs.
-    pub(crate) fn are_timers_idle(&self) -> bool
-        ensures { result ≡ list_all is_idle_timer self.now.timers }
+    /// Some timer gives a credit.
+    #[inline(always)]
+    pub(crate) fn some_gives(&self) -> bool
+        ensures { result ≡ list_any gives self.now.timers }
     {
-        self.timers.iter().all(|timer| !timer.runs())
-    }
-
-    /// No pacing timer runs, and with these counts no channel can be chosen or is over, so that a cycle in which nothing is begun changes
-    /// nothing.
-    #[tactic(auto, using(crate::proofs::Rest::stays_by))]
-    pub(crate) fn stays_by(&self, counts: u128) -> Option<u128>
-        ensures { IfSome result (λ counts. StaysBy counts self.now) }
-    {
-        if !self.are_timers_idle() || self.has_work(counts) {
-            return None;
-        }
-        Some(counts)
+        self.timers.iter().any(|timer| timer.gives())
     }
 
     /// A channel takes a credit.
@@ -272,7 +239,7 @@ impl Engine {
     /// The cycle, in which some timer gives a credit.
     #[inline(never)]
     #[tactic(auto, unfolding(crate::specs::Cycle::next))]
-    fn finish_with_credits(&mut self, begun: &BegunTransfer, turns: &[Turn; 2])
+    pub(crate) fn finish_with_credits(&mut self, begun: &BegunTransfer, turns: &[Turn; 2])
         ensures { self.new ≡ next self.old begun.now turns.now }
     {
         let credited = self.credited(&given_by(&self.timers));
@@ -296,7 +263,7 @@ impl Engine {
     /// The pacing timers have their cycle.
     #[inline(always)]
     #[tactic(auto, using(crate::proofs::Four::four))]
-    fn advance_timers(&mut self)
+    pub(crate) fn advance_timers(&mut self)
         ensures { self.new ≡ with_stepped_timers self.old }
     {
         self.timers[0].step_once();
@@ -327,54 +294,21 @@ impl Engine {
         self.take_choice(choice);
     }
 
-    /// The transfers have their cycle. In most cycles nothing was begun, and no sequence ends or can go on: false then.
-    #[inline(always)]
-    #[tactic(auto, using(crate::proofs::Rest::nothing_moves))]
-    fn transfer(&mut self, begun: &BegunTransfer, turns: &[Turn; 2]) -> bool
+    /// The transfers have their cycle, and what the engine waits for then. In most cycles nothing was begun, and no sequence ends or can go
+    /// on.
+    #[inline(never)]
+    #[tactic(auto, using(crate::proofs::Unmoved::nothing_moves))]
+    pub(crate) fn transfer(&mut self, begun: &BegunTransfer, turns: &[Turn; 2]) -> Awaited
         ensures after { self.new ≡ after_transfers self.old begun.now turns.now }
-        ensures stays { result ≡ false → self.new ≡ self.old }
+        ensures awaited { Awaits result self.new }
     {
-        if is_nothing(&begun.read) && is_nothing(&begun.write) && !self.has_work(begun.counts) {
-            return false;
+        if !begun.is_nothing() || self.some_moves(begun.counts) {
+            self.move_on(begun, turns);
+            self.awaited()
+        } else if self.some_runs() {
+            Awaited::Nothing
+        } else {
+            Awaited::OtherCounts(begun.counts)
         }
-        self.move_on(begun, turns);
-        true
-    }
-
-    /// The cycle of an engine that is paused, where no timer gives a credit: the timers alone step. False, and nothing is changed, where
-    /// one gives.
-    #[inline(always)]
-    #[tactic(auto, unfolding(crate::specs::Rest::is_paused), using(crate::proofs::Rest::stepping))]
-    pub(crate) fn step_paused(&mut self) -> bool
-        requires { is_paused self.old ≡ true }
-        ensures after { result ≡ true
-            → (begun : BegunTransfer) (turns : List Turn) → next self.old begun turns ≡ self.new }
-        ensures stays { result ≡ false → self.new ≡ self.old }
-        ensures paused { is_paused self.new ≡ true }
-        ensures silent { is_silent self.new ≡ is_silent self.old }
-    {
-        if some_gives(&self.timers) {
-            return false;
-        }
-        self.advance_timers();
-        true
-    }
-
-    /// The cycle, where this was begun and these turns were given; false where only timers stepped, so that the engine is paused as
-    /// before.
-    #[inline(always)]
-    #[tactic(auto, unfolding(crate::specs::Rest::is_paused), using(crate::proofs::Rest::stepping))]
-    pub(crate) fn finish(&mut self, begun: &BegunTransfer, turns: &[Turn; 2]) -> bool
-        ensures after { self.new ≡ next self.old begun.now turns.now }
-        ensures paused { result ≡ false → is_paused self.new ≡ is_paused self.old }
-        ensures silent { result ≡ false → is_silent self.new ≡ is_silent self.old }
-    {
-        if some_gives(&self.timers) {
-            self.finish_with_credits(begun, turns);
-            return true;
-        }
-        let moved = self.transfer(begun, turns);
-        self.advance_timers();
-        moved
     }
 }

@@ -2,6 +2,7 @@
 
 ghost use Rattle.std.specs.Prelude.{None};
 
+use crate::awaited::Awaited;
 use crate::begun::{Access, BegunTransfer};
 use crate::dma::Dma;
 use crate::finish::want;
@@ -13,16 +14,17 @@ impl Dma {
 
     /// Asks, and begins a cycle in the place of what was begun before.
     #[inline(always)]
-    #[tactic(auto, using(crate::proofs::Rest::paused))]
+    #[tactic(auto, using(crate::proofs::Unmoved::asks_nothing))]
     pub fn begin_into<K: Look>(&self, look: &mut K, begun: &mut BegunTransfer)
         ensures { Runs K.answers look.old (asks self.now) begun.new look.new }
     {
-        if self.paused {
-            begun.read = Access::Nothing;
-            begun.write = Access::Nothing;
-            begun.counts = 0;
-        } else {
-            self.engine.ask(look, begun);
+        match self.awaited {
+            Awaited::RegisterWrite | Awaited::Credit => {
+                begun.read = Access::Nothing;
+                begun.write = Access::Nothing;
+                begun.counts = 0;
+            }
+            _ => self.engine.ask(look, begun),
         }
     }
 }
@@ -57,20 +59,18 @@ impl Lane<()> for Dma {
     }
 
     #[inline(always)]
-    #[tactic(auto, using(crate::proofs::Rest::unmoved))]
+    #[tactic(auto, using(crate::proofs::Unmoved::unmoved))]
     fn finish(&mut self, _env: &(), begun: &BegunTransfer, turns: [Turn; 2], _marks: &mut Marks) {
-        if self.stays || self.is_unmoved_by(begun) {
-            return;
+        match self.awaited {
+            Awaited::RegisterWrite => {}
+            Awaited::OtherCounts(counts) if counts == begun.counts && begun.is_nothing() => {}
+            _ => self.move_on(begun, &turns),
         }
-        self.move_on(begun, &turns);
     }
 
     fn copy_from(&mut self, other: &Dma) {
         self.engine.copy_from(&other.engine);
-        self.stays = other.stays;
-        self.paused = other.paused;
-        self.silent = other.silent;
-        self.unmoved_by = other.unmoved_by;
+        self.awaited = other.awaited;
     }
 
     ghost few = { Prim.search rules };

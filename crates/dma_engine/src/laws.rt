@@ -3,7 +3,7 @@
 ghost use Rattle.dma_engine.specs.Laws.{TheChoiceComesFirst};
 ghost use Rattle.dma_engine.specs.Pace.{CountsAreTakenAsPacked};
 ghost use Rattle.dma_engine.specs.TransferLaws.{ACopyIsExact, ARingKeepsItsHighBits, AnAbortRaisesNothing};
-ghost use Rattle.dma_engine.specs.Rest.{AnEngineAtResetNeverActs};
+ghost use Rattle.dma_engine.specs.Awaited.{AnEngineAtResetNeverActs};
 ghost use Rattle.dma_engine.specs.InterruptLaws.{WhatIsEnabledOrForcedIsShown};
 ghost use Rattle.dma_engine.specs.Words.{EachRegisterIsAtItsOffset, AnEngineThatIsHeldIsStill};
 

@@ -7,6 +7,7 @@
 #![tactic(auto)]
 
 mod asks;
+mod awaited;
 pub mod begun;
 pub mod channel;
 mod choice;
@@ -18,7 +19,6 @@ mod lane;
 pub mod laws;
 pub mod line;
 pub mod pace;
-mod pause;
 mod quiet;
 pub mod registers;
 pub mod timer;

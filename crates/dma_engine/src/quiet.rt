@@ -5,6 +5,7 @@ ghost use Rattle.std.specs.List.{list_any};
 ghost use Rattle.dma_engine.specs.Timer.{gives};
 ghost use Rattle.dma_engine.specs.Quiet.{timer_after};
 
+use crate::awaited::Awaited;
 use crate::begun::BegunTransfer;
 use crate::dma::Dma;
 use crate::engine::Engine;
@@ -75,25 +76,12 @@ fn fact_fits(_y: u16, _accumulator: u16)
 
 impl Engine {
     ghost use Rattle.std.specs.Prelude.{◌≡◌};
-    ghost use Rattle.dma_engine.specs.Rest.{is_paused};
-    ghost use Rattle.dma_engine.specs.Words.{is_silent};
     ghost use Rattle.dma_engine.specs.Quiet.{GivesNone, engine_after};
 
-    /// In so many cycles from now on no timer gives a credit.
-    #[tactic(auto, using(crate::proofs::Lasting::none_by_timers))]
-    fn quiet_timers(&self) -> u64
-        ensures { GivesNone self.now result }
-    {
-        all_quiet(&self.timers)
-    }
-
     /// So many cycles of the timers at once, in which none gives a credit.
-    #[tactic(auto, unfolding(crate::specs::Rest::is_paused))]
     fn pass_timers(&mut self, n: u64)
         requires { GivesNone self.old n }
-        ensures after { self.new ≡ engine_after n self.old }
-        ensures paused { is_paused self.new ≡ is_paused self.old }
-        ensures silent { is_silent self.new ≡ is_silent self.old }
+        ensures { self.new ≡ engine_after n self.old }
     {
         let timers = all_passed(&self.timers, n);
         self.timers = timers;
@@ -114,26 +102,20 @@ impl Dma {
         ensures { (answer : Ask → ℕ) → begun.now ≡ answered answer (asks self.now)
             → IsQuiet (answer Pacing) self.now result }
     {
-        if self.is_unmoved_by(begun) {
-            return u64::MAX;
+        match self.awaited {
+            Awaited::RegisterWrite | Awaited::Credit => all_quiet(&self.engine.timers),
+            Awaited::OtherCounts(counts) if counts == begun.counts && begun.is_nothing() =>
+                u64::MAX,
+            _ => 0,
         }
-        if self.paused {
-            return self.engine.quiet_timers();
-        }
-        0
     }
 
     /// So many cycles at once, in which the engine is quiet.
-    #[tactic(auto, using(crate::proofs::Lasting::engine_still))]
+    #[tactic(auto, using(crate::proofs::Lasting::kept_passed))]
     pub fn pass(&mut self, n: u64)
         requires { GivesNone self.old n }
         ensures { self.new ≡ engine_after n self.old }
     {
-        if self.engine.are_timers_idle() {
-            return;
-        }
         self.engine.pass_timers(n);
-        self.stays = false;
-        self.unmoved_by = None;
     }
 }

@@ -17,7 +17,7 @@ use Rattle.dma_engine.specs.Asks as dma_asks
 use Rattle.dma_engine.specs.Cycle as dma_steps
 use Rattle.dma_engine.specs.State as dma
 use Rattle.dma_engine.specs.Words as dma_words
-use Rattle.dma_engine.specs.Rest.{AnEngineAtResetNeverActs}
+use Rattle.dma_engine.specs.Awaited.{AnEngineAtResetNeverActs}
 use Rattle.pio_block.specs.Cycle as pio_steps
 use Rattle.pio_block.specs.State as pio
 use Rattle.pio_block.specs.Words as pio_words

@@ -1,5 +1,6 @@
--- Where no channel can be chosen or is over, and nothing is read or written, the timers alone step; so they do in an engine that is paused.
-use Rattle.std.proofs.Common.{◌≡◌, ℕ, zero, suc, Bool, true, false, not, ◌&&◌, ◌||◌, List, [], ◌∷◌, length, map, drop, nat_eq, nat_lt, get_or, refl, ap, sym, ◌∙◌, arith, Option, Some, None}
+-- Where no channel can be chosen or is over, and nothing is read or written, the timers alone step; so they do in an engine that awaits
+-- credits.
+use Rattle.std.proofs.Common.{◌≡◌, ℕ, zero, suc, Bool, true, false, not, ◌&&◌, ◌||◌, List, [], ◌∷◌, length, map, drop, nat_eq, nat_lt, get_or, refl, ap, sym, subst, ◌∙◌, arith, Option, Some, None}
 use Rattle.std.specs.Prelude.{is_none, is_some, slice_get, bit_and, bit_or}
 use Rattle.std.specs.Int.Bits.{and_zero_l}
 use Rattle.std.specs.List.{list_all, list_any}
@@ -8,6 +9,8 @@ use Rattle.std.proofs.lemmas.Bool.{and_parts, and_right, or_parts, not-true, con
 use Rattle.std.proofs.lemmas.Bool.Decides.{nat_tests}
 use Rattle.lane_look.specs.declared.lane.Turn.{Turn}
 use Rattle.lane_look.specs.Asking.Asking.{Ready}
+use Rattle.dma_engine.specs.declared.awaited.Awaited.{Awaited}
+use Rattle.dma_engine.specs.declared.awaited.Awaited.TheVariants as awaited
 use Rattle.dma_engine.specs.declared.channel.Channel.{Channel}
 use Rattle.dma_engine.specs.declared.begun.BegunTransfer.{BegunTransfer}
 use Rattle.dma_engine.specs.declared.begun.Access.TheVariants as access
@@ -19,29 +22,29 @@ use Rattle.dma_engine.specs.Asks.{waits_for_counts, write_begun, next_request, a
 use Rattle.dma_engine.specs.Choice.{is_ready_by, is_ready, choice_of}
 use Rattle.dma_engine.specs.Requests.{Pace, pace_of}
 use Rattle.dma_engine.specs.Requests.Pace.{Timer}
-use Rattle.dma_engine.specs.Timer.{gives, stepped, given_by, is_given, gets_credit, with_credit, with_stepped_timers, after_timers}
+use Rattle.dma_engine.specs.Timer.{runs, gives, stepped, given_by, is_given, gets_credit, with_credit, with_stepped_timers, after_timers}
 use Rattle.dma_engine.specs.Cycle.{uses_credits, word_of, word_read, is_written, after_read, after_read_of, with_read_by, with_read, after_write, after_write_of, choice_where_none, after_choice, after_transfers, next}
-use Rattle.dma_engine.specs.Rest.{is_idle_timer, lacks_credit, is_paused_channel, is_paused, AreIdle, Stays, StaysBy}
+use Rattle.dma_engine.specs.Awaited.{lacks_credit, awaits_credit, awaits_credits, NoneMoves, Awaits}
 use Rattle.dma_engine.specs.Words.{is_silent, is_raised, lines_of}
 use Rattle.dma_engine.proofs.InTurn.{after_ends-none, in_turn-all_failing}
 use Rattle.dma_engine.proofs.Search.{no_choice}
 
 -- ---- timers that give no credit
 
-pub idle_timer : (t : PacingTimer) → is_idle_timer t ≡ true → stepped t ≡ t
-idle_timer t h = rw (not-true _ h) refl
+pub stands : (t : PacingTimer) → runs t ≡ false → stepped t ≡ t
+stands t h = rw h refl
 
-pub gives_off : (t : PacingTimer) → is_idle_timer t ≡ true → gives t ≡ false
-gives_off t h = rw (not-true _ h) refl
+pub gives_off : (t : PacingTimer) → runs t ≡ false → gives t ≡ false
+gives_off t h = rw h refl
 
-idle_timers : (ts : List PacingTimer) → list_all is_idle_timer ts ≡ true → map stepped ts ≡ ts
-idle_timers [] h = refl
-idle_timers (t ∷ ts) h =
-    let both = and_parts (is_idle_timer t) _ h in rw (idle_timers ts both.1) (ap (λ x. x ∷ ts) (idle_timer t both.0))
+pub all_stand : (ts : List PacingTimer) (f : PacingTimer → PacingTimer) → ((t : PacingTimer) → runs t ≡ false → f t ≡ t) → list_any runs ts ≡ false → map f ts ≡ ts
+all_stand [] f each h = refl
+all_stand (t ∷ ts) f each h =
+    let both = or_parts (runs t) _ h in rw (all_stand ts f each both.1) (ap (λ x. x ∷ ts) (each t both.0))
 
-pub none_give : (ts : List PacingTimer) → list_all is_idle_timer ts ≡ true → list_any gives ts ≡ false
+pub none_give : (ts : List PacingTimer) → list_any runs ts ≡ false → list_any gives ts ≡ false
 none_give [] h = refl
-none_give (t ∷ ts) h = let both = and_parts (is_idle_timer t) _ h in rw (gives_off t both.0, none_give ts both.1) refl
+none_give (t ∷ ts) h = let both = or_parts (runs t) _ h in rw (gives_off t both.0, none_give ts both.1) refl
 
 given_at : (ts : List PacingTimer) (k : ℕ) → list_any gives ts ≡ false → get_or (given_by ts) k false ≡ false
 given_at [] k h = refl
@@ -58,17 +61,18 @@ gets_none s h n =
     and_right (channel_at n s).busy _
     (is_given-none (given_by s.timers) (pace_of (treq_of (channel_at n s))) (λ k. given_at s.timers k h))
 
-timers_alone : (s e : State) → list_any gives s.timers ≡ false → after_timers (gets_credit s) e ≡ with_stepped_timers e
-unfolding after_timers
-timers_alone s e h = in_turn-all_failing (gets_credit s) with_credit 12 (with_stepped_timers e) (λ k low. gets_none s h k)
-
-stopped : (s : State) → list_all is_idle_timer s.timers ≡ true → after_timers (gets_credit s) s ≡ s
-stopped s h = timers_alone s s (none_give s.timers h) ∙ ap (λ ts. record s { timers = ts }) (idle_timers s.timers h)
-
 pub next-without : (s : State) (begun : BegunTransfer) (turns : List Turn) → list_any gives s.timers ≡ false →
     next s begun turns ≡ with_stepped_timers (after_transfers s begun turns)
-unfolding next
-next-without s begun turns none = timers_alone s (after_transfers s begun turns) none
+unfolding next after_timers
+next-without s begun turns none =
+    in_turn-all_failing (gets_credit s) with_credit 12 (with_stepped_timers (after_transfers s begun turns)) (λ k low. gets_none s none k)
+
+-- a cycle that moves no transfer, where no timer runs
+unmoved_by : (s : State) (begun : BegunTransfer) (turns : List Turn) → list_any runs s.timers ≡ false → after_transfers s begun turns ≡ s
+    → next s begun turns ≡ s
+unmoved_by s begun turns off same =
+    next-without s begun turns (none_give s.timers off) ∙ ap with_stepped_timers same
+    ∙ ap (λ ts. record s { timers = ts }) (all_stand s.timers stepped stands off)
 
 -- ---- a cycle in which nothing is read or written
 
@@ -76,7 +80,7 @@ none_chosen : (chosen : Option ℕ) (s : State) → choice_where_none chosen Non
 none_chosen None s = refl
 none_chosen (Some n) s = refl
 
-moves_none : (s : State) (begun : BegunTransfer) (turns : List Turn) → AreIdle begun.counts s 12 →
+moves_none : (s : State) (begun : BegunTransfer) (turns : List Turn) → NoneMoves begun.counts s 12 →
     after_read_of begun turns s ≡ s → after_write_of begun turns s ≡ s → after_transfers s begun turns ≡ s
 unfolding after_transfers
 moves_none s begun turns idle read write =
@@ -90,7 +94,7 @@ nothing_done None = (refl, refl)
 nothing_done (Some word) = (refl, refl)
 
 pub nothing_moves : (s : State) (begun : BegunTransfer) (turns : List Turn) →
-    begun.read ≡ access.Nothing → begun.write ≡ access.Nothing → AreIdle begun.counts s 12 → after_transfers s begun turns ≡ s
+    begun.read ≡ access.Nothing → begun.write ≡ access.Nothing → NoneMoves begun.counts s 12 → after_transfers s begun turns ≡ s
 nothing_moves s begun turns read write idle =
     let told = word_of (slice_get turns 0) in
     let done = word_of (slice_get turns 1) in
@@ -98,21 +102,16 @@ nothing_moves s begun turns read write idle =
     (ap (λ a. after_read (word_read a told) s) read ∙ ap (λ w. after_read w s) (nothing_done told).0)
     (ap (λ a. after_write (is_written a done) s) write ∙ ap (λ b. after_write b s) (nothing_done done).1)
 
-pub stays_by : (s : State) (counts : ℕ) → list_all is_idle_timer s.timers ≡ true → AreIdle counts s 12 → StaysBy counts s
-stays_by s counts timers idle = record { timers = timers; idle = idle }
+pub unmoved_cycle : (s : State) (begun : BegunTransfer) (turns : List Turn) → NoneMoves begun.counts s 12 → list_any runs s.timers ≡ false
+    → begun.read ≡ access.Nothing → begun.write ≡ access.Nothing → next s begun turns ≡ s
+unmoved_cycle s begun turns none off read write = unmoved_by s begun turns off (nothing_moves s begun turns read write none)
 
-pub unmoved_cycle : (s : State) (begun : BegunTransfer) (turns : List Turn) → StaysBy begun.counts s →
-    begun.read ≡ access.Nothing → begun.write ≡ access.Nothing → next s begun turns ≡ s
-unfolding next
-unmoved_cycle s begun turns h read write =
-    ap (after_timers (gets_credit s)) (nothing_moves s begun turns read write h.idle) ∙ stopped s h.timers
+-- ---- an engine that awaits credits
 
--- ---- what a paused engine is
-
-record Pauses (s : State) : Type 0 where
+record AwaitsCredits (s : State) : Type 0 where
   chosen : s.chosen ≡ None
   waiting : s.waiting ≡ []
-  channels : list_all is_paused_channel s.channels ≡ true
+  channels : list_all awaits_credit s.channels ≡ true
 
 none_is : (o : Option ℕ) → is_some o ≡ false → o ≡ None
 none_is None h = refl
@@ -122,17 +121,17 @@ empty_is : (ws : List WaitingWrite) → nat_eq (length ws) 0 ≡ true → ws ≡
 empty_is [] h = refl
 empty_is (w ∷ ws) h = absurd (grind (arith, nat_tests, common_steps))
 
-pauses : (s : State) → is_paused s ≡ true → Pauses s
-unfolding is_paused
-pauses s h =
+parts : (s : State) → awaits_credits s ≡ true → AwaitsCredits s
+unfolding awaits_credits
+parts s h =
     let first = and_parts (is_none s.chosen) _ h in
     let others = and_parts (nat_eq (length s.waiting) 0) _ first.1 in
     record { chosen = none_is s.chosen (not-true _ first.0); waiting = empty_is s.waiting others.0; channels = others.1 }
 
-paused_at : (cs : List Channel) (n : ℕ) → list_all is_paused_channel cs ≡ true → is_paused_channel (get_or cs n idle_channel) ≡ true
-paused_at [] n h = refl
-paused_at (c ∷ cs) zero h = (and_parts (is_paused_channel c) _ h).0
-paused_at (c ∷ cs) (suc n) h = paused_at cs n (and_parts (is_paused_channel c) _ h).1
+awaits_at : (cs : List Channel) (n : ℕ) → list_all awaits_credit cs ≡ true → awaits_credit (get_or cs n idle_channel) ≡ true
+awaits_at [] n h = refl
+awaits_at (c ∷ cs) zero h = (and_parts (awaits_credit c) _ h).0
+awaits_at (c ∷ cs) (suc n) h = awaits_at cs n (and_parts (awaits_credit c) _ h).1
 
 none_left : (n : ℕ) → nat_eq n 0 ≡ true → nat_lt 0 n ≡ false
 none_left zero h = refl
@@ -167,19 +166,19 @@ no_wait_by true false uses true none h = absurd (cc)
 no_wait_by true true false true none h = absurd (cc)
 no_wait_by true true true true none h = absurd (cc)
 
-paused_idle : (s : State) (counts : ℕ) → Pauses s → AreIdle counts s 12
-paused_idle s counts p = record {
+none_moves : (s : State) (counts : ℕ) → AwaitsCredits s → NoneMoves counts s 12
+none_moves s counts p = record {
   choice = λ n low.
       no_candidate_by (channel_at n s).busy (not (nat_eq (channel_at n s).count 0)) (lacks_credit (channel_at n s))
-      (is_ready counts (channel_at n s) s) (paused_at s.channels n p.channels) (not_ready (channel_at n s) counts s);
+      (is_ready counts (channel_at n s) s) (awaits_at s.channels n p.channels) (not_ready (channel_at n s) counts s);
   ends = λ n low.
-      not_over_by (channel_at n s).busy (nat_eq (channel_at n s).count 0) (lacks_credit (channel_at n s)) _ (paused_at s.channels n p.channels);
+      not_over_by (channel_at n s).busy (nat_eq (channel_at n s).count 0) (lacks_credit (channel_at n s)) _ (awaits_at s.channels n p.channels);
 }
 
-none_waits : (cs : List Channel) → list_all is_paused_channel cs ≡ true → list_any waits_for_counts cs ≡ false
+none_waits : (cs : List Channel) → list_all awaits_credit cs ≡ true → list_any waits_for_counts cs ≡ false
 none_waits [] h = refl
 none_waits (c ∷ cs) h =
-    let both = and_parts (is_paused_channel c) _ h in
+    let both = and_parts (awaits_credit c) _ h in
     let waits : waits_for_counts c ≡ false =
     no_wait_by c.busy (not (nat_eq c.count 0)) (uses_credits (pace_of (treq_of c))) (nat_lt (treq_of c) 0x3B) (nat_eq c.credits 0) both.0 in
     rw waits (none_waits cs both.1)
@@ -195,9 +194,9 @@ pub begins_nothing : (s : State) (counts : ℕ) → is_some s.chosen ≡ false �
     asks_read counts s ≡ Ready (begun_with counts access.Nothing access.Nothing)
 begins_nothing s counts h e = reads_none s counts (none_is s.chosen h) (empty_is s.waiting e)
 
-pub asks-paused : (s : State) → is_paused s ≡ true → asks s ≡ Ready idle_begun
+pub asks_nothing : (s : State) → awaits_credits s ≡ true → asks s ≡ Ready idle_begun
 unfolding asks
-asks-paused s h = let p : Pauses s = pauses s h in rw (none_waits s.channels p.channels) (reads_none s 0 p.chosen p.waiting)
+asks_nothing s h = let p = parts s h in rw (none_waits s.channels p.channels) (reads_none s 0 p.chosen p.waiting)
 
 -- ---- its cycle
 
@@ -211,21 +210,33 @@ none_written : (done : Bool) (s : State) → s.waiting ≡ [] → after_write do
 none_written true s h = ap (λ ws. record s { waiting = drop 1 ws }) h ∙ sym (ap (λ ws. record s { waiting = ws }) h)
 none_written false s h = refl
 
-paused_moves : (s : State) (begun : BegunTransfer) (turns : List Turn) → is_paused s ≡ true → after_transfers s begun turns ≡ s
-paused_moves s begun turns h =
-    let p : Pauses s = pauses s h in
-    moves_none s begun turns (paused_idle s begun.counts p) (none_read _ s p.chosen) (none_written _ s p.waiting)
+no_transfer : (s : State) (begun : BegunTransfer) (turns : List Turn) → awaits_credits s ≡ true → after_transfers s begun turns ≡ s
+no_transfer s begun turns h =
+    let p = parts s h in
+    moves_none s begun turns (none_moves s begun.counts p) (none_read _ s p.chosen) (none_written _ s p.waiting)
 
-pub next-paused : (s : State) (begun : BegunTransfer) (turns : List Turn) → is_paused s ≡ true → list_any gives s.timers ≡ false →
+pub next-credits : (s : State) (begun : BegunTransfer) (turns : List Turn) → awaits_credits s ≡ true → list_any gives s.timers ≡ false →
     next s begun turns ≡ with_stepped_timers s
-unfolding next
-next-paused s begun turns h none = ap (after_timers (gets_credit s)) (paused_moves s begun turns h) ∙ timers_alone s s none
+next-credits s begun turns h none = next-without s begun turns none ∙ ap with_stepped_timers (no_transfer s begun turns h)
 
-pub stays-paused : (s : State) → is_paused s ≡ true → list_all is_idle_timer s.timers ≡ true → Stays s
-unfolding next
-stays-paused s h idle = record {
-  stays = λ begun turns. ap (after_timers (gets_credit s)) (paused_moves s begun turns h) ∙ stopped s idle;
-}
+pub stays-credits : (s : State) (begun : BegunTransfer) (turns : List Turn) → awaits_credits s ≡ true → list_any runs s.timers ≡ false →
+    next s begun turns ≡ s
+stays-credits s begun turns h off = unmoved_by s begun turns off (no_transfer s begun turns h)
+
+-- ---- the timers alone step
+
+-- what it awaits is the same
+pub kept : (w : Awaited) (s : State) (f : PacingTimer → PacingTimer) → ((t : PacingTimer) → runs t ≡ false → f t ≡ t) → Awaits w s
+    → Awaits w (record s { timers = map f s.timers })
+unfolding awaits_credits
+kept awaited.Nothing s f each h = tt
+kept awaited.RegisterWrite s f each h = (h.0, rw (all_stand s.timers f each h.1) h.1)
+kept awaited.Credit s f each h = h
+kept (awaited.OtherCounts counts) s f each h =
+    subst (λ ts. Awaits (awaited.OtherCounts counts) (record s { timers = ts })) (sym (all_stand s.timers f each h.1)) h
+
+pub kept_stepped : (w : Awaited) (s : State) → Awaits w s → Awaits w (with_stepped_timers s)
+kept_stepped w s h = kept w s stepped stands h
 
 -- ---- the interrupt lines
 
@@ -241,8 +252,6 @@ silent_lines s h =
     ap (λ b. b ∷ is_raised s.raised s.line_1 ∷ []) (silent s.line_0.enable s.line_0.force s.raised first.0 first.1)
     ∙ ap (λ b. false ∷ b ∷ []) (silent s.line_1.enable s.line_1.force s.raised first.0 both.1)
 
-pub ruleset unmoved = (unmoved_cycle)
+pub ruleset unmoved = (unmoved_cycle, stays-credits)
 
-pub ruleset stepping = (next-without, next-paused)
-
-pub ruleset paused = (asks-paused, stays-paused)
+pub ruleset stepping = (next-without, next-credits, kept_stepped)
