@@ -51,6 +51,6 @@ impl BegunTransfer {
         ensures read { result ≡ true → self.now.read ≡ Access.Nothing }
         ensures write { result ≡ true → self.now.write ≡ Access.Nothing }
     {
-        matches!((self.read, self.write), (Access::Nothing, Access::Nothing))
+        matches!(self.read, Access::Nothing) && matches!(self.write, Access::Nothing)
     }
 }

@@ -83,8 +83,7 @@ impl Engine {
         requires { GivesNone self.old n }
         ensures { self.new ≡ engine_after n self.old }
     {
-        let timers = all_passed(&self.timers, n);
-        self.timers = timers;
+        self.timers = all_passed(&self.timers, n);
     }
 }
 
