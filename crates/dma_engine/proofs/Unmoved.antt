@@ -1,8 +1,7 @@
 -- Where no channel can be chosen or is over, and nothing is read or written, the timers alone step; so they do in an engine that awaits
 -- credits.
 use Rattle.std.proofs.Common.{◌≡◌, ℕ, zero, suc, Bool, true, false, not, ◌&&◌, ◌||◌, List, [], ◌∷◌, length, map, drop, nat_eq, nat_lt, get_or, refl, ap, sym, subst, ◌∙◌, arith, Option, Some, None}
-use Rattle.std.specs.Prelude.{is_none, is_some, slice_get, bit_and, bit_or}
-use Rattle.std.specs.Int.Bits.{and_zero_l}
+use Rattle.std.specs.Prelude.{is_none, is_some, slice_get}
 use Rattle.std.specs.List.{list_all, list_any}
 use Rattle.std.proofs.lemmas.Grind.{common_steps}
 use Rattle.std.proofs.lemmas.Bool.{and_parts, and_right, or_parts, not-true, cond_both}
@@ -25,7 +24,6 @@ use Rattle.dma_engine.specs.Requests.Pace.{Timer}
 use Rattle.dma_engine.specs.Timer.{runs, gives, stepped, given_by, is_given, gets_credit, with_credit, with_stepped_timers, after_timers}
 use Rattle.dma_engine.specs.Cycle.{uses_credits, word_of, word_read, is_written, after_read, after_read_of, with_read_by, with_read, after_write, after_write_of, choice_where_none, after_choice, after_transfers, next}
 use Rattle.dma_engine.specs.Awaited.{lacks_credit, awaits_credit, awaits_credits, NoneMoves, Awaits}
-use Rattle.dma_engine.specs.Words.{is_silent, is_raised, lines_of}
 use Rattle.dma_engine.proofs.InTurn.{after_ends-none, in_turn-all_failing}
 use Rattle.dma_engine.proofs.Search.{no_choice}
 
@@ -237,20 +235,6 @@ kept (awaited.OtherCounts counts) s f each h =
 
 pub kept_stepped : (w : Awaited) (s : State) → Awaits w s → Awaits w (with_stepped_timers s)
 kept_stepped w s h = kept w s stepped stands h
-
--- ---- the interrupt lines
-
-silent : (e f r : ℕ) → nat_eq r 0 ≡ true → nat_eq f 0 ≡ true → not (nat_eq (bit_or (bit_and r e) f) 0) ≡ false
-silent e zero zero h i = ap (λ n. not (nat_eq (bit_or n 0) 0)) (and_zero_l e)
-silent e (suc f) zero h i = absurd (grind (arith, nat_tests, common_steps))
-silent e f (suc r) h i = absurd (grind (arith, nat_tests, common_steps))
-
-pub silent_lines : (s : State) → is_silent s ≡ true → lines_of s ≡ false ∷ false ∷ []
-silent_lines s h =
-    let both = and_parts (nat_eq s.raised 0 && nat_eq s.line_0.force 0) _ h in
-    let first = and_parts (nat_eq s.raised 0) _ both.0 in
-    ap (λ b. b ∷ is_raised s.raised s.line_1 ∷ []) (silent s.line_0.enable s.line_0.force s.raised first.0 first.1)
-    ∙ ap (λ b. false ∷ b ∷ []) (silent s.line_1.enable s.line_1.force s.raised first.0 both.1)
 
 pub ruleset unmoved = (unmoved_cycle, stays-credits)
 

@@ -36,8 +36,8 @@ stopped_timer = record { x = 0; y = 0; accumulator = 0 }
 abbrev pub timer_at : ℕ → List PacingTimer → PacingTimer
 timer_at k timers = slice_index_or timers k stopped_timer
 
-abbrev pub silent_line : InterruptLine
-silent_line = record { enable = 0; force = 0 }
+abbrev pub low_line : InterruptLine
+low_line = record { enable = 0; force = 0 }
 
 -- after a reset nothing is in progress and every register is 0; the first channel to be looked at is channel 0, which
 -- follows channel 11
@@ -49,7 +49,7 @@ at_reset =
       last_chosen = 11;
       waiting = [];
       raised = 0;
-      line_0 = silent_line;
-      line_1 = silent_line;
+      line_0 = low_line;
+      line_1 = low_line;
       timers = replicate 4 stopped_timer;
     }

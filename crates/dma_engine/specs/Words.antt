@@ -1,6 +1,6 @@
 -- The registers of the engine (RP2040 Datasheet, 2.5.7, List of Registers), by their offsets after 50000000.
 use Prim.Native.String.{String}
-use Rattle.std.specs.Prelude.{ℕ, ◌+◌, ◌-◌, ◌*◌, ◌/◌, ◌%◌, ◌^◌, Bool, not, ◌&&◌, ◌==◌, if◌then◌else◌, List, [], ◌∷◌, ◌++◌, Option, bit_and, bit_or, slice_set, ⊤}
+use Rattle.std.specs.Prelude.{ℕ, ◌+◌, ◌-◌, ◌*◌, ◌/◌, ◌%◌, ◌^◌, Bool, not, ◌==◌, if◌then◌else◌, List, [], ◌∷◌, ◌++◌, Option, bit_and, bit_or, slice_set, ⊤}
 use Rattle.rp_base.specs.Rows.{Row, read_only, write_only, read_write, repeated, word_at, has_row, effect_at, IsListed, IsHeld}
 use Rattle.rp_base.specs.Word.{has_bit, bit_number}
 use Rattle.dma_engine.specs.declared.channel.Channel.{Channel}
@@ -136,7 +136,3 @@ is_raised raised line = not (status_of raised line == 0)
 
 abbrev pub lines_of : State → List Bool
 lines_of s = is_raised s.raised s.line_0 ∷ is_raised s.raised s.line_1 ∷ []
-
--- nothing is raised and nothing forced
-abbrev pub is_silent : State → Bool
-is_silent s = s.raised == 0 && s.line_0.force == 0 && s.line_1.force == 0

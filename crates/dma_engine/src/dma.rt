@@ -29,10 +29,10 @@ impl Model for Dma {
 }
 
 impl Dma {
-    ghost use Rattle.std.specs.Prelude.{Decides, false, true, ◌∷◌, []};
+    ghost use Rattle.std.specs.Prelude.{Decides};
     ghost use Rattle.dma_engine.specs.Cycle.{next};
     ghost use Rattle.dma_engine.specs.State.{at_reset};
-    ghost use Rattle.dma_engine.specs.Words.{word_of, is_word, effect_of, is_silent, lines_of};
+    ghost use Rattle.dma_engine.specs.Words.{word_of, is_word, effect_of, lines_of};
 
     /// The engine in its reset state: no channel is busy, and every register is 0.
     pub fn new() -> Dma
@@ -93,17 +93,8 @@ impl Dma {
         self.engine.is_same(&other.engine)
     }
 
-    /// No interrupt is raised or forced, so that both lines are low.
-    #[inline(always)]
-    #[tactic(auto, using(crate::proofs::Unmoved::silent_lines))]
-    pub fn is_silent(&self) -> bool
-        ensures value { result ≡ is_silent self.now }
-        ensures lines { result ≡ true → lines_of self.now ≡ false ∷ false ∷ [] }
-    {
-        self.engine.raised == 0 && self.engine.line_0.force == 0 && self.engine.line_1.force == 0
-    }
-
     /// The two interrupt lines, DMA_IRQ_0 and DMA_IRQ_1: some bit of INTS0, and some bit of INTS1.
+    #[inline(always)]
     pub fn lines(&self) -> [bool; 2]
         ensures { result ≡ lines_of self.now }
     {

@@ -56,13 +56,14 @@ impl Engine {
             last_chosen: CHANNELS - 1,
             waiting: ArrayVec::new(),
             raised: 0,
-            line_0: InterruptLine::SILENT,
-            line_1: InterruptLine::SILENT,
+            line_0: InterruptLine::LOW,
+            line_1: InterruptLine::LOW,
             timers: [PacingTimer::STOPPED; 4],
         }
     }
 
     /// The two interrupt lines.
+    #[inline(always)]
     pub(crate) fn lines(&self) -> [bool; 2]
         ensures { result ≡ lines_of self.now }
     {

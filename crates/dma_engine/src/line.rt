@@ -14,12 +14,13 @@ pub struct InterruptLine {
 
 impl InterruptLine {
     /// A line after a reset.
-    pub(crate) const SILENT: InterruptLine = InterruptLine {
+    pub(crate) const LOW: InterruptLine = InterruptLine {
         enable: 0,
         force: 0,
     };
 
     /// INTS, where these interrupts are raised.
+    #[inline(always)]
     pub(crate) fn status(&self, raised: u16) -> u16
         ensures { result ≡ status_of raised self.now }
     {
@@ -27,6 +28,7 @@ impl InterruptLine {
     }
 
     /// Some bit of INTS is set.
+    #[inline(always)]
     pub(crate) fn is_raised(&self, raised: u16) -> bool
         ensures { result ≡ is_raised raised self.now }
     {

@@ -138,10 +138,6 @@ outs_of s = s.levels % 2 ^ 30 ∷ s.enables % 2 ^ 30 ∷ []
 abbrev pub lines_of : State → List Bool
 lines_of s = not (ints0_of s == 0) ∷ not (ints1_of s == 0) ∷ []
 
--- nothing is enabled and nothing forced
-abbrev pub is_silent : State → Bool
-is_silent s = s.inte0 == 0 && s.intf0 == 0 && s.inte1 == 0 && s.intf1 == 0
-
 -- the word at the new PC was not tried yet
 abbrev pub counter_set : ℕ → ℕ → State → State
 counter_set n address s = with_machines (changed n (with_pc address) s.machines) s

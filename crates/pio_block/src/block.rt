@@ -15,8 +15,6 @@ pub struct PioBlock {
     pub(crate) state: State,
     /// A machine is enabled, or a written word waits.
     pub(crate) busy: bool,
-    /// No interrupt is enabled or forced.
-    silent: bool,
     /// The counts that pace DMA channels, in one number, where the block is not busy.
     pub(crate) counts: u64,
 }
@@ -29,14 +27,14 @@ impl Model for PioBlock {
 
     ghost view = { λ b. b.state };
 
-    ghost invariant = { λ b. StandBeside b.busy b.silent b.counts b.state };
+    ghost invariant = { λ b. StandBeside b.busy b.counts b.state };
 }
 
 impl PioBlock {
-    ghost use Rattle.std.specs.Prelude.{◌≡◌, ◌<◌, Decides, true, false, ◌∷◌, []};
+    ghost use Rattle.std.specs.Prelude.{◌≡◌, ◌<◌, Decides};
     ghost use Rattle.pio_block.specs.State.{at_reset, machine_of, is_busy};
     ghost use Rattle.pio_block.specs.Cycle.{after_cycle};
-    ghost use Rattle.pio_block.specs.Words.{word_of, effect_of, is_allowed, pacing_of, register_list, counter_set, outs_of, is_silent, lines_of};
+    ghost use Rattle.pio_block.specs.Words.{word_of, effect_of, is_allowed, pacing_of, register_list, counter_set, outs_of, lines_of};
     ghost use Rattle.pio_block.specs.Beside.{packed_counts};
 
     /// The reset state: no machine is enabled, and all FIFOs are empty.
@@ -48,7 +46,6 @@ impl PioBlock {
         PioBlock {
             state,
             busy: false,
-            silent: true,
             counts,
         }
     }
@@ -75,7 +72,6 @@ impl PioBlock {
         let allowed = self.state.effect(offset, write);
         self.busy = self.state.is_busy();
         self.counts = self.state.idle_counts(self.busy);
-        self.silent = self.state.is_silent();
         allowed
     }
 
@@ -115,7 +111,6 @@ impl PioBlock {
         self.state.set_counter(machine, address);
         self.busy = self.state.is_busy();
         self.counts = self.state.idle_counts(self.busy);
-        self.silent = self.state.is_silent();
     }
 
     /// What the machines have written to pins 0 to 29: the levels, and the enables.
@@ -131,15 +126,6 @@ impl PioBlock {
         ensures { result ≡ lines_of self.now }
     {
         self.state.lines()
-    }
-
-    /// No interrupt is enabled or forced, so that both lines are low.
-    #[inline(always)]
-    pub fn is_silent(&self) -> bool
-        ensures value { result ≡ is_silent self.now }
-        ensures lines { result ≡ true → lines_of self.now ≡ false ∷ false ∷ [] }
-    {
-        self.silent
     }
 
     /// A cycle in which the block steps.
@@ -174,7 +160,6 @@ impl PioBlock {
     {
         self.state.copy_from(&other.state);
         self.busy = other.busy;
-        self.silent = other.silent;
         self.counts = other.counts;
     }
 }

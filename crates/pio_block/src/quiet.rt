@@ -7,7 +7,6 @@ use crate::state::State;
 impl State {
     ghost use Rattle.std.specs.Prelude.{◌≡◌};
     ghost use Rattle.pio_block.specs.Quiet.{HasWords, IsQuiet, block_after};
-    ghost use Rattle.pio_block.specs.Words.{is_silent};
 
     /// The flags are a byte, and the levels and enables words. It costs nothing.
     #[inline(always)]
@@ -31,8 +30,7 @@ impl State {
 
     /// So many cycles at once, in which all machines only wait.
     fn pass(&mut self, n: u64)
-        ensures after { self.new ≡ block_after n self.old }
-        ensures silent { is_silent self.new ≡ is_silent self.old }
+        ensures { self.new ≡ block_after n self.old }
     {
         self.machines.pass(n);
     }

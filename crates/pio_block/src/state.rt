@@ -89,7 +89,7 @@ fn packed_eight(counts: [u8; 8]) -> u64
 impl State {
     ghost use Rattle.std.specs.Prelude.{◌≡◌, ◌<◌, Decides, false};
     ghost use Rattle.pio_block.specs.State.{at_reset, is_busy, machine_of};
-    ghost use Rattle.pio_block.specs.Words.{counter_set, pacing_of, register_list, outs_of, is_silent};
+    ghost use Rattle.pio_block.specs.Words.{counter_set, pacing_of, register_list, outs_of};
     ghost use Rattle.pio_block.specs.Beside.{packed_counts};
     ghost use Rattle.pio_block.specs.Cycle.{seen_by, all_written, with_stepped, joined, after_cycle};
 
@@ -153,8 +153,7 @@ impl State {
     /// A cycle of the block.
     #[tactic(auto, unfolding(crate::specs::Cycle::after_cycle, crate::specs::Cycle::joined))]
     pub(crate) fn step(&mut self, inputs: Inputs)
-        ensures after { self.new ≡ after_cycle inputs.now inputs.second self.old }
-        ensures silent { is_silent self.new ≡ is_silent self.old }
+        ensures { self.new ≡ after_cycle inputs.now inputs.second self.old }
     {
         let done = self.step_machines(inputs);
         self.join(&done);

@@ -21,7 +21,7 @@ impl State {
     ghost use Rattle.rp_base.specs.Rows.{word_at, effect_at};
     ghost use Rattle.pio_block.specs.Control.{control_written};
     ghost use Rattle.pio_block.specs.Queues.{fdebug_of, debug_written, sent, taken, first_of, is_rx_empty};
-    ghost use Rattle.pio_block.specs.Words.{control_rows, fifo_rows, pin_rows, memory_rows, interrupt_rows, intr_of, ints_of, ints0_of, ints1_of, word_of, after_any, effect_of, is_allowed, is_silent, lines_of};
+    ghost use Rattle.pio_block.specs.Words.{control_rows, fifo_rows, pin_rows, memory_rows, interrupt_rows, intr_of, ints_of, ints0_of, ints1_of, word_of, after_any, effect_of, is_allowed, lines_of};
 
     /// FDEBUG.
     #[tactic(auto, unfolding(crate::specs::Queues::fdebug_of))]
@@ -202,14 +202,6 @@ impl State {
             return u32::from(self.intf1);
         }
         (self.intr() & u32::from(self.inte1)) | u32::from(self.intf1)
-    }
-
-    /// No interrupt of a line is enabled or forced.
-    #[inline(always)]
-    pub(crate) fn is_silent(&self) -> bool
-        ensures { result ≡ is_silent self.now }
-    {
-        self.inte0 == 0 && self.intf0 == 0 && self.inte1 == 0 && self.intf1 == 0
     }
 
     /// Both interrupt lines.

@@ -2,48 +2,19 @@
 
 ghost use Rattle.std.specs.Prelude.{◌≡◌, ◌+◌, ◌*◌, ◌^◌, ◌≤◌, ◌<◌};
 ghost use Rattle.dma_engine.specs.Pace.{packed_counts};
-ghost use Rattle.dma_engine.specs.Words as dma;
-ghost use Rattle.pio_block.specs.Words as pio;
 ghost use Rattle.rp_machine.specs.Answers.{pair_number, packed_pair, sio_lines};
 
 use crate::machine::Machine;
-use dma_engine::Dma;
-use pio_block::PioBlock;
 use sio_block::Sio;
 
 /// Two lines, the first one lowest.
+#[inline(always)]
 fn pair_number(lines: [bool; 2]) -> u32
     ensures value { result ≡ pair_number lines }
     ensures small { result ≤ 3 }
 {
     let [first, second] = lines;
     u32::from(first) + u32::from(second) * 2
-}
-
-/// The lines of a PIO block. Most often none of them can be high, which costs a test.
-#[inline(always)]
-fn pio_lines(block: &PioBlock) -> u32
-    ensures value { result ≡ pair_number (pio.lines_of block.now) }
-    ensures small { result ≤ 3 }
-{
-    if block.is_silent() {
-        0
-    } else {
-        pair_number(block.lines())
-    }
-}
-
-/// The lines of the DMA engine, likewise.
-#[inline(always)]
-fn dma_lines(engine: &Dma) -> u32
-    ensures value { result ≡ pair_number (dma.lines_of engine.now) }
-    ensures small { result ≤ 3 }
-{
-    if engine.is_silent() {
-        0
-    } else {
-        pair_number(engine.lines())
-    }
 }
 
 /// The line of SIO to a core.
@@ -87,9 +58,9 @@ impl Machine {
         ensures value { result ≡ shared_lines self.now }
         ensures small { result < 2 ^ 13 }
     {
-        pio_lines(&self.pio0.block) * 0x80
-            + pio_lines(&self.pio1.block) * 0x200
-            + dma_lines(&self.dma.block) * 0x800
+        pair_number(self.pio0.block.lines()) * 0x80
+            + pair_number(self.pio1.block.lines()) * 0x200
+            + pair_number(self.dma.block.lines()) * 0x800
     }
 
     /// The interrupt lines of core 0 or 1, line 0 in bit 0 (RP2040 Datasheet, 2.3.2, Interrupts).
