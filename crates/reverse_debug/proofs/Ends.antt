@@ -1,5 +1,5 @@
 -- Moves forward that do not end on the way.
-use Rattle.reverse_debug.proofs.Shared.{Advances, Approaches, Bool, IsQuiet, List, None, NoneEnds, Option, Path, SeesAs, Setting, Some, State, Why, add-one, ap, arith, begins, cases_Bool, cases_lt, ends, ends_by, eq-eqb, eqb-true, false, has_bit, if◌then◌else◌, inl, inr, is_begun, lt-ltb, nat_lt, nat_tests, next, not, or_zero, place_of, refl, seen, sought, states, states_here, stop, subst, suc, sym, true, zero, ℕ, ◌&&◌, ◌+◌, ◌-◌, ◌<◌, ◌==◌, ◌∙◌, ◌≡◌, ◌≤◌}
+use Rattle.reverse_debug.proofs.Shared.{Advances, Approaches, Bool, IsQuiet, List, None, NoneEnds, Option, Path, SeesAs, Setting, Some, State, Why, add-one, and_parts, ap, arith, begins, cases_lt, ends, ends_by, eq-eqb, false, has_bit, if◌then◌else◌, inl, inr, is_begun, lt-ltb, ltb-true, nat_lt, nat_tests, next, not, or_zero, place_of, refl, seen, sought, states, states_here, stop, subst, suc, sym, true, zero, ℕ, ◌&&◌, ◌+◌, ◌-◌, ◌<◌, ◌==◌, ◌∙◌, ◌≡◌, ◌≤◌}
 use Rattle.io_bank.specs.State.{State as Bank}
 use Rattle.rp_machine.specs.Reads.{begins_of}
 use Rattle.rp_machine.specs.Sram.{ram_word}
@@ -13,10 +13,7 @@ use Rattle.reverse_debug.proofs.Paths.{joined, one_on, none_first, states_within
 -- ---- what was seen before
 
 no_change : (b y : ℕ) → not (y == b) ≡ false → b ≡ y
-no_change b y h = elim (cases_Bool (y == b)) [
-  | inl is ↦ sym (eqb-true y b is)
-  | inr other ↦ absurd (let bad : true ≡ false = sym (ap not other) ∙ h in cc bad)
-]
+no_change b y h = grind (arith, nat_tests, h)
 
 sees_same : (watched : Watched) (b y : ℕ) → ends_by watched b y ≡ false → (x : ℕ) → ends_by watched b x ≡ ends_by watched y x
 sees_same (Word address) b y h x = ap (λ n. not (x == n)) (no_change b y h)
@@ -29,12 +26,8 @@ sees_here watched b s e x = ap (λ n. ends_by watched n x) e
 same_level : (x y : ℕ) → x ≡ y → not (x == y) ≡ false
 same_level x y e = ap not (eq-eqb x y e)
 
-neither_by : (first : Bool) (t : State) → begins t.core0 ≡ None → begins t.core1 ≡ None → (if first then begins t.core0 else begins t.core1) ≡ None
-neither_by true t h k = h
-neither_by false t h k = k
-
 begins_neither : (core : ℕ) (t : State) → begins t.core0 ≡ None → begins t.core1 ≡ None → begins_of core t ≡ None
-begins_neither core t h k = neither_by (core == 0) t h k
+begins_neither core t h k = elim (core == 0) as (λ first. (if first then begins t.core0 else begins t.core1) ≡ None) [ true ↦ h | false ↦ k ]
 
 -- a move forward does not end where the pads stay
 pub pin_stays : (pin b : ℕ) (s t : State) → SeesAs (Pin pin) b s → t.outer.pads ≡ s.outer.pads → ends_by (Pin pin) b (seen (Pin pin) t) ≡ false
@@ -128,12 +121,7 @@ pub unended_none : (w : Setting) (watched : Watched) (s : State) (to steps : ℕ
 unended_none w watched s to steps way = record { way = way; none = λ k lt. absurd (omega arith) }
 
 some_passed : (n : ℕ) (b : Bool) → (nat_lt 0 n && b) ≡ true → 0 < n
-some_passed n b h = elim (cases_lt 0 n) [
-  | inl lt ↦ lt
-  | inr le ↦
-      let none : nat_lt 0 n ≡ false = grind (arith, nat_tests) in
-      absurd (let bad : false ≡ true = sym (ap (λ t. t && b) none) ∙ h in cc bad)
-]
+some_passed n b h = ltb-true 0 n (and_parts (nat_lt 0 n) b h).0
 
 -- cycles that were passed at once, where the last of them is no end
 pub unended_passed : (w : Setting) (watched : Watched) (s t u : State) (to before now after b n most : ℕ) → Unended w watched s t to before now → SeesAs watched b t

@@ -1,6 +1,7 @@
 -- Lines of texts that stand one behind another.
-use Rattle.reverse_debug.proofs.Shared.{Bool, HasNoEnd, List, [], all_lines, ap, append_assoc, closes, complete_from, complete_lines, false, has_last, if◌then◌else◌, open_from, open_line, refl, sym, true, unless_empty, until, without_cr, ℕ, ◌++◌, ◌==◌, ◌||◌, ◌∙◌, ◌∷◌, ◌≡◌}
+use Rattle.reverse_debug.proofs.Shared.{Bool, HasNoEnd, List, [], all_lines, ap, append_assoc, closes, complete_from, complete_lines, false, if◌then◌else◌, list_any, open_from, open_line, refl, sym, true, unless_empty, until, without_cr, ℕ, ◌++◌, ◌==◌, ◌||◌, ◌∙◌, ◌∷◌, ◌≡◌}
 use Rattle.std.proofs.lemmas.List.{append-nil}
+use Rattle.std.proofs.lemmas.List.Folds.{list_any-append}
 
 -- the complete lines of two texts are those of the first, and those of the second behind the line that the first leaves open
 pub complete_append : (held xs ys : List ℕ) → complete_from held (xs ++ ys) ≡ complete_from held xs ++ complete_from (open_from held xs) ys
@@ -72,40 +73,31 @@ all_open seen line whole none =
 
 -- ---- last lines
 
-has_last_more : (last : List ℕ → Bool) (xs ys : List (List ℕ)) → has_last last xs ≡ true → has_last last (xs ++ ys) ≡ true
-has_last_more last [] ys h = absurd (cc h)
-has_last_more last (x ∷ xs) ys h = elim (last x) as (λ b. (b || has_last last xs) ≡ true → (b || has_last last (xs ++ ys)) ≡ true) [
-  | true ↦ λ e. refl
-  | false ↦ λ e. has_last_more last xs ys e
-] h
-
-pub until_more : (last : List ℕ → Bool) (xs ys : List (List ℕ)) → has_last last xs ≡ true → until last xs ≡ until last (xs ++ ys)
+pub until_more : (last : List ℕ → Bool) (xs ys : List (List ℕ)) → list_any last xs ≡ true → until last xs ≡ until last (xs ++ ys)
 until_more last [] ys h = absurd (cc h)
-until_more last (x ∷ xs) ys h = elim (last x) as (λ b. (b || has_last last xs) ≡ true → (if b then [] else x ∷ until last xs) ≡ (if b then [] else x ∷ until last (xs ++ ys))) [
+until_more last (x ∷ xs) ys h = elim (last x) as (λ b. (b || list_any last xs) ≡ true → (if b then [] else x ∷ until last xs) ≡ (if b then [] else x ∷ until last (xs ++ ys))) [
   | true ↦ λ e. refl
   | false ↦ λ e. ap (λ l. x ∷ l) (until_more last xs ys e)
 ] h
 
 -- a last line that is complete stays so
 pub closes_more : (last : List ℕ → Bool) (xs ys : List ℕ) → closes last xs ≡ true → closes last (xs ++ ys) ≡ true
-closes_more last xs ys h = ap (has_last last) (complete_append [] xs ys) ∙ has_last_more last (complete_lines xs) (complete_from (open_line xs) ys) h
+closes_more last xs ys h =
+    let more = complete_from (open_line xs) ys in
+    ap (list_any last) (complete_append [] xs ys) ∙ list_any-append last (complete_lines xs) more ∙ ap (λ b. b || list_any last more) h
 
 -- where no line is a last one
-pub has_last_both : (last : List ℕ → Bool) (xs ys : List (List ℕ)) → has_last last xs ≡ false → has_last last (xs ++ ys) ≡ has_last last ys
-has_last_both last [] ys h = refl
-has_last_both last (x ∷ xs) ys h = elim (last x) as (λ b. (b || has_last last xs) ≡ false → (b || has_last last (xs ++ ys)) ≡ has_last last ys) [
-  | true ↦ λ e. absurd (cc e)
-  | false ↦ λ e. has_last_both last xs ys e
-] h
+pub last_both : (last : List ℕ → Bool) (xs ys : List (List ℕ)) → list_any last xs ≡ false → list_any last (xs ++ ys) ≡ list_any last ys
+last_both last xs ys h = list_any-append last xs ys ∙ ap (λ b. b || list_any last ys) h
 
-pub until_both : (last : List ℕ → Bool) (xs ys : List (List ℕ)) → has_last last xs ≡ false → until last (xs ++ ys) ≡ xs ++ until last ys
+pub until_both : (last : List ℕ → Bool) (xs ys : List (List ℕ)) → list_any last xs ≡ false → until last (xs ++ ys) ≡ xs ++ until last ys
 until_both last [] ys h = refl
-until_both last (x ∷ xs) ys h = elim (last x) as (λ b. (b || has_last last xs) ≡ false → (if b then [] else x ∷ until last (xs ++ ys)) ≡ x ∷ (xs ++ until last ys)) [
+until_both last (x ∷ xs) ys h = elim (last x) as (λ b. (b || list_any last xs) ≡ false → (if b then [] else x ∷ until last (xs ++ ys)) ≡ x ∷ (xs ++ until last ys)) [
   | true ↦ λ e. absurd (cc e)
   | false ↦ λ e. ap (λ l. x ∷ l) (until_both last xs ys e)
 ] h
 
-pub until_all : (last : List ℕ → Bool) (xs : List (List ℕ)) → has_last last xs ≡ false → until last xs ≡ xs
+pub until_all : (last : List ℕ → Bool) (xs : List (List ℕ)) → list_any last xs ≡ false → until last xs ≡ xs
 until_all last xs h = sym (ap (until last) (append-nil xs)) ∙ until_both last xs [] h ∙ append-nil xs
 
 -- lines behind others come behind those that are left of them

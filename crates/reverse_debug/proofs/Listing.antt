@@ -16,12 +16,7 @@ five_pieces a p q r s t = simp (append_assoc, append-nil)
 
 -- the five registers of a PIO machine, one after another
 pub five_registers : (words a b c d e f : List ℕ) → length words ≡ 5 → b ≡ a ++ (32 ∷ drop 6 (hex_word (get_or words 0 0))) → c ≡ b ++ spaced_word (get_or words 1 0) → d ≡ c ++ spaced_word (get_or words 2 0) → e ≡ d ++ spaced_word (get_or words 3 0) → f ≡ e ++ spaced_word (get_or words 4 0) → f ≡ a ++ pio_words words
-five_registers [] a b c d e f five h i j k l = absurd (omega arith)
-five_registers (v ∷ []) a b c d e f five h i j k l = absurd (omega arith)
-five_registers (v ∷ w ∷ []) a b c d e f five h i j k l = absurd (omega arith)
-five_registers (v ∷ w ∷ x ∷ []) a b c d e f five h i j k l = absurd (omega arith)
-five_registers (v ∷ w ∷ x ∷ y ∷ []) a b c d e f five h i j k l = absurd (omega arith)
 five_registers (v ∷ w ∷ x ∷ y ∷ z ∷ []) a b c d e f five h i j k l =
     l ∙ ap (λ t. t ++ spaced_word z) (k ∙ ap (λ t. t ++ spaced_word y) (j ∙ ap (λ t. t ++ spaced_word x) (i ∙ ap (λ t. t ++ spaced_word w) h)))
     ∙ five_pieces a (32 ∷ drop 6 (hex_word v)) (spaced_word w) (spaced_word x) (spaced_word y) (spaced_word z)
-five_registers (v ∷ w ∷ x ∷ y ∷ z ∷ u ∷ more) a b c d e f five h i j k l = absurd (omega arith)
+five_registers _ a b c d e f five h i j k l = absurd (omega arith)

@@ -1,5 +1,5 @@
 -- Moves, and what is answered.
-use Rattle.reverse_debug.proofs.Shared.{Back, Before, Bool, Command, Does, End, Fits, Goes, GoesOn, Goto, IsNearBy, Lands, List, Moves, None, Option, Said, Setting, Snapshots, Some, Standing, StandsFor, State, StaysFor, Step, Until, Why, [], answer, ap, arith, at_last, at_or_last, at_or_start, at_reply, before_nth, behind_next, cases_lt, codes, command_cost, command_of, cond, cost, false, first_of, heard, inl, inr, is_quit, last_cycle, last_state, meant, move_cost, moved_back, moved_to, nat_lt, nat_tests, not, refl, said, stop, stop_text, subst, sym, true, ℕ, ◌++◌, ◌+◌, ◌-◌, ◌<◌, ◌^◌, ◌∙◌, ◌≡◌, ◌≤◌}
+use Rattle.reverse_debug.proofs.Shared.{Back, Before, Bool, Command, Does, Fits, Goes, GoesOn, Goto, IsNearBy, Lands, List, Moves, None, Option, Said, Setting, Snapshots, Some, Standing, StandsFor, State, StaysFor, Step, Until, Why, [], answer, ap, arith, at_last, at_or_last, at_or_start, at_reply, before_nth, behind_next, cases_lt, codes, command_cost, command_of, cond, cost, false, first_of, heard, inl, inr, is_quit, last_cycle, last_state, meant, move_cost, moved_back, moved_to, nat_lt, nat_tests, not, refl, said, stop, stop_text, subst, sym, true, ℕ, ◌++◌, ◌+◌, ◌-◌, ◌<◌, ◌^◌, ◌∙◌, ◌≡◌, ◌≤◌}
 use Rattle.reverse_debug.specs.declared.command.Command.{Command as Asked}
 use Rattle.reverse_debug.specs.declared.command.Command.TheVariants as code
 use Rattle.reverse_debug.proofs.Paths.{path_last, last_within}
@@ -131,19 +131,15 @@ sum_fits w old q now n k fits is e =
     let small : old.limit ≤ 1000000000 = k.small in
     omega arith
 
-obeys_end : (w : Setting) (v old new : Standing) (reply : List ℕ) (before after : ℕ) → v ≡ old → StandsFor w old →
-    Moves w old (moved_to w (first_of old) (v.limit + 1)) new reply before after → Obeys w old End new reply before after
-obeys_end w v old new reply before after e k does =
+pub end_obeyed : (w : Setting) (v old new : Standing) (q : Asked) (reply : List ℕ) (before after : ℕ) → q ≡ code.End → v ≡ old → StandsFor w old →
+    Moves w old (moved_to w (first_of old) (v.limit + 1)) new reply before after → Obeys w old (meant q) new reply before after
+end_obeyed w v old new q reply before after is e k does =
     let begins : (first_of old).cycle ≡ 0 = k.begins in
     let last : last_cycle w (first_of old) ≤ w.limit = last_within w (first_of old) (omega arith) in
     let same : old.limit ≡ w.limit = k.limit in
     let lim : v.limit ≡ old.limit = ap (λ (x : Standing). x.limit) e in
     let what = moved_to_end w (first_of old) (v.limit + 1) (omega arith) in
-    subst (λ (x : Said). Moves w old x new reply before after) what does
-
-pub end_obeyed : (w : Setting) (v old new : Standing) (q : Asked) (reply : List ℕ) (before after : ℕ) → q ≡ code.End → v ≡ old → StandsFor w old →
-    Moves w old (moved_to w (first_of old) (v.limit + 1)) new reply before after → Obeys w old (meant q) new reply before after
-end_obeyed w v old new q reply before after is e k does = subst (λ (x : Asked). Obeys w old (meant x) new reply before after) (sym is) (obeys_end w v old new reply before after e k does)
+    subst (λ (x : Asked). Obeys w old (meant x) new reply before after) (sym is) (subst (λ (x : Said). Moves w old x new reply before after) what does)
 
 quits_moved : (b : Bool) (x y : Said) → x.quits ≡ false → y.quits ≡ false → (cond b x y).quits ≡ false
 quits_moved true x y h k = h

@@ -1,6 +1,7 @@
 -- How a reader of lines goes over the bytes of a source.
 use Rattle.reverse_debug.proofs.Shared.{Ahead, Bool, Consumes, EndsBy, Fills, HasNoEnd, List, None, Option, Passes, Reads, Some, Splits, [], ap, append_assoc, arith, cond, drop, false, given_bytes, length, length-append, min, nat_le, nat_lt, not, position, position_or_len, refl, subst, suc, sym, take, true, zero, ℕ, ◌++◌, ◌+◌, ◌-◌, ◌<◌, ◌==◌, ◌∙◌, ◌∷◌, ◌≡◌, ◌≤◌}
 use Rattle.std.specs.Option.{option_map}
+use Rattle.std.proofs.Math.Seq.{take-append-add}
 use Rattle.std.proofs.lemmas.List.{append-nil, take_all, take-append-drop}
 use Rattle.rp_ports.specs.declared.source.Taken.TheVariants as taken
 use Rattle.reverse_debug.specs.declared.reader.Next.{Next}
@@ -58,9 +59,7 @@ given_both (suc n) (x ∷ xs) ys = ap (λ l. x ∷ l) (given_both n xs ys)
 
 -- so many of them as there is room for
 pub given_room : (n count : ℕ) (xs ys : List ℕ) → count + length xs ≡ n → xs ++ take count ys ≡ take n (xs ++ ys)
-given_room n count [] ys is = let same : count ≡ n = omega (arith, is) in ap (λ m. take m ys) same
-given_room zero count (x ∷ xs) ys is = absurd (omega (arith, is))
-given_room (suc n) count (x ∷ xs) ys is = ap (λ l. x ∷ l) (given_room n count xs ys (omega (arith, is)))
+given_room n count xs ys is = let far : length xs + count ≡ n = omega (arith, is) in sym (take-append-add xs ys count) ∙ ap (λ m. take m (xs ++ ys)) far
 
 -- as many as there are, or as there is room for
 pub given_some : (n count : ℕ) (xs ys : List ℕ) → length xs ≤ n → count ≡ min (length ys) (n - length xs) → xs ++ take count ys ≡ take n (xs ++ ys)

@@ -19,19 +19,10 @@ now_in_last w first s k =
     let reached : s.reached ≤ last_cycle w first = k.reached in
     omega arith
 
-some_spacing : (limit : ℕ) → 0 < spacing_of limit
-some_spacing limit = omega arith
-
-some_closer : (d : ℕ) → 0 < near_spacing d
-some_closer d = omega arith
-
-limit_in_spacings : (limit : ℕ) → limit ≤ 64 * spacing_of limit
-limit_in_spacings limit = omega arith
-
 now_in_spacings : (w : Setting) (first : State) (s : Standing) → IsAlong w first s → s.now.cycle ≤ 64 * s.ring.spacing
 now_in_spacings w first s k =
     let low : s.now.cycle ≤ w.limit = now_low w first s k in
-    let all : s.limit ≤ 64 * s.ring.spacing = subst (λ d. s.limit ≤ 64 * d) (sym k.spacing) (limit_in_spacings s.limit) in
+    let all : s.limit ≤ 64 * s.ring.spacing = subst (λ d. s.limit ≤ 64 * d) (sym k.spacing) (omega arith) in
     let same : s.limit ≡ w.limit = k.limit in
     omega arith
 
@@ -292,9 +283,6 @@ stayed w old target k le = record {
 pub part_low : (w : Setting) (v old : Standing) → v ≡ old → StandsFor w old → v.now.cycle ≤ w.limit
 part_low w v old e k = subst (λ (x : Standing). x.now.cycle ≤ w.limit) (sym e) (now_low w (first_of old) old k)
 
-low_spacing : (limit : ℕ) → limit ≤ 1000000000 → spacing_of limit ≤ 15625000
-low_spacing limit le = omega arith
-
 -- the numbers by which the next stop is found
 pub record HasStops (session : Standing) : Type 0 where
   pub some : 0 < session.ring.spacing
@@ -306,7 +294,7 @@ pub record HasStops (session : Standing) : Type 0 where
 
 has_stops : (w : Setting) (old : Standing) → StandsFor w old → HasStops old
 has_stops w old k =
-    let spacing : old.ring.spacing ≤ 15625000 = subst (λ d. d ≤ 15625000) (sym k.spacing) (low_spacing old.limit k.small) in
+    let spacing : old.ring.spacing ≤ 15625000 = subst (λ d. d ≤ 15625000) (sym k.spacing) (omega (arith, k.small)) in
     let low : old.now.cycle ≤ w.limit = now_low w (first_of old) old k in
     let same : old.limit ≡ w.limit = k.limit in
     let small : old.limit ≤ 1000000000 = k.small in
@@ -394,13 +382,13 @@ at_first machine limit = record {
 opened_first : (machine own : State) (limit : ℕ) → machine.cycle ≡ 0 → restored (state_at 0 (kept_with machine (empty (spacing_of limit) 0)).kept) own ≡ machine
 opened_first machine own limit begins =
     ap (λ n. restored (state_at n (kept_with machine (empty (spacing_of limit) 0)).kept) own) (sym begins)
-    ∙ ap (λ o. restored o own) ((keeping_is_faithful (empty (spacing_of limit) 0) machine).mine (due_first (spacing_of limit) 0 machine.cycle (some_spacing limit) begins))
+    ∙ ap (λ o. restored o own) ((keeping_is_faithful (empty (spacing_of limit) 0) machine).mine (due_first (spacing_of limit) 0 machine.cycle (omega arith) begins))
 
 opened_along : (w : Setting) (machine : State) (limit : ℕ) → machine.cycle ≡ 0 → limit ≤ 1000000000 → w.limit ≡ limit → IsAlong w machine (at_first machine limit)
 opened_along w machine limit begins small same =
     let is : machine ≡ states w machine machine.cycle = sym (ap (states w machine) begins ∙ none_first w machine) in
-    let some : 0 < spacing_of limit = some_spacing limit in
-    let closer : 0 < near_spacing (spacing_of limit) = some_closer (spacing_of limit) in
+    let some : 0 < spacing_of limit = omega arith in
+    let closer : 0 < near_spacing (spacing_of limit) = omega arith in
     let origin : (kept_with machine (empty (near_spacing (spacing_of limit)) 0)).origin ≡ 0 = origin_stays machine (empty (near_spacing (spacing_of limit)) 0) in
     record {
       limit = sym same;
@@ -432,7 +420,7 @@ opens machine limit begins small = record {
 }
 
 pub low_at_first : (limit spacing : ℕ) (r : Snapshots) → limit ≤ 1000000000 → r ≡ empty (spacing_of limit) 0 → spacing ≡ r.spacing → spacing ≤ 15625000
-low_at_first limit spacing r le e is = subst (λ n. n ≤ 15625000) (sym (is ∙ ap (λ (x : Snapshots). x.spacing) e)) (low_spacing limit le)
+low_at_first limit spacing r le e is = subst (λ n. n ≤ 15625000) (sym (is ∙ ap (λ (x : Snapshots). x.spacing) e)) (omega arith)
 
 pub opened : (machine s : State) (limit spacing : ℕ) (r n ring near : Snapshots) → machine.cycle ≡ 0 → limit ≤ 1000000000 → r ≡ empty (spacing_of limit) 0 → spacing ≡ r.spacing → n ≡ empty (near_spacing spacing) 0
     → ring ≡ kept_with machine r → near ≡ kept_with machine n → s ≡ machine → OpensAt machine limit (record { now = s; ring = ring; near = near; limit = limit; reached = 0 })

@@ -5,9 +5,9 @@ pub use Rattle.outer_lane.specs.Setting.{Setting, setting_of}
 pub use Rattle.reverse_debug.specs.Advance.{Advances, Approaches, NoneEnds, Path, SeesAs}
 pub use Rattle.reverse_debug.specs.Command.{Command, address_of, addresses, decimal_digit, hexadecimal_digit, is_quit, is_ram, number_of, words}
 unfoldable pub use Rattle.reverse_debug.specs.Command.{are_words, command_by, command_of, value_in}
-pub use Rattle.reverse_debug.specs.Command.Command.{Back, Bad, Before, End, Goto, Quit, Step, Until}
+pub use Rattle.reverse_debug.specs.Command.Command.{Back, Bad, Before, Goto, Quit, Step, Until}
 pub use Rattle.reverse_debug.specs.Debugger.{talk_of, talk_with}
-pub use Rattle.reverse_debug.specs.Lines.{all_lines, closes, complete_from, complete_lines, has_last, open_from, open_line, unless_empty, until, without_cr}
+pub use Rattle.reverse_debug.specs.Lines.{all_lines, closes, complete_from, complete_lines, open_from, open_line, unless_empty, until, without_cr}
 pub use Rattle.reverse_debug.specs.NextLine.{Ahead, EndsBy, Fills, HasNoEnd, Passes, Reads, Splits, behind, given_bytes}
 pub use Rattle.reverse_debug.specs.Reading.{Fits, meant, sought}
 pub use Rattle.reverse_debug.specs.Reply.{Said, answer, at_last, at_or_last, at_or_start, at_reply, behind_next, command_cost, ends_by, fewer, happens_by, is_begun, last_cycle, move_cost, pio_words, said, search_cost, seen, word_at}
@@ -17,7 +17,6 @@ pub use Rattle.reverse_debug.specs.Talk.{Hears, Talk, cost_from, cycle_after, te
 pub use Rattle.reverse_debug.specs.Way.{AnswersLines, IsAfterLine, Replies, RepliesTo, Taking}
 pub use Rattle.reverse_debug.specs.declared.search.Tally.{Tally}
 pub use Rattle.rp_base.specs.Alias.{or_zero}
-pub use Rattle.rp_base.specs.Map.{Range, place_by, ranges}
 unfoldable pub use Rattle.rp_base.specs.Map.{place_of}
 pub use Rattle.rp_base.specs.Word.{has_bit}
 pub use Rattle.rp_base.specs.declared.Why.{Why}
@@ -36,7 +35,7 @@ pub use Rattle.std.proofs.Math.Nat.{div-add-mod, mod-eq_of_lt, mod-le, mod-lt, m
 pub use Rattle.std.proofs.lemmas.Bool.{and_from, and_parts, cases_Bool, cases_lt, eq-eqb, eqb-true, le-leb, leb-true, lt-ltb, ltb-true, or_cases, or_parts, or_right, true≢false}
 pub use Rattle.std.proofs.lemmas.Bool.Decides.{nat_tests}
 pub use Rattle.std.proofs.lemmas.List.{drop-drop, length-take, take_all, take_rest}
-pub use Rattle.std.specs.List.{list_all, position, position_or_len, range_with_len}
+pub use Rattle.std.specs.List.{list_all, list_any, position, position_or_len, range_with_len}
 pub use Rattle.std.specs.Prelude.{codes, option_and_then, slice_index}
 pub use Rattle.std.specs.Str.Lines.{strip_carriage_return}
 pub use Rattle.trace_text.proofs.Sending.{rose_later, sends_part, sends_then}

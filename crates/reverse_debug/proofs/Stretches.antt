@@ -61,44 +61,26 @@ pub found_on : (w : Setting) (f m : State) (watched : Watched) (most n left : �
 found_on w f m watched most n zero is some le fits = absurd (omega arith)
 found_on w f m watched most zero (suc k) is some le fits =
     absurd (let none : (tally w m watched most 0).count ≡ 0 = ap (λ (t : Tally). t.count) (tally_none w m watched most) in omega arith)
-found_on w f m watched most (suc n) (suc zero) is some le fits =
+found_on w f m watched most (suc n) (suc k) is some le fits =
     let e : m.cycle + suc n ≡ suc (m.cycle + n) = omega arith in
     elim (cases_Bool (happens w m watched n)) [
       | inl was ↦
           let t = tally_one w m watched most n true was in
           let one : (tally w m watched most (suc n)).count ≡ (tally w m watched most n).count + 1 = ap (λ (x : Tally). x.count) t in
-          let room : (tally w m watched most n).count < most = elim fits [
-            | inl rest ↦ omega arith
-            | inr all ↦ let within : (tally w m watched most (suc n)).count ≤ most = all.1 in omega arith
-          ] in
-          let last : nat_lt (tally w m watched most n).count most ≡ true = grind (arith, nat_tests) in
-          ap (before_nth w f watched 1) e ∙ before_one w f watched 0 (m.cycle + n) true (happens_on w f m watched n is ∙ was) ∙ before_here w f watched (m.cycle + n)
-          ∙ sym (ap (λ (x : Tally). x.last) t ∙ last_noted most (m.cycle + n) (tally w m watched most n) true last)
+          let fit : Remembers (suc k) most ((tally w m watched most n).count + 1) = subst (Remembers (suc k) most) one fits in
+          let noted_so = λ (last : Bool) (h : nat_lt (tally w m watched most n).count most ≡ last). ap (λ (x : Tally). x.last) t ∙ last_noted most (m.cycle + n) (tally w m watched most n) last h in
+          ap (before_nth w f watched (suc k)) e ∙ before_one w f watched k (m.cycle + n) true (happens_on w f m watched n is ∙ was)
+          ∙ elim k as (λ j. suc j ≤ (tally w m watched most n).count + 1 → Remembers (suc j) most ((tally w m watched most n).count + 1) → before_nth w f watched j (m.cycle + n) ≡ (tally w m watched most (suc n)).last) [
+            | zero ↦ λ le fit. before_here w f watched (m.cycle + n) ∙ sym (noted_so true (elim fit [ inl rest ↦ grind (arith, nat_tests, rest) | inr all ↦ grind (arith, nat_tests, all.1) ]))
+            | suc j ↦ λ le fit.
+                let rest : most + suc (suc j) ≡ (tally w m watched most n).count + 1 + 1 = elim fit [ inl rest ↦ rest | inr all ↦ absurd (omega (arith, all.0)) ] in
+                found_on w f m watched most n (suc j) is (omega arith) (omega (arith, le)) (inl (omega (arith, rest))) ∙ sym (noted_so false (grind (arith, nat_tests, rest)))
+          ] (omega (arith, le, one)) fit
       | inr none ↦
           let t = tally_one w m watched most n false none in
           let same : (tally w m watched most (suc n)).count ≡ (tally w m watched most n).count = ap (λ (x : Tally). x.count) t in
-          ap (before_nth w f watched 1) e ∙ before_one w f watched 0 (m.cycle + n) false (happens_on w f m watched n is ∙ none)
-          ∙ found_on w f m watched most n 1 is some (omega arith) (subst (Remembers 1 most) same fits) ∙ sym (ap (λ (x : Tally). x.last) t)
-    ]
-found_on w f m watched most (suc n) (suc (suc k)) is some le fits =
-    let e : m.cycle + suc n ≡ suc (m.cycle + n) = omega arith in
-    elim (cases_Bool (happens w m watched n)) [
-      | inl was ↦
-          let t = tally_one w m watched most n true was in
-          let one : (tally w m watched most (suc n)).count ≡ (tally w m watched most n).count + 1 = ap (λ (x : Tally). x.count) t in
-          let rest : most + suc (suc k) ≡ (tally w m watched most (suc n)).count + 1 = elim fits [
-            | inl rest ↦ rest
-            | inr all ↦ absurd (let bad : suc (suc k) ≡ 1 = all.0 in omega arith)
-          ] in
-          let room : nat_lt (tally w m watched most n).count most ≡ false = grind (arith, nat_tests) in
-          ap (before_nth w f watched (suc (suc k))) e ∙ before_one w f watched (suc k) (m.cycle + n) true (happens_on w f m watched n is ∙ was)
-          ∙ found_on w f m watched most n (suc k) is (omega arith) (omega arith) (inl (omega arith))
-          ∙ sym (ap (λ (x : Tally). x.last) t ∙ last_noted most (m.cycle + n) (tally w m watched most n) false room)
-      | inr none ↦
-          let t = tally_one w m watched most n false none in
-          let same : (tally w m watched most (suc n)).count ≡ (tally w m watched most n).count = ap (λ (x : Tally). x.count) t in
-          ap (before_nth w f watched (suc (suc k))) e ∙ before_one w f watched (suc k) (m.cycle + n) false (happens_on w f m watched n is ∙ none)
-          ∙ found_on w f m watched most n (suc (suc k)) is some (omega arith) (subst (Remembers (suc (suc k)) most) same fits) ∙ sym (ap (λ (x : Tally). x.last) t)
+          ap (before_nth w f watched (suc k)) e ∙ before_one w f watched k (m.cycle + n) false (happens_on w f m watched n is ∙ none)
+          ∙ found_on w f m watched most n (suc k) is some (omega (arith, le, same)) (subst (Remembers (suc k) most) same fits) ∙ sym (ap (λ (x : Tally). x.last) t)
     ]
 
 -- how many are counted doesn't depend on how many are remembered
@@ -250,14 +232,7 @@ near_twice count to spacing before after found many more lt =
     let is = is_searched count to (omega arith) more in
     let no : nat_le count 1 ≡ false = grind (arith, nat_tests) in rw is (rw no (omega (arith, lt)))
 
--- what is found is nearer to the start of the stretch than a spacing
-sum_once : (d before now after to start end f : ℕ) → f < start + d → after + start ≡ now + end → now + end ≤ before + to → after + f < before + to + d
-sum_once d before now after to start end f near counted steps = omega arith
-
-sum_twice : (d before now mid after to start end f : ℕ) → f < start + d → end ≤ start + d → mid + start ≡ now + end → after + start ≡ mid + end → now + end ≤ before + to → after + f < before + to + 2 * d
-sum_twice d before now mid after to start end f near short first second steps = omega arith
-
--- one pass over the stretch
+-- one pass over the stretch: what is found is nearer to its start than a spacing
 pub spent_once : (w : Setting) (f : State) (ring near : Snapshots) (watched : Watched) (count to left end start before now after : ℕ) (s : State) (found : Option ℕ) → Searching w f watched count to left end before now → Stretch w f ring near to start end s →
     found ≡ before_nth w f watched count to → after + s.cycle ≡ now + end → Spends ring near count to before after found
 spent_once w f ring near watched count to left end start before now after s found so_far k is counted =
@@ -270,7 +245,7 @@ spent_once w f ring near watched count to left end start before now after s foun
     let within : end ≤ to = so_far.within in
     let forward : before ≤ now = so_far.forward in
     let by : (d : ℕ) → or_zero found < start + d → after ≤ before + search_cost d count to found = λ d lt.
-    near_by count to d before after found (omega arith) (omega arith) (sum_once d before now after to start end (or_zero found) lt (omega arith) so_far.steps) in
+    near_by count to d before after found (omega arith) (omega arith) (omega (arith, so_far.steps)) in
     record { forward = omega arith; steps = by ring.spacing (omega arith); close = λ h. by near.spacing (k.close (or_zero found) low h.ends) }
 
 -- two passes, where it is not the last time
@@ -286,7 +261,7 @@ spent_twice w f ring near watched count to left end start before now mid after s
     let within : end ≤ to = so_far.within in
     let forward : before ≤ now = so_far.forward in
     let by : (d : ℕ) → or_zero found < start + d → end ≤ start + d → after ≤ before + search_cost d count to found = λ d lt fits.
-    near_twice count to d before after found (omega arith) (omega arith) (sum_twice d before now mid after to start end (or_zero found) lt fits (omega arith) (omega arith) so_far.steps) in
+    near_twice count to d before after found (omega arith) (omega arith) (omega (arith, so_far.steps)) in
     record {
       forward = omega arith;
       steps = by ring.spacing (omega arith) short;
@@ -330,9 +305,6 @@ remembers_all w f ring near watched to left end start most all s k is one le =
     let same : all.count ≡ (tally w s watched most (end - s.cycle)).count = ap (λ (x : Tally). x.count) is in
     inr (one, omega (arith, few))
 
-some_remembered : (left count : ℕ) → 0 < left → left ≤ count → Remembers left (count - left + 1) count
-some_remembered left count some le = inl (omega arith)
-
 -- the same stretch once more, up to the one that is asked for
 pub found_again : (w : Setting) (f : State) (ring near : Snapshots) (watched : Watched) (count to left end start most before now : ℕ) (all again : Tally) (s u : State) → Searching w f watched count to left end before now → Stretch w f ring near to start end s →
     Stretch w f ring near to start end u → all ≡ tally w s watched most (end - s.cycle) → left ≤ all.count → again ≡ tally w u watched (all.count - left + 1) (end - u.cycle) → again.last ≡ before_nth w f watched count to
@@ -344,4 +316,4 @@ found_again w f ring near watched count to left end start most before now all ag
     ∙ count_same w s watched (all.count - left + 1) most (end - s.cycle) ∙ sym (ap (λ (x : Tally). x.count) is)
     in
     found_there w f ring near watched count to left end start (all.count - left + 1) before now again u so_far j isagain (omega arith)
-    (subst (Remembers left (all.count - left + 1)) (sym counts) (some_remembered left all.count so_far.some le))
+    (subst (Remembers left (all.count - left + 1)) (sym counts) (inl (omega (arith, so_far.some))))

@@ -1,12 +1,12 @@
 -- What is taken from a source, and how the taking ends.
-use Rattle.reverse_debug.proofs.Shared.{Ahead, AnswersLines, Bool, Consumes, Err, HasNoEnd, Hears, IfOk, IsAfterLine, List, Ok, Option, Reads, RepliesTo, Result, SinkFault, Taking, Talk, [], ap, append_assoc, arith, behind, closes, complete_from, complete_lines, false, given_bytes, has_last, inl, inr, length, length-append, nat_lt, nat_tests, open_line, refl, rose_later, subst, suc, sym, take, true, unless_empty, until, without_cr, ℕ, ◌++◌, ◌+◌, ◌<◌, ◌==◌, ◌||◌, ◌∙◌, ◌∷◌, ◌≡◌, ◌≤◌}
+use Rattle.reverse_debug.proofs.Shared.{Ahead, AnswersLines, Bool, Consumes, Err, HasNoEnd, Hears, IfOk, IsAfterLine, List, Ok, Option, Reads, RepliesTo, Result, SinkFault, Taking, Talk, [], ap, append_assoc, arith, behind, closes, complete_from, complete_lines, false, given_bytes, list_any, inl, inr, length, length-append, nat_lt, nat_tests, open_line, refl, rose_later, subst, suc, sym, take, true, unless_empty, until, without_cr, ℕ, ◌++◌, ◌+◌, ◌<◌, ◌==◌, ◌||◌, ◌∙◌, ◌∷◌, ◌≡◌, ◌≤◌}
 use Rattle.std.proofs.lemmas.List.{append-nil}
 use Rattle.reverse_debug.specs.declared.way.Way.{Way}
 use Rattle.reverse_debug.specs.declared.way.Way.TheVariants.{Closed, Ended, Broken, Full}
 use Rattle.reverse_debug.specs.declared.reader.Next.TheVariants as read
 use Rattle.reverse_debug.specs.Hearing.{MayEnd, lines_heard, IsTaken, status_by}
 use Rattle.reverse_debug.proofs.NextLines.{consumes_none, consumes_both}
-use Rattle.reverse_debug.proofs.LineLists.{complete_append, lines_more, open_more, lines_open, all_open, closes_more, has_last_both, until_all, until_both, until_more}
+use Rattle.reverse_debug.proofs.LineLists.{complete_append, lines_more, open_more, lines_open, all_open, closes_more, last_both, until_all, until_both, until_more}
 use Rattle.reverse_debug.proofs.Talks.{tells_none, tells_both, tells_line, tells_so, cut_more}
 
 -- ---- the open line at the end
@@ -101,7 +101,7 @@ fed t cycle limit {left} {left'} {left''} {o} {n'} {f} {h} {p} {r} {at} {at'} {a
       bytes = k.bytes ++ (got.line ++ 10 ∷ []);
       consumed = taken.0;
       long = taken.1;
-      last = ap (has_last t.last) lines ∙ has_last_both t.last (complete_lines k.bytes) (line ∷ []) k.none ∙ or_none (t.last line);
+      last = ap (list_any t.last) lines ∙ last_both t.last (complete_lines k.bytes) (line ∷ []) k.none ∙ or_none (t.last line);
       whole = open_more k.bytes got.line got.unended;
       tells = subst (λ l. AnswersLines t cycle l o n' f h p r at' result) (sym front) (tells_both t cycle (complete_lines k.bytes) (until t.last (line ∷ [])) result k.tells (tells_line t at line result said));
     }
@@ -162,7 +162,7 @@ next_end t cycle limit {lost} {lost'} {lost''} {o} {n'} {f} {h} {p} {r} {at'} {a
     let same : lost'' ≡ lost' = got.ends.0 in
     let lt = got.ends.1 in
     let lines = ap (until t.last) (all_open k.bytes got.line k.whole got.unended) ∙ until_both t.last (complete_lines k.bytes) (unless_empty got.line) k.none in
-    hears t cycle limit (k.bytes ++ got.line) Ended result is (omega (arith, taken.1, lt)) (ap (has_last t.last) (lines_open k.bytes got.line got.unended) ∙ k.none, omega (arith, taken.1, lt))
+    hears t cycle limit (k.bytes ++ got.line) Ended result is (omega (arith, taken.1, lt)) (ap (list_any t.last) (lines_open k.bytes got.line got.unended) ∙ k.none, omega (arith, taken.1, lt))
     (record { taken = taken.0; forward = omega (arith, same, k.steady); borne = (same ∙ k.steady, inr got.ends.2) })
     (subst (λ l. AnswersLines t cycle l o n' f h p r at' result) (sym lines) (tells_both t cycle (complete_lines k.bytes) (until t.last (unless_empty got.line)) result k.tells said))
 
@@ -171,7 +171,7 @@ still_open : (t : Talk) (cycle limit : ℕ) {left left' : Option (List ℕ)} {lo
     (closes t.last (k.bytes ++ line) ≡ false) × AnswersLines t cycle (until t.last (complete_lines (k.bytes ++ line))) o n f g p q at (Ok way)
 still_open t cycle limit {o} {n} {f} {g} {p} {q} {at} line way k none =
     let lines = lines_open k.bytes line none in (
-      ap (has_last t.last) lines ∙ k.none,
+      ap (list_any t.last) lines ∙ k.none,
       subst (λ l. AnswersLines t cycle l o n f g p q at (Ok way)) (sym (ap (until t.last) lines ∙ until_all t.last (complete_lines k.bytes) k.none)) (tells_so t cycle (complete_lines k.bytes) k.tells),
     )
 

@@ -14,10 +14,8 @@ quit_stays w f d cycle Quit is = (refl, no_move d cycle)
 quit_stays w f d cycle _ is = absurd (cc is)
 
 not_of : (a b m : Bool) → a ≡ b → m ≡ not a → b ≡ not m
-not_of true true m e is = ap not (sym is)
-not_of false false m e is = ap not (sym is)
-not_of true false m e is = absurd (cc e)
-not_of false true m e is = absurd (cc e)
+not_of true b m e is = sym e ∙ ap not (sym is)
+not_of false b m e is = sym e ∙ ap not (sym is)
 
 pub replied_last : (w : Setting) (session : Standing) (line : List ℕ) (sent : Option (List ℕ)) (faults steps steps' at : ℕ) (m : Bool) → m ≡ not (heard w (first_of session) session.now.cycle line).quits → m ≡ false → at ≡ (heard w (first_of session) session.now.cycle line).cycle → steps ≤ steps' →
     steps' ≤ steps + cost w (first_of session) session.ring.spacing session.now.cycle line → RepliesTo (talk_with w session) session.now.cycle line sent sent faults faults steps steps' at (Ok false)

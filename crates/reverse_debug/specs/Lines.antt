@@ -1,5 +1,6 @@
 -- The lines among the bytes that were taken from an input: the project's own. A line ends with LF, before which one CR is dropped.
-use Rattle.std.specs.Prelude.{ℕ, Bool, false, ◌==◌, ◌||◌, if◌then◌else◌, List, [], ◌∷◌, ◌++◌}
+use Rattle.std.specs.Prelude.{ℕ, Bool, ◌==◌, if◌then◌else◌, List, [], ◌∷◌, ◌++◌}
+use Rattle.std.specs.List.{list_any}
 use Rattle.std.specs.Str.Lines.{strip_carriage_return}
 
 -- bytes without the one CR at their end: before an LF, the line
@@ -35,10 +36,6 @@ abbrev pub until : (List ℕ → Bool) → List (List ℕ) → List (List ℕ)
 until last [] = []
 until last (line ∷ lines) = if last line then [] else line ∷ until last lines
 
-abbrev pub has_last : (List ℕ → Bool) → List (List ℕ) → Bool
-has_last last [] = false
-has_last last (line ∷ lines) = last line || has_last last lines
-
 -- a last line stands among the complete ones
 abbrev pub closes : (List ℕ → Bool) → List ℕ → Bool
-closes last bytes = has_last last (complete_lines bytes)
+closes last bytes = list_any last (complete_lines bytes)
