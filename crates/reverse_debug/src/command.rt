@@ -104,18 +104,6 @@ fn until_of(watched: Option<Watched>) -> Command
     }
 }
 
-/// A question for the last time of what is watched.
-fn last_of(watched: Option<Watched>) -> Command
-    requires { IfSome watched IsThere }
-    ensures meaning { meant result ≡ operand_asked Last (option_map sought watched) }
-    ensures fits { Fits result }
-{
-    match watched {
-        Some(watched) => Command::Last(watched),
-        None => Command::Bad,
-    }
-}
-
 /// `peek` with its operand.
 fn peek_of(address: Option<u32>) -> Command
     ensures meaning { meant result ≡ peek_of address }
@@ -229,11 +217,11 @@ fn with_one(name: &[u8], word: &[u8]) -> Command
     } else if is(name, b"untilpin") {
         until_of(pin_of(number_of(word)))
     } else if is(name, b"lastat") {
-        last_of(begun_at(address_of(word), Some(0)))
+        begun_at(address_of(word), Some(0)).map_or(Command::Bad, Command::Last)
     } else if is(name, b"lastwrite") {
-        last_of(word_of(address_of(word)))
+        word_of(address_of(word)).map_or(Command::Bad, Command::Last)
     } else if is(name, b"lastpin") {
-        last_of(pin_of(number_of(word)))
+        pin_of(number_of(word)).map_or(Command::Bad, Command::Last)
     } else {
         Command::Bad
     }
@@ -255,7 +243,7 @@ fn with_two(name: &[u8], first: &[u8], second: &[u8]) -> Command
     } else if is(name, b"until") {
         until_of(begun_at(address_of(first), number_of(second)))
     } else if is(name, b"lastat") {
-        last_of(begun_at(address_of(first), number_of(second)))
+        begun_at(address_of(first), number_of(second)).map_or(Command::Bad, Command::Last)
     } else {
         Command::Bad
     }

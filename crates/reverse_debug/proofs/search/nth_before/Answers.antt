@@ -8,23 +8,15 @@ returns-then-count-eq0-clause-found g c = zero_th _ _ _ _ _ c.if-count-eq0.true
 pub returns-then-count-eq0-clause-spends : goal.returns-then-count-eq0-clause-spends
 returns-then-count-eq0-clause-spends g c = record { forward = omega arith; steps = omega arith; close = λ _. omega arith }
 
-pub scan-all-requires-clause-low : goal.scan-all-requires-clause-low
-scan-all-requires-clause-low g c κs within = (stretch_of _ _ _ _ _ _ _ _ _ _ _ _ _ _ _ c.requires.kept c.requires.to c.stretches.invariant c.stretches-test.true refl c.in-Some.ensures c.restore_of.ensures).low
+pub scan-all-requires : goal.scan-all-requires
+scan-all-requires g c =
+    let k = stretch_of _ _ _ _ _ _ _ _ _ _ _ _ _ _ _ c.requires.kept c.requires.to c.stretches.invariant c.stretches-test.true refl c.in-Some.ensures c.restore_of.ensures in
+    (c.type_bounds.sync-X, (c.requires.watched, (k.low, (k.ahead, k.reach))))
 
-pub scan-all-requires-clause-ahead : goal.scan-all-requires-clause-ahead
-scan-all-requires-clause-ahead g c κs within = (stretch_of _ _ _ _ _ _ _ _ _ _ _ _ _ _ _ c.requires.kept c.requires.to c.stretches.invariant c.stretches-test.true refl c.in-Some.ensures c.restore_of.ensures).ahead
-
-pub scan-all-requires-clause-to : goal.scan-all-requires-clause-to
-scan-all-requires-clause-to g c κs within = (stretch_of _ _ _ _ _ _ _ _ _ _ _ _ _ _ _ c.requires.kept c.requires.to c.stretches.invariant c.stretches-test.true refl c.in-Some.ensures c.restore_of.ensures).reach
-
-pub scan-requires-clause-low : goal.scan-requires-clause-low
-scan-requires-clause-low g c κs within = (stretch_of _ _ _ _ _ _ _ _ _ _ _ _ _ _ _ c.requires.kept c.requires.to c.stretches.invariant c.stretches-test.true refl c.in-Some.ensures c.restore_of-then-left-all.ensures).low
-
-pub scan-requires-clause-ahead : goal.scan-requires-clause-ahead
-scan-requires-clause-ahead g c κs within = (stretch_of _ _ _ _ _ _ _ _ _ _ _ _ _ _ _ c.requires.kept c.requires.to c.stretches.invariant c.stretches-test.true refl c.in-Some.ensures c.restore_of-then-left-all.ensures).ahead
-
-pub scan-requires-clause-to : goal.scan-requires-clause-to
-scan-requires-clause-to g c κs within = (stretch_of _ _ _ _ _ _ _ _ _ _ _ _ _ _ _ c.requires.kept c.requires.to c.stretches.invariant c.stretches-test.true refl c.in-Some.ensures c.restore_of-then-left-all.ensures).reach
+pub scan-requires : goal.scan-requires
+scan-requires g c =
+    let k = stretch_of _ _ _ _ _ _ _ _ _ _ _ _ _ _ _ c.requires.kept c.requires.to c.stretches.invariant c.stretches-test.true refl c.in-Some.ensures c.restore_of-then-left-all.ensures in
+    (c.type_bounds.sync-X, (c.requires.watched, (k.low, (k.ahead, k.reach))))
 
 pub returns-then-left-eq1-clause-found : goal.returns-then-left-eq1-clause-found
 returns-then-left-eq1-clause-found g c =
