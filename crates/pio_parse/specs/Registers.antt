@@ -1,6 +1,5 @@
 -- The words that name a source or a destination (RP2040 Datasheet, 3.4.4, 3.4.5, 3.4.8 and 3.4.10, Assembler Syntax).
 use Rattle.std.specs.Prelude.{Option, None, Some}
-use Rattle.pio_parse.specs.declared.token.Keyword.{Keyword}
 use Rattle.pio_parse.specs.declared.token.Keyword.TheVariants.{Pins, X, Y, Null, Isr, Osr, Pindirs, Pc, Exec, Status}
 use Rattle.pio_parse.specs.declared.token.TokenKind.{TokenKind}
 use Rattle.pio_parse.specs.declared.token.TokenKind.TheVariants.{Keyword as KeywordToken}

@@ -173,12 +173,8 @@ impl File<'_> {
     pub(crate) fn name(&self, span: Span) -> Result<Name, AllocError>
         ensures { IfOk result (λ name. name ≡ name_at self.now.text.now span) }
     {
-        let (start, end) = (span.start as usize, span.end as usize);
-        if start <= end && end <= self.text.len() {
-            Name::from_slice(self.alloc, &self.text[start..end])
-        } else {
-            Name::from_slice(self.alloc, &[])
-        }
+        let span = span.start as usize..span.end as usize;
+        Name::from_slice(self.alloc, self.text.get(span).unwrap_or(&[]))
     }
 }
 
@@ -237,18 +233,9 @@ fn take_operator(token: Token, reading: &mut Reading) -> Result<bool, Stop>
         TokenKind::Star => take_binary(Operator::Multiply, reading)?,
         TokenKind::Plus => take_binary(Operator::Add, reading)?,
         TokenKind::Minus => take_binary(Operator::Subtract, reading)?,
-        TokenKind::CloseParenthesis => {
-            if reading.depth == 0 {
-                return Ok(false);
-            }
-            take_close(reading)?;
-        }
-        _ => {
-            if reading.depth == 0 {
-                return Ok(false);
-            }
-            return Err(Stop::Syntax(token.position));
-        }
+        _ if reading.depth == 0 => return Ok(false),
+        TokenKind::CloseParenthesis => take_close(reading)?,
+        _ => return Err(Stop::Syntax(token.position)),
     }
     Ok(true)
 }
@@ -272,13 +259,7 @@ fn finish(alloc: Global, mut reading: Reading) -> Result<Expression, AllocError>
         ≡ (reduced 0 reading.stack reading.output).1) }
 {
     reduce(0, &mut reading.stack, &mut reading.output)?;
-    let Reading {
-        stack: _,
-        output,
-        awaited: _,
-        depth: _,
-    } = reading;
-    Expression::from_terms(alloc, output)
+    Expression::from_terms(alloc, reading.output)
 }
 
 /// The longest expression that the next tokens begin with.

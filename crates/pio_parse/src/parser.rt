@@ -101,8 +101,7 @@ fn add_line(file: &File, tokens: &[Token], groups: &mut Groups) -> Result<(), St
 {
     let mut cursor = TokenCursor { rest: tokens };
     let line = read_line(file, groups.current.is_some(), &mut cursor)?;
-    group(file.alloc, groups, line)?;
-    Ok(())
+    Ok(group(file.alloc, groups, line)?)
 }
 
 fn finish(groups: Groups) -> Result<Source, AllocError>
@@ -132,10 +131,8 @@ fn read_lines(file: &File, tokens: &[Token]) -> Result<Source, Stop>
     let mut start = 0;
     for (index, token) in tokens.iter().enumerate() {
         if ends_line(token.kind) {
-            match add_line(file, &tokens[start..index + 1], &mut groups) {
-                Ok(()) => start = index + 1,
-                Err(stop) => return Err(stop),
-            }
+            add_line(file, &tokens[start..index + 1], &mut groups)?;
+            start = index + 1;
         }
     }
     Ok(finish(groups)?)
@@ -150,10 +147,7 @@ fn read_file(alloc: Global, text: &[u8]) -> Result<Source, PioFault>
     let file = File { alloc, text };
     match read_lines(&file, tokens.as_slice()) {
         Ok(source) => Ok(source),
-        Err(Stop::Syntax(position)) => Err(PioFault::Syntax(
-            u64::from(position.line),
-            u64::from(position.column),
-        )),
+        Err(Stop::Syntax(at)) => Err(PioFault::Syntax(u64::from(at.line), u64::from(at.column))),
         Err(Stop::Memory) => Err(PioFault::Memory),
     }
 }

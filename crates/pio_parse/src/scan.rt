@@ -50,6 +50,12 @@ fn no_token(mode: Mode) -> Result<Step, SourcePosition>
     })
 }
 
+fn token(kind: TokenKind, position: SourcePosition) -> Token
+    ensures { result ≡ record { kind = kind; position = position } }
+{
+    Token { kind, position }
+}
+
 fn single(kind: TokenKind, position: SourcePosition) -> Result<Step, SourcePosition>
     ensures { result ≡ Ok (single_token kind position) }
 {
@@ -76,13 +82,8 @@ fn begin(index: usize, byte: u8, position: SourcePosition) -> Result<Step, Sourc
         b'.' => no_token(Mode::Word(index, position)),
         _ => match sign(byte) {
             Some(kind) => single(kind, position),
-            None => {
-                if is_word_byte(byte) {
-                    no_token(Mode::Word(index, position))
-                } else {
-                    Err(position)
-                }
-            }
+            None if is_word_byte(byte) => no_token(Mode::Word(index, position)),
+            None => Err(position),
         },
     }
 }
@@ -137,23 +138,13 @@ fn end_word(
     ensures started { IfOk result (λ s. IsStarted s.mode (index + 1)) }
 {
     let kind = classify(word, span_of(start, index));
-    let token = Token {
-        kind,
-        position: begun,
-    };
     match kind {
-        TokenKind::Directive(Directive::LangOpt) => {
-            if byte == b'\n' {
-                end(token, index, byte, position)
-            } else {
-                Ok(Step {
-                    mode: Mode::LineComment,
-                    first: Some(token),
-                    second: None,
-                })
-            }
-        }
-        _ => end(token, index, byte, position),
+        TokenKind::Directive(Directive::LangOpt) if byte != b'\n' => Ok(Step {
+            mode: Mode::LineComment,
+            first: Some(token(kind, begun)),
+            second: None,
+        }),
+        _ => end(token(kind, begun), index, byte, position),
     }
 }
 
@@ -173,43 +164,14 @@ fn advance(
 {
     match mode {
         Mode::Between => begin(index, byte, position),
+        Mode::Word(_, _) if is_word_byte(byte) => no_token(mode),
         Mode::Word(start, begun) => {
-            if is_word_byte(byte) {
-                no_token(mode)
-            } else {
-                end_word(&text[start..index], start, begun, byte, index, position)
-            }
+            end_word(&text[start..index], start, begun, byte, index, position)
         }
-        Mode::Colon(begun) => {
-            if byte == b':' {
-                single(TokenKind::DoubleColon, begun)
-            } else {
-                end(
-                    Token {
-                        kind: TokenKind::Colon,
-                        position: begun,
-                    },
-                    index,
-                    byte,
-                    position,
-                )
-            }
-        }
-        Mode::Bang(begun) => {
-            if byte == b'=' {
-                single(TokenKind::NotEqual, begun)
-            } else {
-                end(
-                    Token {
-                        kind: TokenKind::Bang,
-                        position: begun,
-                    },
-                    index,
-                    byte,
-                    position,
-                )
-            }
-        }
+        Mode::Colon(begun) if byte == b':' => single(TokenKind::DoubleColon, begun),
+        Mode::Colon(begun) => end(token(TokenKind::Colon, begun), index, byte, position),
+        Mode::Bang(begun) if byte == b'=' => single(TokenKind::NotEqual, begun),
+        Mode::Bang(begun) => end(token(TokenKind::Bang, begun), index, byte, position),
         _ => skip(index, mode, byte, position),
     }
 }
@@ -230,36 +192,17 @@ fn skip(
             b'*' => no_token(Mode::BlockComment(begun, false)),
             _ => Err(begun),
         },
-        Mode::BlockComment(begun, star) => {
-            if star && byte == b'/' {
-                no_token(Mode::Between)
-            } else {
-                no_token(Mode::BlockComment(begun, byte == b'*'))
-            }
-        }
+        Mode::BlockComment(_, star) if star && byte == b'/' => no_token(Mode::Between),
+        Mode::BlockComment(begun, _) => no_token(Mode::BlockComment(begun, byte == b'*')),
         Mode::Header(begun, named) => match byte {
-            b'{' => if named {
-                no_token(Mode::Code(begun, false))
-            } else {
-                Err(begun)
-            },
-            b'%' | b'\n' => Err(begun),
+            b'{' if named => no_token(Mode::Code(begun, false)),
+            b'{' | b'%' | b'\n' => Err(begun),
             _ => no_token(Mode::Header(begun, named || byte != b' ')),
         },
-        Mode::Code(begun, percent) => {
-            if percent && byte == b'}' {
-                no_token(Mode::Between)
-            } else {
-                no_token(Mode::Code(begun, byte == b'%'))
-            }
-        }
-        _ => {
-            if byte == b'\n' {
-                single(TokenKind::LineEnd, position)
-            } else {
-                no_token(Mode::LineComment)
-            }
-        }
+        Mode::Code(_, percent) if percent && byte == b'}' => no_token(Mode::Between),
+        Mode::Code(begun, _) => no_token(Mode::Code(begun, byte == b'%')),
+        _ if byte == b'\n' => single(TokenKind::LineEnd, position),
+        _ => no_token(Mode::LineComment),
     }
 }
 
@@ -273,19 +216,10 @@ fn finish(text: &[u8], mode: Mode) -> Result<Option<Token>, SourcePosition>
         Mode::Between | Mode::LineComment => Ok(None),
         Mode::Word(start, begun) => {
             let kind = classify(&text[start..], span_of(start, text.len()));
-            Ok(Some(Token {
-                kind,
-                position: begun,
-            }))
+            Ok(Some(token(kind, begun)))
         }
-        Mode::Colon(begun) => Ok(Some(Token {
-            kind: TokenKind::Colon,
-            position: begun,
-        })),
-        Mode::Bang(begun) => Ok(Some(Token {
-            kind: TokenKind::Bang,
-            position: begun,
-        })),
+        Mode::Colon(begun) => Ok(Some(token(TokenKind::Colon, begun))),
+        Mode::Bang(begun) => Ok(Some(token(TokenKind::Bang, begun))),
         Mode::Slash(begun)
         | Mode::BlockComment(begun, _)
         | Mode::Header(begun, _)
@@ -305,10 +239,7 @@ fn add(tokens: &mut Vec<Token>, token: Option<Token>) -> Result<(), PioFault>
     ensures err { IfErr result (λ fault. fault ≡ PioFault.Memory) }
 {
     if let Some(token) = token {
-        match tokens.push(token) {
-            Ok(()) => {}
-            Err(_) => return Err(PioFault::Memory),
-        }
+        tokens.push(token).map_err(|_| PioFault::Memory)?;
     }
     Ok(())
 }

@@ -1,7 +1,7 @@
 //! Which token a run of letters, digits and signs is.
 
-ghost use Rattle.std.specs.Prelude.{◌≡◌, ◌≤◌, find};
-ghost use Rattle.pio_parse.specs.Words.{directive_kind_of, directive_name, directive_of, directives, keyword_name, keyword_of, keywords, name_kind_of, number_kind_of, number_of, number_to, same_word, word_kind};
+ghost use Rattle.std.specs.Prelude.{◌≡◌};
+ghost use Rattle.pio_parse.specs.Words.{directive_kind_of, directive_name, directive_of, directives, keyword_name, keyword_of, keywords, name_kind_of, number_kind_of, number_of, same_word, word_kind};
 
 use crate::token::{Directive, Keyword, Span, TokenKind};
 use source_text::value_of_digits;
@@ -146,57 +146,39 @@ fn find_directive(word: &[u8]) -> Option<Directive>
         .find(|directive| is_same_word(directive_text(*directive), word))
 }
 
-/// The number of digits to a base from 1 to 16.
-fn number_to(base: u64, digits: &[u8]) -> Option<u64>
-    requires positive { 1 ≤ base }
-    requires base { base ≤ 16 }
-    ensures { result ≡ number_to base digits.now }
-{
-    value_of_digits(base, TOO_LARGE, digits)
-}
-
 fn find_number(word: &[u8]) -> Option<u64>
     ensures { result ≡ number_of word.now }
 {
     match word {
         [first, second, _, ..] => {
             if (*first == b'0') & (*second == b'x') {
-                number_to(16, &word[2..])
+                value_of_digits(16, TOO_LARGE, &word[2..])
             } else if (*first == b'0') & (*second == b'b') {
-                number_to(2, &word[2..])
+                value_of_digits(2, TOO_LARGE, &word[2..])
             } else {
-                number_to(10, word)
+                value_of_digits(10, TOO_LARGE, word)
             }
         }
-        _ => number_to(10, word),
+        _ => value_of_digits(10, TOO_LARGE, word),
     }
 }
 
 fn directive_kind(name: &[u8]) -> TokenKind
     ensures { result ≡ directive_kind_of name.now }
 {
-    match find_directive(name) {
-        Some(directive) => TokenKind::Directive(directive),
-        None => TokenKind::Unfit,
-    }
+    find_directive(name).map_or(TokenKind::Unfit, TokenKind::Directive)
 }
 
 fn number_kind(word: &[u8]) -> TokenKind
     ensures { result ≡ number_kind_of word.now }
 {
-    match find_number(word) {
-        Some(number) => TokenKind::Number(number),
-        None => TokenKind::Unfit,
-    }
+    find_number(word).map_or(TokenKind::Unfit, TokenKind::Number)
 }
 
 fn name_kind(word: &[u8], span: Span) -> TokenKind
     ensures { result ≡ name_kind_of word.now span }
 {
-    match find_keyword(word) {
-        Some(keyword) => TokenKind::Keyword(keyword),
-        None => TokenKind::Name(span),
-    }
+    find_keyword(word).map_or(TokenKind::Name(span), TokenKind::Keyword)
 }
 
 /// What a run of letters, digits and underscores is, perhaps with a point before it.
@@ -205,14 +187,8 @@ pub(crate) fn classify(word: &[u8], span: Span) -> TokenKind
 {
     match word {
         [] => TokenKind::Name(span),
-        [first, rest @ ..] => {
-            if *first == b'.' {
-                directive_kind(rest)
-            } else if first.is_ascii_digit() {
-                number_kind(word)
-            } else {
-                name_kind(word, span)
-            }
-        }
+        [b'.', name @ ..] => directive_kind(name),
+        [b'0'..=b'9', ..] => number_kind(word),
+        _ => name_kind(word, span),
     }
 }

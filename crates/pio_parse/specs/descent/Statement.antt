@@ -1,7 +1,6 @@
 -- The grammar of a line: a label, then a directive or an instruction (RP2040 Datasheet, 3.3, Directives, Labels and Instructions).
 use Rattle.std.specs.Prelude.{◌==◌, ◌||◌, ℕ, Bool, true, false, if◌then◌else◌, List, Option, None, Some, Ok}
 use Rattle.pio_parse.specs.declared.token.Token.{Token}
-use Rattle.pio_parse.specs.declared.token.Keyword.{Keyword}
 use Rattle.pio_parse.specs.declared.token.Keyword.TheVariants.{Public, Opt, Pindirs}
 use Rattle.pio_parse.specs.declared.token.Directive.{Directive}
 use Rattle.pio_parse.specs.declared.token.Directive.TheVariants.{Program, Define, Origin, SideSet, WrapTarget, Wrap, Word, LangOpt, PioVersion}

@@ -10,4 +10,4 @@ by_ten (a ∷ b ∷ []) h e f = absurd (omega arith)
 by_ten (a ∷ b ∷ c ∷ cs) h e f = rw (e, f) refl
 
 pub returns-else-first-second-2 : goal.returns-else-first-second-2
-returns-else-first-second-2 c = c.number_to-else-first-second-2.ensures ∙ sym (by_ten c.args.word.now c.in-len3-up.len_at_least c.if-first-second.false c.if-first-second-2.false)
+returns-else-first-second-2 c = c.value_of_digits-else-first-second-2.ensures ∙ sym (by_ten c.args.word.now c.in-len3-up.len_at_least c.if-first-second.false c.if-first-second-2.false)
