@@ -57,8 +57,5 @@ pub fn place_program(used: u32, program: &Program) -> Result<u8, PioFault>
         Some(_) => None,
         None => first_address(used, count),
     };
-    match address {
-        Some(address) => Ok(address),
-        None => Err(PioFault::NoRoom(count as u64)),
-    }
+    address.ok_or(PioFault::NoRoom(count as u64))
 }

@@ -15,12 +15,6 @@ use pio_words::SideConfig;
 use std::alloc::AllocError;
 use std::marker::Model;
 
-impl Default for Member {
-    fn default() -> Member {
-        Member::Lost
-    }
-}
-
 /// The members of a program with their words, seen as the list of the members.
 #[derive(Drop)]
 pub(crate) struct Code {
@@ -74,8 +68,7 @@ impl Code {
         requires { AreKept self }
         ensures { AreWordsOf self result.items }
     {
-        let Code { members: _, words } = self;
-        words
+        self.words
     }
 }
 
@@ -145,8 +138,5 @@ pub(crate) fn check(verdict: Verdict, line: u64) -> Result<(), PioFault>
 pub(crate) fn or_memory<T>(outcome: Result<T, AllocError>) -> Result<T, PioFault>
     ensures { MatchResult outcome (λ x. result ≡ Ok x) (λ _. result ≡ Err PioFault.Memory) }
 {
-    match outcome {
-        Ok(value) => Ok(value),
-        Err(_) => Err(PioFault::Memory),
-    }
+    outcome.map_err(|_| PioFault::Memory)
 }

@@ -7,10 +7,11 @@ ghost use Rattle.pio_asm.specs.Step.{Makes, define_step, ends_outside, fitting, 
 
 use crate::building::{Building, NO_FAULT, Verdict, check, or_memory};
 use crate::line::Context;
-use crate::names::{add_name, evaluate_in, has_name, value_of_definition};
+use crate::names::{add_name, has_name, value_of_definition};
 use crate::operand::{half_number, small_number};
 use crate::plan::Member;
 use crate::symbols::Value;
+use crate::value::evaluate;
 use pio_parse::{Expression, Name, PioFault};
 use pio_words::SideConfig;
 
@@ -40,7 +41,7 @@ pub(crate) fn take_define<'a>(
         (define_step context.now.globals.now number twice name.now value.now building.old) }
     ensures side { building.new.side ≡ building.old.side }
 {
-    let defined = or_memory(evaluate_in(context.alloc, &building.seen, context.globals, value))?;
+    let defined = or_memory(evaluate(context.alloc, &building.seen, context.globals, value))?;
     let again = has_name(&building.seen, context.globals, name.as_slice());
     check(
         Verdict {
@@ -93,7 +94,7 @@ pub(crate) fn take_origin<'a>(
         building.old) }
     ensures side { building.new.side ≡ building.old.side }
 {
-    let found = or_memory(evaluate_in(context.alloc, &building.seen, context.globals, value))?;
+    let found = or_memory(evaluate(context.alloc, &building.seen, context.globals, value))?;
     let origin = has_origin_fault(context.total, found.value, building);
     check(
         Verdict {
@@ -129,7 +130,7 @@ pub(crate) fn take_side_set<'a>(
         (side_set_step context.now.globals.now number twice count.now opt pindirs building.old) }
     ensures side { OnOk result (IsOptionalConfig building.new.side) }
 {
-    let found = or_memory(evaluate_in(context.alloc, &building.seen, context.globals, count))?;
+    let found = or_memory(evaluate(context.alloc, &building.seen, context.globals, count))?;
     let greatest = greatest_count(opt);
     let side = building.side.is_some()
         || building.code.len() > 0
@@ -201,22 +202,15 @@ fn word_of_value(value: Value) -> Member
     ensures value { result ≡ word_member (fitting 0 65535 value) }
     ensures sound { IsSound result }
 {
-    match value {
-        None => Member::Lost,
-        Some(value) => match half_number(value) {
-            None => Member::Lost,
-            Some(word) => Member::Word(word),
-        },
-    }
+    value
+        .and_then(half_number)
+        .map_or(Member::Lost, Member::Word)
 }
 
 fn is_no_half(value: Value) -> bool
     ensures { result ≡ misfits 0 65535 value }
 {
-    match value {
-        None => false,
-        Some(value) => half_number(value).is_none(),
-    }
+    value.is_some_and(|value| half_number(value).is_none())
 }
 
 /// `.word value`.
@@ -231,7 +225,7 @@ pub(crate) fn take_word<'a>(
         (word_step context.now.globals.now number twice value.now building.old) }
     ensures side { building.new.side ≡ building.old.side }
 {
-    let found = or_memory(evaluate_in(context.alloc, &building.seen, context.globals, value))?;
+    let found = or_memory(evaluate(context.alloc, &building.seen, context.globals, value))?;
     let range = found.outside || is_no_half(found.value);
     let too_long = building.code.len() >= 32;
     check(

@@ -19,10 +19,7 @@ pub fn programs_in(alloc: Global, bytes: &[u8]) -> Result<Vec<Program>, PioFault
     ensures ok { IfOk result (λ programs. Assembles programs.items (plans_of bytes.now)) }
     ensures err { IfErr result (IsFaultOf (plans_of bytes.now)) }
 {
-    match parse(alloc, bytes) {
-        Ok(source) => assemble(alloc, &source),
-        Err(fault) => Err(fault),
-    }
+    assemble(alloc, &parse(alloc, bytes)?)
 }
 
 /// The first program of a file; none where it has none, and its first fault where it has one.
@@ -32,11 +29,7 @@ pub fn first_program(alloc: Global, bytes: &[u8]) -> Result<Option<Program>, Pio
     ensures err { IfErr result (IsFaultOf (plans_of bytes.now)) }
 {
     let mut programs = programs_in(alloc, bytes)?;
-    if programs.is_empty() {
-        Ok(None)
-    } else {
-        Ok(Some(programs.remove(0)))
-    }
+    Ok((!programs.is_empty()).then(|| programs.remove(0)))
 }
 
 fn put(text: &[u8], out: &mut Vec<u8>) -> Result<(), AllocError>

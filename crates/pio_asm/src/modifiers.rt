@@ -110,9 +110,5 @@ pub(crate) fn delay_modifier(
 pub(crate) fn side_value(config: &SideConfig, given: bool, value: u8) -> Option<u8>
     ensures { result ≡ side_value_of config.now given value }
 {
-    if given && (config.opt || config.count != 0) {
-        Some(value)
-    } else {
-        None
-    }
+    (given && (config.opt || config.count != 0)).then_some(value)
 }

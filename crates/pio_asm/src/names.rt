@@ -1,13 +1,11 @@
 //! The names that a source defines, and what a name stands for.
 
-ghost use Rattle.std.specs.Prelude.{◌≡◌, OnOk, IfOk};
-ghost use Rattle.pio_asm.specs.Value.{evaluated};
+ghost use Rattle.std.specs.Prelude.{◌≡◌, OnOk};
 ghost use Rattle.pio_asm.specs.Step.{definition_value, is_label_twice, is_member, is_seen, label_value, with_definition, with_label, with_line_names, with_name};
 
-use crate::operand::Scope;
 use crate::symbols::{Symbols, Value};
-use crate::value::{Evaluated, value_of};
-use pio_parse::{Expression, Line, Name, Statement};
+use crate::value::{Evaluated, evaluate, value_of};
+use pio_parse::{Line, Name, Statement};
 use std::alloc::{AllocError, Global};
 
 pub(crate) fn has_name(seen: &Symbols, globals: &Symbols, name: &[u8]) -> bool
@@ -35,11 +33,7 @@ pub(crate) fn add_name<'a>(
 fn value_of_label(count: usize) -> Value
     ensures { result ≡ label_value count }
 {
-    if count <= 4294967295 {
-        Some(count as i64)
-    } else {
-        None
-    }
+    (count <= 4294967295).then(|| count as i64)
 }
 
 pub(crate) fn add_label<'a>(
@@ -75,22 +69,6 @@ pub(crate) fn value_of_definition(evaluated: Evaluated) -> Value
     }
 }
 
-pub(crate) fn evaluate_in<'s, 'a>(
-    alloc: Global,
-    seen: &'s Symbols<'a>,
-    globals: &'s Symbols<'a>,
-    expression: &Expression,
-) -> Result<Evaluated, AllocError>
-    ensures { IfOk result (λ e. e ≡ evaluated seen.now globals.now expression.now) }
-{
-    let scope = Scope {
-        alloc,
-        locals: seen,
-        globals,
-    };
-    scope.evaluate(expression)
-}
-
 fn add_definition<'a>(
     alloc: Global,
     globals: &Symbols<'a>,
@@ -101,7 +79,7 @@ fn add_definition<'a>(
 {
     match statement {
         Some(Statement::Define { name, value }) => {
-            let found = evaluate_in(alloc, seen, &*globals, value)?;
+            let found = evaluate(alloc, seen, &*globals, value)?;
             add_name(globals, seen, name.as_slice(), value_of_definition(found))
         }
         _ => Ok(()),

@@ -23,7 +23,7 @@ impl Scope<'_, '_> {
         ensures { IfOk result (λ e. e
             ≡ evaluated self.now.locals.now self.now.globals.now expression.now) }
     {
-        evaluate(self.alloc, self.locals, self.globals, expression.as_slice())
+        evaluate(self.alloc, self.locals, self.globals, expression)
     }
 }
 

@@ -12,7 +12,7 @@ use pio_words::{PioOp, SideConfig};
 use std::alloc::AllocError;
 
 /// What an instruction or a `.word` puts into a program.
-#[derive(Clone, Copy)]
+#[derive(Clone, Copy, Default)]
 pub(crate) enum Member {
     /// The value of a `.word`.
     Word(u16),
@@ -25,6 +25,7 @@ pub(crate) enum Member {
     },
     /// An instruction that uses a name whose definition has a fault. The line of that definition is
     /// refused.
+    #[default]
     Lost,
 }
 

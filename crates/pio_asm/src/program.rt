@@ -64,22 +64,14 @@ fn finish(name: Name, building: Building) -> Program
     requires kept { AreKept building.code }
     ensures { IsProgram (plan_of name building.entry) result }
 {
-    let Building {
-        seen: _,
-        code,
-        side,
-        origin,
-        target,
-        wrap,
-    } = building;
-    let last = code.len().saturating_sub(1) as u8;
+    let last = building.code.len().saturating_sub(1) as u8;
     Program {
         name,
-        words: code.into_words(),
-        origin,
-        target: target.unwrap_or(0),
-        wrap: wrap.unwrap_or(last),
-        side: config_or_none(side),
+        words: building.code.into_words(),
+        origin: building.origin,
+        target: building.target.unwrap_or(0),
+        wrap: building.wrap.unwrap_or(last),
+        side: config_or_none(building.side),
     }
 }
 
@@ -183,13 +175,5 @@ pub fn assemble(alloc: Global, source: &Source) -> Result<Vec<Program>, PioFault
         total,
     };
     let building = take_lines(&context, source.globals.as_slice())?;
-    let Building {
-        seen,
-        code: _,
-        side: _,
-        origin: _,
-        target: _,
-        wrap: _,
-    } = building;
-    take_programs(alloc, &seen, source.programs.as_slice())
+    take_programs(alloc, &building.seen, source.programs.as_slice())
 }

@@ -1,12 +1,11 @@
 //! The value of an expression.
 
-ghost use Rattle.std.specs.Prelude.{◌≡◌, ◌∷◌, [], OnOk, IfOk};
+ghost use Rattle.std.specs.Prelude.{◌≡◌, OnOk, IfOk};
 ghost use Rattle.pio_asm.specs.Value.{bounded_option, evaluated, is_in_bounds, name_step, number_step, one_operand, operator_step, rest_of, reversed_bits, term_step, top_of, two_operands, unary_step, binary_step, value_in, with_result};
 
 use crate::symbols::{Symbols, Value};
-use pio_parse::{Operator, Term};
+use pio_parse::{Expression, Operator, Stack, Term};
 use std::alloc::{AllocError, Global};
-use std::marker::Model;
 
 /// The greatest value that an expression may have at any step.
 const GREATEST: i64 = 4294967295;
@@ -14,52 +13,22 @@ const GREATEST: i64 = 4294967295;
 /// The least value that an expression may have at any step.
 const LEAST: i64 = -2147483648;
 
-/// Values of operands, the newest first.
-#[derive(Drop)]
-struct ValueStack {
-    items: Vec<Value>,
-}
-
-impl Model for ValueStack {
-    ghost use Rattle.std.specs.Prelude.{List, ℤ, Option, reverse};
-
-    ghost Value = { List (Option ℤ) };
-
-    ghost view = { λ stack. reverse stack.items.items };
-}
-
-impl ValueStack {
-    fn new(alloc: Global) -> ValueStack
-        ensures { result ≡ [] }
-    {
-        ValueStack {
-            items: Vec::new(alloc),
-        }
-    }
-
-    fn push(&mut self, value: Value) -> Result<(), AllocError>
-        ensures { OnOk result (self.new ≡ value ∷ self.old) }
-    {
-        self.items.push(value)?;
-        Ok(())
-    }
-
-    /// Takes the newest value; where there is none, 0.
-    fn pop(&mut self) -> Value
-        ensures value { result ≡ top_of self.old }
-        ensures rest { self.new ≡ rest_of self.old }
-    {
-        match self.items.pop() {
-            Some(value) => value,
-            None => Some(0),
-        }
+/// Takes the newest value; where there is none, 0.
+fn pop(stack: &mut Stack<Value>) -> Value
+    ensures value { result ≡ top_of stack.old }
+    ensures rest { stack.new ≡ rest_of stack.old }
+{
+    match stack.pop() {
+        Some(value) => value,
+        None => Some(0),
     }
 }
 
 /// An expression that is being evaluated.
 #[derive(Drop)]
 struct Evaluation {
-    stack: ValueStack,
+    /// Values of operands.
+    stack: Stack<Value>,
     unknown: bool,
     outside: bool,
 }
@@ -128,7 +97,7 @@ fn apply_two(operator: Operator, x: i64, y: i64) -> Option<i64>
 fn take_unary(evaluation: &mut Evaluation, operator: Operator) -> Result<(), AllocError>
     ensures { OnOk result (evaluation.new ≡ unary_step operator evaluation.old) }
 {
-    match evaluation.stack.pop() {
+    match pop(&mut evaluation.stack) {
         Some(x) => add_result(evaluation, apply_one(operator, x)),
         None => evaluation.stack.push(None),
     }
@@ -138,8 +107,8 @@ fn take_unary(evaluation: &mut Evaluation, operator: Operator) -> Result<(), All
 fn take_binary(evaluation: &mut Evaluation, operator: Operator) -> Result<(), AllocError>
     ensures { OnOk result (evaluation.new ≡ binary_step operator evaluation.old) }
 {
-    let y = evaluation.stack.pop();
-    let x = evaluation.stack.pop();
+    let y = pop(&mut evaluation.stack);
+    let x = pop(&mut evaluation.stack);
     match (x, y) {
         (Some(x), Some(y)) => add_result(evaluation, apply_two(operator, x, y)),
         _ => evaluation.stack.push(None),
@@ -158,11 +127,7 @@ fn take_operator(evaluation: &mut Evaluation, operator: Operator) -> Result<(), 
 fn take_number(evaluation: &mut Evaluation, number: u64) -> Result<(), AllocError>
     ensures { OnOk result (evaluation.new ≡ number_step number evaluation.old) }
 {
-    if number <= 4294967295 {
-        add_result(evaluation, Some(number as i64))
-    } else {
-        add_result(evaluation, None)
-    }
+    add_result(evaluation, (number <= 4294967295).then(|| number as i64))
 }
 
 /// The value of a name in a program: its own names hide none of the others.
@@ -208,19 +173,20 @@ pub(crate) fn evaluate(
     alloc: Global,
     locals: &Symbols,
     globals: &Symbols,
-    terms: &[Term],
+    expression: &Expression,
 ) -> Result<Evaluated, AllocError>
-    ensures { IfOk result (λ e. e ≡ evaluated locals.now globals.now terms.now) }
+    ensures { IfOk result (λ e. e ≡ evaluated locals.now globals.now expression.now) }
 {
+    let terms = expression.as_slice();
     let mut evaluation = Evaluation {
-        stack: ValueStack::new(alloc),
+        stack: Stack::new(alloc),
         unknown: false,
         outside: false,
     };
     for term in terms {
         take_term(locals, globals, term, &mut evaluation)?;
     }
-    let value = evaluation.stack.pop();
+    let value = pop(&mut evaluation.stack);
     Ok(Evaluated {
         value,
         unknown: evaluation.unknown,

@@ -9,3 +9,4 @@ pub mod Files
 pub mod descent
 pub mod Laws
 pub mod GrammarLaws
+pub mod Stack

@@ -1,12 +1,12 @@
 //! Expressions, read into postfix order.
 
 ghost use Rattle.std.specs.Prelude.{◌≡◌, ◌∷◌, [], List, ◌<◌, ◌+◌, ◌^◌, IfOk, OnOk};
-ghost use Rattle.pio_parse.specs.descent.Calls.{HasPopped, Reads, ReadsOperand, ReadsOperator, newest};
+ghost use Rattle.pio_parse.specs.descent.Calls.{Reads, ReadsOperand, ReadsOperator};
 ghost use Rattle.pio_parse.specs.descent.Expression.{expression_at, level_of, operand_at, operand_step, operator_step, reduced, token_step, with_binary, with_closed};
 ghost use Rattle.pio_parse.specs.Tokens.{name_at};
 
 use crate::cursor::{Stop, TokenCursor};
-use crate::sequence::Sequence;
+use crate::sequence::{Sequence, Stack};
 use crate::token::{Span, Token, TokenKind};
 use pio_program::Name;
 use std::alloc::{AllocError, Global};
@@ -76,53 +76,6 @@ enum Pending {
     Operator(Operator),
 }
 
-/// What waits, the newest first.
-#[derive(Drop)]
-struct Stack {
-    items: Vec<Pending>,
-}
-
-impl Model for Stack {
-    ghost use Rattle.std.specs.Prelude.{List, reverse};
-    ghost use Rattle.pio_parse.specs.declared.expression.Pending.{Pending};
-
-    ghost Value = { List Pending };
-
-    ghost view = { λ stack. reverse stack.items.items };
-}
-
-impl Stack {
-    fn new(alloc: Global) -> Stack
-        ensures { result ≡ [] }
-    {
-        Stack {
-            items: Vec::new(alloc),
-        }
-    }
-
-    fn push(&mut self, pending: Pending) -> Result<(), AllocError>
-        ensures { OnOk result (self.new ≡ pending ∷ self.old) }
-    {
-        self.items.push(pending)?;
-        Ok(())
-    }
-
-    fn pop(&mut self) -> Option<Pending>
-        ensures { HasPopped result self.old self.new }
-    {
-        self.items.pop()
-    }
-
-    fn top(&self) -> Option<Pending>
-        ensures { result ≡ newest self.now }
-    {
-        match self.items.as_slice() {
-            [] => None,
-            [.., last] => Some(*last),
-        }
-    }
-}
-
 /// How tightly an operator binds. One that stands before its operand takes all that binds more.
 fn level(operator: Operator) -> u8
     ensures { result ≡ level_of operator }
@@ -136,7 +89,11 @@ fn level(operator: Operator) -> u8
 
 /// The operators that wait since the last open parenthesis, and bind at least so tightly, have their
 /// last operand.
-fn reduce(least: u8, stack: &mut Stack, output: &mut Sequence<Term>) -> Result<(), AllocError>
+fn reduce(
+    least: u8,
+    stack: &mut Stack<Pending>,
+    output: &mut Sequence<Term>,
+) -> Result<(), AllocError>
     ensures { OnOk result ((stack.new, output.new)
         ≡ reduced least stack.old output.old) }
 {
@@ -153,7 +110,8 @@ fn reduce(least: u8, stack: &mut Stack, output: &mut Sequence<Term>) -> Result<(
 /// An expression that is being read.
 #[derive(Drop)]
 struct Reading {
-    stack: Stack,
+    /// What waits.
+    stack: Stack<Pending>,
     output: Sequence<Term>,
     /// Whether an operand comes next.
     awaited: bool,

@@ -25,7 +25,7 @@ pub use expression::{Expression, Operator, Term};
 pub use fault::PioFault;
 pub use parser::parse;
 pub use pio_program::Name;
-pub use sequence::Sequence;
+pub use sequence::{Sequence, Stack};
 pub use syntax::{
     BoxedInstruction, Instruction, Line, Lines, Operation, Programs, Source, SourceProgram,
     Statement,

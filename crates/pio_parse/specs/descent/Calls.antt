@@ -1,10 +1,9 @@
 -- How the calls of the program stand to the definitions of what they read. It is the body's, and stands in no definition.
-use Rattle.std.specs.Prelude.{◌≡◌, Bool, true, false, List, [], ◌∷◌, Option, None, Some, Result, Ok, Err, ⊤}
+use Rattle.std.specs.Prelude.{◌≡◌, Bool, true, false, List, Option, None, Some, Result, Ok, Err, ⊤}
 use Rattle.source_text.specs.declared.position.SourcePosition.{SourcePosition}
 use Rattle.pio_parse.specs.declared.token.Token.{Token}
 use Rattle.pio_parse.specs.declared.cursor.Stop.{Stop}
 use Rattle.pio_parse.specs.declared.cursor.Stop.TheVariants.{Syntax, Memory}
-use Rattle.pio_parse.specs.declared.expression.Pending.{Pending}
 use Rattle.pio_parse.specs.declared.expression.Reading.{Reading}
 use Rattle.pio_parse.specs.descent.Cursor.{Outcome}
 
@@ -18,15 +17,6 @@ Reads (Err Memory) rest outcome = ⊤
 abbrev pub IsStopOf : {X : Type 0} → Result X SourcePosition → Stop → Type 0
 IsStopOf outcome (Syntax position) = outcome ≡ Err position
 IsStopOf outcome Memory = ⊤
-
--- the newest of what waits was taken off, if anything waited
-abbrev pub HasPopped : Option Pending → List Pending → List Pending → Type 0
-HasPopped None old new = (old ≡ []) × (new ≡ [])
-HasPopped (Some pending) old new = old ≡ pending ∷ new
-
-abbrev pub newest : List Pending → Option Pending
-newest [] = None
-newest (pending ∷ stack) = Some pending
 
 -- what a call made of one token
 abbrev pub ReadsOperand : Result (Unit {0}) Stop → Reading → Result Reading SourcePosition → Type 0
