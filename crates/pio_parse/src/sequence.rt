@@ -94,9 +94,6 @@ impl<T: Copy + Drop> Stack<T> {
     pub(crate) fn top(&self) -> Option<T>
         ensures { result ≡ newest self.now }
     {
-        match self.items.as_slice() {
-            [] => None,
-            [.., last] => Some(*last),
-        }
+        self.items.last().copied()
     }
 }
