@@ -67,6 +67,7 @@ fn has_ended(passed: u64, watched: Watched, before: u32, machine: &Machine) -> b
 
 /// Goes over cycles behind which a move forward does not end, but maybe behind the last one, at most up to a cycle: quiet times, and those
 /// in which core 0 alone is at work. How many they were, 0 also where none is passed at once.
+#[tactic(auto, using(crate::proofs::Ends::pin_unended, crate::proofs::Ends::waiting_stays, crate::proofs::Sights::word_unended, crate::proofs::Sights::begun_unended))]
 fn pass_seeking<X: Device, L: Ledger>(
     machine: &mut Machine,
     world: &World<'_, X>,

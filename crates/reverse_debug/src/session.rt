@@ -100,6 +100,7 @@ impl Session {
     /// # Errors
     ///
     /// Want of memory.
+    #[tactic(auto, using(crate::proofs::Sessions::low_at_first))]
     pub fn open(alloc: Global, machine: &Machine, limit: u64) -> Result<Session, AllocError>
         requires start { machine.now.cycle ≡ 0 }
         requires limit { limit ≤ 1000000000 }
@@ -135,6 +136,7 @@ impl Session {
     }
 
     /// Restores the nearest state that is kept of the near stretch.
+    #[tactic(auto, using(crate::proofs::Sessions::part_none))]
     fn jump_near(&mut self, target: u64)
         requires close { (nat_lt target self.old.now.cycle
             && is_within self.old.near.spacing self.old.near.origin target) ≡ true }
@@ -150,6 +152,7 @@ impl Session {
 
     /// Restores the nearest state that is kept of the run, where the machine is beyond the target, or before that state. The near
     /// stretch begins there anew.
+    #[tactic(auto, using(crate::proofs::Sessions::part_near, crate::proofs::Sessions::part_stayed))]
     fn jump_far(&mut self, target: u64)
         requires far { (nat_lt target self.old.now.cycle
             && is_within self.old.near.spacing self.old.near.origin target) ≡ false }
@@ -358,6 +361,7 @@ impl Session {
     }
 
     /// The n-th cycle below the present one in which what is watched happens. The session is as before.
+    #[tactic(auto, using(crate::proofs::Befores::reaches, crate::proofs::Befores::same_before, crate::proofs::Befores::spent_same))]
     fn nth_before<X: Device, L: Ledger>(
         &mut self,
         world: &World<'_, X>,
@@ -390,6 +394,7 @@ impl Session {
     }
 
     /// Moves back to the n-th time of what is watched, or to the start, and writes the reply.
+    #[tactic(auto, using(crate::proofs::Befores::went_to_start, crate::proofs::Befores::stands_same))]
     fn move_before<X: Device, L: Ledger>(
         &mut self,
         world: &World<'_, X>,

@@ -1,12 +1,6 @@
 use Rattle.reverse_debug.proofs.Moves.{moved_there, moved_stopped, stop_written}
 use Rattle.reverse_debug.proofs.session.Session.move_to.Goals as goal
 
-pub forward-requires-clause-stands : goal.forward-requires-clause-stands
-forward-requires-clause-stands g c κs within = (c.jump.ensures _ c.requires.stands).stays.stands
-
-pub forward-requires-clause-ahead : goal.forward-requires-clause-ahead
-forward-requires-clause-ahead g c κs within = (c.jump.ensures _ c.requires.stands).below
-
 pub returns-in-None : goal.returns-in-None
 returns-in-None g c =
     moved_there _ _ _ _ _ _ _ _ c.requires.stands (c.jump.ensures _ c.requires.stands) c.in-None.ensures.way c.in-None.ensures.there c.put_cycle.ensures

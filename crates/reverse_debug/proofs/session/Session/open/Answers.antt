@@ -1,8 +1,5 @@
-use Rattle.reverse_debug.proofs.Sessions.{opened, low_at_first}
+use Rattle.reverse_debug.proofs.Sessions.{opened}
 use Rattle.reverse_debug.proofs.session.Session.open.Goals as goal
-
-pub near-requires : goal.near-requires
-near-requires c = low_at_first _ _ _ c.requires.limit c.in_ok-ring.ensures c.spacing.ensures
 
 pub returns : goal.returns
 returns c =
