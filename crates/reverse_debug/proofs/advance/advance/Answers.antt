@@ -1,5 +1,5 @@
 use Rattle.std.proofs.Common.{◌+◌, ◌≡◌, ◌≤◌, ◌∙◌, ap, sym, arith}
-use Rattle.reverse_debug.proofs.Paths.{next_at, way_here, way_on, way_stopped, way_passed}
+use Rattle.reverse_debug.proofs.Paths.{next_at, way_here, way_on, way_passed}
 use Rattle.reverse_debug.proofs.advance.advance.Goals as goal
 
 pub cycles-init : goal.cycles-init
@@ -27,16 +27,3 @@ cycles-preserved-then-is_due g c =
     let q = c.pass_paced.ensures in
     let near : c.passable-most.result ≤ c.args.to = omega (arith, c.passable-most.ensures.before) in
     way_passed _ _ c.cycle.new.self c.pass_paced.new.machine c.args.to _ _ _ _ _ on q.state q.quiet q.within near c.passable-most.ensures.limit q.steps
-
-pub returns-in-Some-clause-way : goal.returns-in-Some-clause-way
-returns-in-Some-clause-way g c =
-    way_stopped _ _ c.cycles.machine _ c.args.to _ _ _ _ c.cycles.invariant (sym c.in-Some.ensures.cause) (omega arith) c.in-Some.ensures.state c.in-Some.ensures.steps
-
-pub returns-clause-way : goal.returns-clause-way
-returns-clause-way g c = c.cycles.invariant
-
-pub returns-clause-there : goal.returns-clause-there
-returns-clause-there g c = let within : c.cycles.machine.cycle ≤ c.args.to = c.cycles.invariant.within in omega arith
-
-pub cycle-requires : goal.cycle-requires
-cycle-requires g c = (c.type_bounds.sync-X, c.cycles.invariant.low)

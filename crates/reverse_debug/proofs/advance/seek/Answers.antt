@@ -1,6 +1,6 @@
 use Rattle.reverse_debug.proofs.Shared.{SeesAs, ap, arith, ends_by, setting_of, sought, sym, ◌+◌, ◌∙◌, ◌≡◌}
 use Rattle.reverse_debug.proofs.Paths.{next_at, way_here}
-use Rattle.reverse_debug.proofs.Ends.{Unended, sees_there, unended_none, unended_passed, unended_found, unended_cycle, unended_ended, unended_at_stop, unended_there}
+use Rattle.reverse_debug.proofs.Ends.{Unended, sees_there, unended_none, unended_passed, unended_found, unended_cycle, unended_ended}
 use Rattle.reverse_debug.proofs.advance.seek.Given.{Over}
 use Rattle.reverse_debug.proofs.advance.seek.Goals.{After-is_due}
 use Rattle.reverse_debug.proofs.advance.seek.Goals as goal
@@ -25,9 +25,6 @@ sees g c = sees_there _ _ c.cycle.new.self (sought c.args.watched) _ c.seen-befo
 pub cycles-preserved : goal.cycles-preserved
 cycles-preserved g c = on g (goal.at.cycles-preserved g c).After-is_due
 
-pub pass_seeking-passed-requires-clause-before : goal.pass_seeking-passed-requires-clause-before
-pass_seeking-passed-requires-clause-before g c κs within = sees g (goal.at.pass_seeking-passed-requires-clause-before g c).After-is_due
-
 pub returns-then-has_ended : goal.returns-then-has_ended
 returns-then-has_ended g c =
     let at = (goal.at.returns-then-has_ended g c).After-is_due in
@@ -51,13 +48,3 @@ pub cycles-smaller : goal.cycles-smaller
 cycles-smaller g c =
     let one = next_at _ c.cycles.machine c.cycle.new.self c.in-None.ensures.state in
     omega (arith, one)
-
-pub returns-in-Some : goal.returns-in-Some
-returns-in-Some g c =
-    unended_at_stop _ (sought c.args.watched) _ c.cycles.machine _ c.args.to _ _ _ _ c.cycles.invariant (sym c.in-Some.ensures.cause) (omega arith) c.in-Some.ensures.state c.in-Some.ensures.steps
-
-pub returns : goal.returns
-returns g c = unended_there _ _ _ _ _ _ _ c.cycles.invariant c.requires.ahead (omega arith)
-
-pub cycle-requires : goal.cycle-requires
-cycle-requires g c = (c.type_bounds.sync-X, c.cycles.invariant.way.low)

@@ -1,13 +1,9 @@
 use Rattle.std.proofs.Common.{◌<◌, arith}
-use Rattle.reverse_debug.proofs.Tallies.{counting_here, counting_on, never_stopped, few_counted, counted_all, counted_steps}
+use Rattle.reverse_debug.proofs.Tallies.{counting_here, counting_on, never_stopped, few_counted}
 use Rattle.reverse_debug.proofs.search.scan.Goals as goal
 
 pub cycles-init : goal.cycles-init
 cycles-init g c = counting_here _ _ _ _ _ _ c.requires.low c.requires.ahead
-
-pub cycles-smaller : goal.cycles-smaller
-cycles-smaller g c =
-    omega (arith, c.number-cycle.ensures, c.in-None.ensures.there)
 
 pub cycles-preserved : goal.cycles-preserved
 cycles-preserved g c =
@@ -23,9 +19,3 @@ noted-tally-requires g c =
 pub returns-in-Some : goal.returns-in-Some
 returns-in-Some g c =
     absurd (never_stopped _ _ _ _ _ _ _ _ _ _ _ _ _ c.cycles.invariant c.number-cycle.ensures c.in-Some.ensures.way (omega arith) c.requires.to)
-
-pub returns-clause-tally : goal.returns-clause-tally
-returns-clause-tally g c = counted_all _ _ _ _ _ _ _ _ _ c.cycles.invariant (omega arith)
-
-pub returns-clause-steps : goal.returns-clause-steps
-returns-clause-steps g c = counted_steps _ _ _ _ _ _ _ _ _ c.cycles.invariant (omega arith)

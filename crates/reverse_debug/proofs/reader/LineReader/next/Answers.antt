@@ -1,12 +1,8 @@
-use Rattle.reverse_debug.proofs.Shared.{Ahead, ap, arith, ◌<◌, ◌≤◌}
-use Rattle.reverse_debug.proofs.NextLines.{read_first, passed_first, read_more, passed_more, read_last, read_failed, read_full}
+use Rattle.reverse_debug.proofs.NextLines.{read_first, read_more, passed_more}
 use Rattle.reverse_debug.proofs.reader.LineReader.next.Goals as goal
 
 pub returns-then-pass : goal.returns-then-pass
 returns-then-pass g c = read_first c.args.limit c.args.self.now c.pass.new.self _ _ c.clear.new.self.items c.pass.new.line.items c.pass.result c.if-pass.true c.clear.ensures c.requires.within c.pass.ensures.taken c.pass.ensures.passes
-
-pub pieces-init : goal.pieces-init
-pieces-init g c = passed_first c.args.limit c.args.self.now c.pass.new.self _ _ c.clear.new.self.items c.pass.new.line.items c.pass.result c.if-pass.false c.clear.ensures c.requires.within c.pass.ensures.taken c.pass.ensures.passes
 
 pub returns-then-pass-2 : goal.returns-then-pass-2
 returns-then-pass-2 g c =
@@ -15,18 +11,3 @@ returns-then-pass-2 g c =
 pub pieces-preserved : goal.pieces-preserved
 pieces-preserved g c =
     passed_more c.args.limit c.args.self.now c.pieces.self c.fill.new.self c.pass-in-Took.new.self _ _ _ _ _ _ _ c.pass-in-Took.new.line.items _ c.pass-in-Took.result c.if-pass-2.false c.pieces.invariant c.in-Took.ensures c.pass-in-Took.ensures.taken c.pass-in-Took.ensures.passes
-
-pub returns-in-End : goal.returns-in-End
-returns-in-End g c =
-    let lt : c.pieces.self.taken < c.args.limit = omega (arith, c.pieces-test.true, ap (λ (a : Ahead). a.taken) c.self.view_is) in
-    read_last c.args.limit c.args.self.now c.pieces.self c.fill.new.self _ _ _ _ _ _ _ c.pieces.invariant lt c.in-End.ensures
-
-pub returns-in-Failed : goal.returns-in-Failed
-returns-in-Failed g c =
-    let lt : c.pieces.self.taken < c.args.limit = omega (arith, c.pieces-test.true, ap (λ (a : Ahead). a.taken) c.self.view_is) in
-    read_failed c.args.limit c.args.self.now c.pieces.self c.fill.new.self _ _ _ _ _ _ _ c.pieces.invariant lt c.in-Failed.ensures
-
-pub returns : goal.returns
-returns g c =
-    let le : c.args.limit ≤ c.pieces.self.taken = omega (arith, c.pieces-test.false, ap (λ (a : Ahead). a.taken) c.self.view_is) in
-    read_full c.args.limit c.args.self.now c.pieces.self _ _ _ _ _ c.pieces.invariant le

@@ -2,9 +2,6 @@ use Rattle.reverse_debug.proofs.Shared.{ap, arith, max, next_place, ◌+◌, ◌
 use Rattle.reverse_debug.proofs.Sessions.{low_number, part_low, part_stretched}
 use Rattle.reverse_debug.proofs.session.Session.seek.Goals as goal
 
-pub next_stop-until-requires-clause-stands : goal.next_stop-until-requires-clause-stands
-next_stop-until-requires-clause-stands g c = (_, c.requires.stands)
-
 pub next_stop-until-requires-clause-ahead : goal.next_stop-until-requires-clause-ahead
 next_stop-until-requires-clause-ahead g c = low_number _ _ c.requires.stands
 

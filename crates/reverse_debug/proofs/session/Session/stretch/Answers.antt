@@ -2,9 +2,6 @@ use Rattle.std.proofs.Common.{max, ap, ◌∙◌}
 use Rattle.reverse_debug.proofs.Sessions.{part_low, part_stretched}
 use Rattle.reverse_debug.proofs.session.Session.stretch.Goals as goal
 
-pub next_stop-until-requires-clause-stands : goal.next_stop-until-requires-clause-stands
-next_stop-until-requires-clause-stands g c = (_, c.requires.stands)
-
 pub advance-why-requires-clause-low : goal.advance-why-requires-clause-low
 advance-why-requires-clause-low g c κs within = part_low _ _ _ c.self.view_is c.requires.stands
 

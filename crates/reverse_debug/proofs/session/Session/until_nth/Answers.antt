@@ -1,5 +1,4 @@
-use Rattle.std.proofs.Common.{arith}
-use Rattle.reverse_debug.proofs.Seeking.{seeking_on, seeking_nearer, seeking_stopped, seeking_done}
+use Rattle.reverse_debug.proofs.Seeking.{seeking_on, seeking_nearer, seeking_stopped}
 use Rattle.reverse_debug.proofs.session.Session.until_nth.Goals as goal
 
 pub cycles-smaller : goal.cycles-smaller
@@ -12,6 +11,3 @@ cycles-preserved g c =
 
 pub returns-in-Some : goal.returns-in-Some
 returns-in-Some g c = seeking_stopped _ _ _ _ _ _ _ _ _ _ _ _ c.cycles.invariant c.cycles-test.true c.in-Some.ensures.way c.in-Some.ensures.none
-
-pub returns : goal.returns
-returns g c = seeking_done _ _ _ _ _ _ _ _ c.cycles.invariant (omega arith)
