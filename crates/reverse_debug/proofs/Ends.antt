@@ -8,7 +8,7 @@ use Rattle.reverse_debug.specs.declared.watch.Watched.{Watched as Written}
 use Rattle.reverse_debug.specs.declared.watch.Watched.TheVariants as written
 use Rattle.reverse_debug.specs.Command.{Watched}
 use Rattle.reverse_debug.specs.Command.Watched.{Word, Pin, Begun}
-use Rattle.reverse_debug.proofs.Paths.{joined, one_on, none_first, states_within, next_at, way_on, way_passed, way_stopped, quiet_there}
+use Rattle.reverse_debug.proofs.Paths.{joined, one_on, none_first, states_within, next_at, way_on, way_passed, quiet_there}
 
 -- ---- what was seen before
 
@@ -189,11 +189,3 @@ unended_ended w watched s t u to before now after h none e lt count =
     let one : u.cycle ≡ t.cycle + 1 = next_at w t u e in
     let from : s.cycle ≤ t.cycle = h.way.path.forward in
     record { way = way_on w s t u to before now after h.way none e lt count; ahead = omega arith; none = λ k below. h.none k (omega arith) }
-
-pub unended_at_stop : (w : Setting) (watched : Watched) (s t u : State) (to before now after : ℕ) (why : Why) → Unended w watched s t to before now → stop w t ≡ Some why → t.cycle < to → u ≡ t → after ≡ now
-    → Approaches w watched s to u (Some why) before after
-unended_at_stop w watched s t u to before now after why h stops lt e same =
-    record { way = way_stopped w s t u to before now after why h.way stops lt e same; ahead = tt; none = subst (λ (x : State). NoneEnds w watched s (x.cycle - s.cycle)) (sym e) h.none }
-
-pub unended_there : (w : Setting) (watched : Watched) (s t : State) (to before now : ℕ) → Unended w watched s t to before now → s.cycle < to → to ≤ t.cycle → Approaches w watched s to t None before now
-unended_there w watched s t to before now h lt le = record { way = h.way; ahead = omega arith; none = λ k below. h.none k (omega arith) }

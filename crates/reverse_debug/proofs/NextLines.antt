@@ -5,7 +5,7 @@ use Rattle.std.proofs.Math.Seq.{take-append-add}
 use Rattle.std.proofs.lemmas.List.{append-nil, take_all, take-append-drop}
 use Rattle.rp_ports.specs.declared.source.Taken.TheVariants as taken
 use Rattle.reverse_debug.specs.declared.reader.Next.{Next}
-use Rattle.reverse_debug.specs.declared.reader.Next.TheVariants.{Line, Last, Failed, Full}
+use Rattle.reverse_debug.specs.declared.reader.Next.TheVariants.{Line, Last}
 
 -- ---- the first LF
 
@@ -119,19 +119,6 @@ read_first limit a b left lost before given true is none within same p = record 
   ends = refl;
 }
 
-pub passed_first : (limit : ℕ) (a b : Ahead) (left : Option (List ℕ)) (lost : ℕ) (before given : List ℕ) (was : Bool) → was ≡ false → before ≡ [] → a.taken ≤ limit → b.taken ≡ a.taken → Passes a.rest b.rest before given was → Passed limit a b left left lost lost given
-passed_first limit a b left lost before given true is none within same p = absurd (cc is)
-passed_first limit a b left lost before given false is none within same p = record {
-  bytes = [];
-  count = omega (arith, same);
-  within = omega (arith, same, within);
-  consumed = consumes_none left;
-  steady = refl;
-  unended = subst HasNoEnd (sym (append-nil a.rest)) p.0;
-  gives = p.2 ∙ ap (λ x. take given_bytes (x ++ a.rest)) none ∙ ap (take given_bytes) (sym (append-nil a.rest));
-  none = p.1;
-}
-
 -- with one take more
 given_on : (first more given given' : List ℕ) → given ≡ take given_bytes first → given' ≡ take given_bytes (given ++ more) → given' ≡ take given_bytes (first ++ more)
 given_on first more given given' is next = next ∙ ap (λ x. take given_bytes (x ++ more)) is ∙ given_both given_bytes first more
@@ -183,9 +170,3 @@ read_open next limit a b c left left' left'' lost lost' lost'' given k same kept
 
 pub read_last : (limit : ℕ) (a b c : Ahead) (left left' left'' : Option (List ℕ)) (lost lost' lost'' : ℕ) (given : List ℕ) → Passed limit a b left left' lost lost' given → b.taken < limit → Fills limit b c left' left'' lost' lost'' taken.End → Reads limit a c left left'' lost lost'' given Last
 read_last limit a b c left left' left'' lost lost' lost'' given k lt f = read_open Last limit a b c left left' left'' lost lost' lost'' given k f.0 f.2 (refl, f.1) (f.4 ∙ k.steady, omega (arith, f.0, lt), f.3)
-
-pub read_failed : (limit : ℕ) (a b c : Ahead) (left left' left'' : Option (List ℕ)) (lost lost' lost'' : ℕ) (given : List ℕ) → Passed limit a b left left' lost lost' given → b.taken < limit → Fills limit b c left' left'' lost' lost'' taken.Failed → Reads limit a c left left'' lost lost'' given Failed
-read_failed limit a b c left left' left'' lost lost' lost'' given k lt f = read_open Failed limit a b c left left' left'' lost lost' lost'' given k f.0 f.2 (refl, f.1) (omega (arith, f.3, k.steady), omega (arith, f.0, lt), omega (arith, f.4, k.steady))
-
-pub read_full : (limit : ℕ) (a b : Ahead) (left left' : Option (List ℕ)) (lost lost' : ℕ) (given : List ℕ) → Passed limit a b left left' lost lost' given → limit ≤ b.taken → Reads limit a b left left' lost lost' given Full
-read_full limit a b left left' lost lost' given k le = read_open Full limit a b b left left' left' lost lost' lost' given k refl refl (refl, k.none) (k.steady, le)

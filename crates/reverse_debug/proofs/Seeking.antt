@@ -123,11 +123,6 @@ seeking_stopped w old a b watched n left to why before now after k some go none 
       stopped = go.stopped.0;
     }
 
-pub seeking_done : (w : Setting) (old new : Standing) (watched : Watched) (count left before after : ℕ) → Seeks w watched count old new left before after → left ≤ 0 → Seeks w watched count old new 0 before after
-seeking_done w old new watched count left before after k le =
-    let e : left ≡ 0 = omega arith in
-    subst (λ m. Seeks w watched count old new m before after) e k
-
 -- ---- the reply
 
 stands_there : (w : Setting) (old new : Standing) (watched : Watched) (count left : ℕ) (what : Said) (reply : List ℕ) (before after : ℕ) → StandsFor w old → Seeks w watched count old new left before after →

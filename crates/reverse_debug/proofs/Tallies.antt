@@ -93,15 +93,3 @@ never_stopped w f t u watched most to so_far before now after n why k en a lt le
     let end : last_cycle w f ≡ u.cycle = ap (λ (x : State). x.cycle) (path_last w f u why path a.stopped.0 a.low) in
     let below : u.cycle < n + 1 = a.stopped.1 in
     omega arith
-
-pub counted_all : (w : Setting) (f t : State) (watched : Watched) (most to : ℕ) (so_far : Tally) (before now : ℕ) → Counting w f t watched most to so_far before now → to ≤ t.cycle → so_far ≡ tally w f watched most (to - f.cycle)
-counted_all w f t watched most to so_far before now k le =
-    let within : t.cycle ≤ to = k.way.within in
-    let e : t.cycle ≡ to = omega arith in
-    k.is ∙ ap (λ c. tally w f watched most (c - f.cycle)) e
-
-pub counted_steps : (w : Setting) (f t : State) (watched : Watched) (most to : ℕ) (so_far : Tally) (before now : ℕ) → Counting w f t watched most to so_far before now → to ≤ t.cycle → now + f.cycle ≡ before + to
-counted_steps w f t watched most to so_far before now k le =
-    let within : t.cycle ≤ to = k.way.within in
-    let stepped : now + f.cycle ≡ before + t.cycle = k.way.count in
-    omega arith
