@@ -283,17 +283,6 @@ searched w f watched count to left end before now k le =
     let e : end ≡ 0 = omega arith in
     none_left w f watched left k.some ∙ ap (before_nth w f watched left) (sym e) ∙ sym k.found
 
-pub spent_all : (w : Setting) (f : State) (ring near : Snapshots) (watched : Watched) (count to left end before now : ℕ) → 0 < ring.spacing → 0 < near.spacing → Searching w f watched count to left end before now → Spends ring near count to before now None
-spent_all w f ring near watched count to left end before now far close k =
-    let few : left ≤ count = k.few in
-    let some : 0 < left = k.some in
-    let steps : now + end ≤ before + to = k.steps in
-    let by : (d : ℕ) → 0 < d → now ≤ before + search_cost d count to None = λ d lt. elim (cases_lt 0 to) as (λ _. now ≤ before + search_cost d count to None) [
-      | inl more ↦ near_by count to d before now None (omega arith) more (omega arith)
-      | inr le ↦ omega arith
-    ] in
-    record { forward = k.forward; steps = by ring.spacing far; close = λ _. by near.spacing close }
-
 pub zero_th : (w : Setting) (f : State) (watched : Watched) (count to : ℕ) → count ≡ 0 → Some to ≡ before_nth w f watched count to
 zero_th w f watched count to e = sym (ap (λ n. before_nth w f watched n to) e ∙ before_here w f watched to)
 

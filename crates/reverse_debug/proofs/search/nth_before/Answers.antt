@@ -1,12 +1,9 @@
 use Rattle.std.proofs.Common.{◌<◌, refl, arith}
-use Rattle.reverse_debug.proofs.Stretches.{stretch_of, searching_on, found_there, found_again, spent_once, spent_twice, remembers_all, searched, spent_all, zero_th}
+use Rattle.reverse_debug.proofs.Stretches.{stretch_of, searching_on, found_there, found_again, spent_once, spent_twice, remembers_all, searched, zero_th}
 use Rattle.reverse_debug.proofs.search.nth_before.Goals as goal
 
 pub returns-then-count-eq0-clause-found : goal.returns-then-count-eq0-clause-found
 returns-then-count-eq0-clause-found g c = zero_th _ _ _ _ _ c.if-count-eq0.true
-
-pub returns-then-count-eq0-clause-spends : goal.returns-then-count-eq0-clause-spends
-returns-then-count-eq0-clause-spends g c = record { forward = omega arith; steps = omega arith; close = λ _. omega arith }
 
 pub scan-all-requires : goal.scan-all-requires
 scan-all-requires g c =
@@ -51,6 +48,3 @@ stretches-preserved g c =
 
 pub returns-clause-found : goal.returns-clause-found
 returns-clause-found g c = searched _ _ _ _ _ _ _ _ _ c.stretches.invariant (omega arith)
-
-pub returns-clause-spends : goal.returns-clause-spends
-returns-clause-spends g c = spent_all _ _ _ _ _ _ _ _ _ _ _ c.requires.kept.some c.requires.kept.closer c.stretches.invariant

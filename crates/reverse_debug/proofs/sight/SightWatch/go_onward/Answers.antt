@@ -5,9 +5,6 @@ use Rattle.reverse_debug.proofs.sight.SightWatch.go_onward.Goals as goal
 pub cycles-init : goal.cycles-init
 cycles-init g c = (unstopped_here _ _ _ _, refl)
 
-pub go_onward-requires : goal.go_onward-requires
-go_onward-requires g c = record { number = omega (arith, c.cycles.invariant.0.gone.cycle, c.cycles-test.true, c.requires.number) }
-
 pub cycles-preserved : goal.cycles-preserved
 cycles-preserved g c =
     let one = one_more _ _ _ _ _ _ _ _ _ _ c.cycles.invariant.0 c.cycles-test.true (omega (arith, c.go_onward.ensures.most, c.if-go_onward-eq0.false)) c.go_onward.ensures.state c.go_onward.ensures.inward c.go_onward.ensures.steps in
@@ -30,8 +27,3 @@ pub returns-then-stops : goal.returns-then-stops
 returns-then-stops g c =
     let one = one_more _ _ _ _ _ _ _ _ _ _ c.cycles.invariant.0 c.cycles-test.true (omega (arith, c.go_onward.ensures.most, c.if-go_onward-eq0.false)) c.go_onward.ensures.state c.go_onward.ensures.inward c.go_onward.ensures.steps in
     record { most = one.within; state = one.state; inward = one.inward; unstopped = one.none; marks = c.go_onward.ensures.marks ∙ c.cycles.invariant.1; steps = one.counted }
-
-pub returns : goal.returns
-returns g c =
-    let k = c.cycles.invariant.0.gone in
-    record { most = k.within; state = k.state; inward = k.inward; unstopped = k.none; marks = c.cycles.invariant.1; steps = k.counted }
