@@ -1,5 +1,5 @@
 -- The interrupt lines bit by bit, and the reads of a spinlock.
-use Rattle.std.proofs.Common.{◌≡◌, ℕ, zero, suc, ◌+◌, ◌*◌, ◌/◌, ◌%◌, ◌^◌, ◌<◌, ◌≤◌, ◌==◌, nat_le, nat_lt, Bool, true, false, not, ◌&&◌, ◌||◌, ◌⊎◌, inl, inr, cond, Some, None, refl, sym, ap, ap₂, ◌∙◌, arith}
+use Rattle.std.proofs.Common.{◌≡◌, ℕ, zero, suc, ◌+◌, ◌*◌, ◌/◌, ◌%◌, ◌^◌, ◌<◌, ◌≤◌, ◌==◌, nat_le, Bool, true, false, not, ◌&&◌, ◌||◌, cond, Some, None, refl, sym, ap, ap₂, ◌∙◌, arith}
 use Rattle.std.specs.Prelude.{bit_or, unwrap_or, is_none, if◌then◌else◌}
 use Rattle.std.proofs.Math.Nat.{pow-le-pow_right, lt_of_lt_of_le, div-eq_of_lt}
 use Rattle.std.proofs.lemmas.Bool.{eq-eqb}
@@ -49,21 +49,6 @@ for_both-at : (test : Bool → Bool) (b : Bool) → for_both test ≡ true → t
 for_both-at test true h = left_of (test true) (test false) h
 for_both-at test false h = right_of (test true) (test false) h
 
-abbrev for_below : (ℕ → Bool) → ℕ → Bool
-for_below test zero = true
-for_below test (suc n) = test n && for_below test n
-
-last_or_below : (i n : ℕ) → i < suc n → (i < n) ⊎ (i ≡ n)
-last_or_below i n h = grind arith
-
-for_below-at : (test : ℕ → Bool) (n i : ℕ) → for_below test n ≡ true → i < n → test i ≡ true
-for_below-at test zero i h low = absurd (omega (arith, low))
-for_below-at test (suc n) i h low =
-    elim (last_or_below i n low) [
-      | inl below ↦ for_below-at test n i (right_of (test n) (for_below test n) h) below
-      | inr last ↦ ap test last ∙ left_of (test n) (for_below test n) h
-    ]
-
 -- ---- the lines of IO_BANK0 and of the UARTs
 
 abbrev outer_number : Bool → Bool → Bool → ℕ
@@ -75,14 +60,13 @@ outer_line n a b c = if n == 13 then a else if n == 20 then b else if n == 21 th
 abbrev outer_test : ℕ → Bool → Bool → Bool → Bool
 outer_test n a b c = same (has_bit (outer_number a b c) n) (outer_line n a b c)
 
-outer_table : for_below (λ n. for_both (λ a. for_both (λ b. for_both (outer_test n a b)))) 22 ≡ true
-outer_table = refl
+abbrev outer_tests : ℕ → Bool
+outer_tests n = for_both (λ a. for_both (λ b. for_both (outer_test n a b)))
 
-outer_at : (n : ℕ) (a b c : Bool) → n < 22 → has_bit (outer_number a b c) n ≡ outer_line n a b c
-outer_at n a b c low =
+outer_at : (n : ℕ) (a b c : Bool) → outer_tests n ≡ true → has_bit (outer_number a b c) n ≡ outer_line n a b c
+outer_at n a b c h =
     same-true (has_bit (outer_number a b c) n) (outer_line n a b c)
-    (for_both-at (outer_test n a b) c (for_both-at (λ b. for_both (outer_test n a b)) b (for_both-at (λ a. for_both (λ b. for_both (outer_test n a b))) a
-    (for_below-at (λ n. for_both (λ a. for_both (λ b. for_both (outer_test n a b)))) 22 n outer_table low))))
+    (for_both-at (outer_test n a b) c (for_both-at (λ b. for_both (outer_test n a b)) b (for_both-at (λ a. for_both (λ b. for_both (outer_test n a b))) a h)))
 
 -- ---- those of PIO, the DMA engine and SIO
 
@@ -104,12 +88,6 @@ abbrev block_tests : ℕ → ℕ → Bool
 block_tests sio n =
     for_both (λ a. for_both (λ b. for_both (λ c. for_both (λ d. for_both (λ e. for_both (λ f. for_both (block_test sio n a b c d e f)))))))
 
-block_table_0 : for_below (block_tests 15) 22 ≡ true
-block_table_0 = refl
-
-block_table_1 : for_below (block_tests 16) 22 ≡ true
-block_table_1 = refl
-
 block_at : (sio n : ℕ) (a b c d e f g : Bool) → block_tests sio n ≡ true → has_bit (block_number sio a b c d e f g) n ≡ block_line sio n a b c d e f g
 block_at sio n a b c d e f g h =
     same-true (has_bit (block_number sio a b c d e f g) n) (block_line sio n a b c d e f g)
@@ -125,40 +103,38 @@ block_at sio n a b c d e f g h =
 abbrev parts : Bool → Bool → Bool → Bool → Bool
 parts device tick outer block = (device || (tick || outer)) || block
 
-abbrev own_outer : ℕ → ℕ → State → Bool
-own_outer core n s = outer_line n (bank_line core s.outer.pads) (is_line_high s.outer.uart0.block) (is_line_high s.outer.uart1.block)
-
-outer_bit : (core n : ℕ) (s : State) → n < 22 →
-    has_bit (outer_lines core s.outer) n ≡ (has_bit s.outer.irq n || (has_bit (timer.lines_of s.outer.timer.block) n || own_outer core n s))
-unfolding outer_lines outer.block_lines
-outer_bit core n s low =
-    let o = outer_number (bank_line core s.outer.pads) (is_line_high s.outer.uart0.block) (is_line_high s.outer.uart1.block) in
-    has_or s.outer.irq (bit_or (timer.lines_of s.outer.timer.block) o) n
-    ∙ ap (λ b. has_bit s.outer.irq n || b) (has_or (timer.lines_of s.outer.timer.block) o n
-    ∙ ap (λ b. has_bit (timer.lines_of s.outer.timer.block) n || b) (outer_at n (bank_line core s.outer.pads) (is_line_high s.outer.uart0.block) (is_line_high s.outer.uart1.block) low))
-
+-- those of PIO, the DMA engine and SIO, where the one of SIO stands at this number
 abbrev own_block : ℕ → ℕ → Bool → State → Bool
 own_block sio n line s =
     block_line sio n (line_at (pio.lines_of s.pio0.block) 0) (line_at (pio.lines_of s.pio0.block) 1) (line_at (pio.lines_of s.pio1.block) 0) (line_at (pio.lines_of s.pio1.block) 1)
     (line_at (dma.lines_of s.dma.block) 0) (line_at (dma.lines_of s.dma.block) 1) line
 
-block_bit_0 : (n : ℕ) (s : State) → n < 22 → has_bit (block_lines 0 s) n ≡ own_block 15 n (line_of s.sio.core0) s
-unfolding block_lines
-block_bit_0 n s low = block_at 15 n _ _ _ _ _ _ _ (for_below-at (block_tests 15) 22 n block_table_0 low)
+-- where the lines of SIO to a core stand, and which it has
+abbrev sio_at : ℕ → ℕ
+sio_at core = if core == 0 then 15 else 16
 
-block_bit_1 : (n : ℕ) (s : State) → n < 22 → has_bit (block_lines 1 s) n ≡ own_block 16 n (line_of s.sio.core1) s
-unfolding block_lines
-block_bit_1 n s low = block_at 16 n _ _ _ _ _ _ _ (for_below-at (block_tests 16) 22 n block_table_1 low)
+abbrev sio_line : ℕ → State → Bool
+sio_line core s = if core == 0 then line_of s.sio.core0 else line_of s.sio.core1
 
-lines_bit_0 : (n : ℕ) (s : State) → n < 22 →
-    has_line 0 s n ≡ parts (has_bit s.outer.irq n) (has_bit (timer.lines_of s.outer.timer.block) n) (own_outer 0 n s) (own_block 15 n (line_of s.sio.core0) s)
-unfolding lines_of
-lines_bit_0 n s low = has_or (outer_lines 0 s.outer) (block_lines 0 s) n ∙ ap₂ (λ a b. a || b) (outer_bit 0 n s low) (block_bit_0 n s low)
+abbrev own_outer : ℕ → ℕ → State → Bool
+own_outer core n s = outer_line n (bank_line core s.outer.pads) (is_line_high s.outer.uart0.block) (is_line_high s.outer.uart1.block)
 
-lines_bit_1 : (n : ℕ) (s : State) → n < 22 →
-    has_line 1 s n ≡ parts (has_bit s.outer.irq n) (has_bit (timer.lines_of s.outer.timer.block) n) (own_outer 1 n s) (own_block 16 n (line_of s.sio.core1) s)
-unfolding lines_of
-lines_bit_1 n s low = has_or (outer_lines 1 s.outer) (block_lines 1 s) n ∙ ap₂ (λ a b. a || b) (outer_bit 1 n s low) (block_bit_1 n s low)
+-- a line of core 0 or 1 is one of the device's, or of the timer's, or one of these
+line_is : (core n : ℕ) (s : State) → core < 2 → outer_tests n ≡ true → block_tests (sio_at core) n ≡ true
+    → has_line core s n ≡ parts (has_bit s.outer.irq n) (has_bit (timer.lines_of s.outer.timer.block) n) (own_outer core n s) (own_block (sio_at core) n (sio_line core s) s)
+unfolding lines_of outer_lines outer.block_lines block_lines
+line_is core n s low outers blocks =
+    let o = outer_number (bank_line core s.outer.pads) (is_line_high s.outer.uart0.block) (is_line_high s.outer.uart1.block) in
+    let t = timer.lines_of s.outer.timer.block in
+    has_or (outer_lines core s.outer) (block_lines core s) n
+    ∙ ap₂ (λ a b. a || b)
+    (has_or s.outer.irq (bit_or t o) n ∙ ap (λ b. has_bit s.outer.irq n || b) (has_or t o n ∙ ap (λ b. has_bit t n || b) (outer_at n _ _ _ outers)))
+    (block_bit core low blocks)
+  where
+    block_bit : (core : ℕ) → core < 2 → block_tests (sio_at core) n ≡ true → has_bit (block_lines core s) n ≡ own_block (sio_at core) n (sio_line core s) s
+    block_bit zero low h = block_at 15 n _ _ _ _ _ _ _ h
+    block_bit (suc zero) low h = block_at 16 n _ _ _ _ _ _ _ h
+    block_bit (suc (suc core)) low h = absurd (omega (arith, low))
 
 -- the timer has no line from 4 on
 no_tick : (x n : ℕ) → x < 2 ^ 4 → 4 ≤ n → has_bit x n ≡ false
@@ -168,107 +144,79 @@ no_tick x n small high =
     let none : x / 2 ^ n ≡ 0 = div-eq_of_lt (lt_of_lt_of_le small large) in
     ap (λ y. (y % 2) == 1) none
 
+-- one of these
+only : (d t o b line : Bool) → t ≡ false → (o || b) ≡ line → parts d t o b ≡ (d || line)
+only true t o b line none is = refl
+only false t o b line none is = rw none is
+
+-- or one of the timer's
+ticks : (d t o b : Bool) → (o || b) ≡ false → parts d t o b ≡ (d || t)
+ticks true t o b none = refl
+ticks false true o b none = refl
+ticks false false o b none = none
+
+line_at_number : (core n : ℕ) (s : State) (line : Bool) → core < 2 → timer.lines_of s.outer.timer.block < 2 ^ 4 → nat_le 4 n ≡ true → outer_tests n ≡ true → block_tests (sio_at core) n ≡ true
+    → (own_outer core n s || own_block (sio_at core) n (sio_line core s) s) ≡ line → has_line core s n ≡ with_device s n line
+line_at_number core n s line low small high outers blocks is =
+    line_is core n s low outers blocks ∙ only (has_bit s.outer.irq n) _ _ _ line (no_tick _ n small (grind (arith, nat_tests))) is
+
+tick_at : (core n : ℕ) (s : State) → core < 2 → outer_tests n ≡ true → block_tests (sio_at core) n ≡ true → (own_outer core n s || own_block (sio_at core) n (sio_line core s) s) ≡ false
+    → has_line core s n ≡ with_device s n (has_bit (timer.lines_of s.outer.timer.block) n)
+tick_at core n s low outers blocks none = line_is core n s low outers blocks ∙ ticks (has_bit s.outer.irq n) (has_bit (timer.lines_of s.outer.timer.block) n) _ _ none
+
 or_none : (b : Bool) → (b || false) ≡ b
 or_none true = refl
 or_none false = refl
 
-by_block : (d t o b : Bool) → t ≡ false → o ≡ false → parts d t o b ≡ (d || b)
-by_block d t o b h i = ap₂ (λ x y. (d || (x || y)) || b) h i ∙ ap (λ x. x || b) (or_none d)
-
-by_outer : (d t o b : Bool) → t ≡ false → b ≡ false → parts d t o b ≡ (d || o)
-by_outer d t o b h i = ap₂ (λ x y. (d || (x || o)) || y) h i ∙ or_none (d || o)
-
-by_timer : (d t o b : Bool) → o ≡ false → b ≡ false → parts d t o b ≡ (d || t)
-by_timer d t o b h i = ap₂ (λ x y. (d || (t || x)) || y) h i ∙ or_none (d || (t || false)) ∙ ap (λ x. d || x) (or_none t)
-
-at_below : (n k : ℕ) → n < k → (n == k) ≡ false
-at_below n k h = grind (arith, nat_tests)
-
-no_outer : (n : ℕ) (a b c : Bool) → n < 4 → outer_line n a b c ≡ false
-no_outer n a b c low = rw (at_below n 13 (omega (arith, low)), at_below n 20 (omega (arith, low)), at_below n 21 (omega (arith, low))) refl
-
-no_block : (sio n : ℕ) (a b c d e f g : Bool) → n < 4 → 15 ≤ sio → block_line sio n a b c d e f g ≡ false
-no_block sio n a b c d e f g low high =
-    rw (
-      at_below n 7 (omega (arith, low)),
-      at_below n 8 (omega (arith, low)),
-      at_below n 9 (omega (arith, low)),
-      at_below n 10 (omega (arith, low)),
-      at_below n 11 (omega (arith, low)),
-      at_below n 12 (omega (arith, low)),
-      at_below n sio (omega (arith, low, high)),
-    ) refl
-
--- what stands at a number of core 0, and of core 1
-of_block_0 : (n : ℕ) (s : State) (line : Bool) → timer.lines_of s.outer.timer.block < 2 ^ 4 → n < 22 → 4 ≤ n → own_outer 0 n s ≡ false
-    → own_block 15 n (line_of s.sio.core0) s ≡ line → has_line 0 s n ≡ with_device s n line
-of_block_0 n s line small low high none is =
-    lines_bit_0 n s low
-    ∙ by_block (has_bit s.outer.irq n) (has_bit (timer.lines_of s.outer.timer.block) n) (own_outer 0 n s) (own_block 15 n (line_of s.sio.core0) s) (no_tick _ n small high) none
-    ∙ ap (with_device s n) is
-
-of_block_1 : (n : ℕ) (s : State) (line : Bool) → timer.lines_of s.outer.timer.block < 2 ^ 4 → n < 22 → 4 ≤ n → own_outer 1 n s ≡ false
-    → own_block 16 n (line_of s.sio.core1) s ≡ line → has_line 1 s n ≡ with_device s n line
-of_block_1 n s line small low high none is =
-    lines_bit_1 n s low
-    ∙ by_block (has_bit s.outer.irq n) (has_bit (timer.lines_of s.outer.timer.block) n) (own_outer 1 n s) (own_block 16 n (line_of s.sio.core1) s) (no_tick _ n small high) none
-    ∙ ap (with_device s n) is
-
-of_outer_0 : (n : ℕ) (s : State) (line : Bool) → timer.lines_of s.outer.timer.block < 2 ^ 4 → n < 22 → 4 ≤ n → own_outer 0 n s ≡ line
-    → own_block 15 n (line_of s.sio.core0) s ≡ false → has_line 0 s n ≡ with_device s n line
-of_outer_0 n s line small low high is none =
-    lines_bit_0 n s low
-    ∙ by_outer (has_bit s.outer.irq n) (has_bit (timer.lines_of s.outer.timer.block) n) (own_outer 0 n s) (own_block 15 n (line_of s.sio.core0) s) (no_tick _ n small high) none
-    ∙ ap (with_device s n) is
-
-of_outer_1 : (n : ℕ) (s : State) (line : Bool) → timer.lines_of s.outer.timer.block < 2 ^ 4 → n < 22 → 4 ≤ n → own_outer 1 n s ≡ line
-    → own_block 16 n (line_of s.sio.core1) s ≡ false → has_line 1 s n ≡ with_device s n line
-of_outer_1 n s line small low high is none =
-    lines_bit_1 n s low
-    ∙ by_outer (has_bit s.outer.irq n) (has_bit (timer.lines_of s.outer.timer.block) n) (own_outer 1 n s) (own_block 16 n (line_of s.sio.core1) s) (no_tick _ n small high) none
-    ∙ ap (with_device s n) is
-
-lt : (a b : ℕ) → nat_lt a b ≡ true → a < b
-lt a b h = grind (arith, nat_tests)
-
-le : (a b : ℕ) → nat_le a b ≡ true → a ≤ b
-le a b h = grind (arith, nat_tests)
-
 numbered_0 : (s : State) → timer.lines_of s.outer.timer.block < 2 ^ 4 → AreNumbered 0 s
 numbered_0 s small = record {
-  timer = λ n low. lines_bit_0 n s (omega (arith, low))
-      ∙ by_timer (has_bit s.outer.irq n) (has_bit (timer.lines_of s.outer.timer.block) n) (own_outer 0 n s) (own_block 15 n (line_of s.sio.core0) s)
-      (no_outer n _ _ _ low) (no_block 15 n _ _ _ _ _ _ _ low (le 15 15 refl));
-  pio0_0 = of_block_0 7 s _ small (lt 7 22 refl) (le 4 7 refl) refl refl;
-  pio0_1 = of_block_0 8 s _ small (lt 8 22 refl) (le 4 8 refl) refl refl;
-  pio1_0 = of_block_0 9 s _ small (lt 9 22 refl) (le 4 9 refl) refl refl;
-  pio1_1 = of_block_0 10 s _ small (lt 10 22 refl) (le 4 10 refl) refl refl;
-  dma_0 = of_block_0 11 s _ small (lt 11 22 refl) (le 4 11 refl) refl refl;
-  dma_1 = of_block_0 12 s _ small (lt 12 22 refl) (le 4 12 refl) refl refl;
-  io_bank = of_outer_0 13 s _ small (lt 13 22 refl) (le 4 13 refl) refl refl;
-  sio_0 = of_block_0 15 s _ small (lt 15 22 refl) (le 4 15 refl) refl refl;
-  sio_1 = of_block_0 16 s _ small (lt 16 22 refl) (le 4 16 refl) refl refl;
-  uart0 = of_outer_0 20 s _ small (lt 20 22 refl) (le 4 20 refl) refl refl;
-  uart1 = of_outer_0 21 s _ small (lt 21 22 refl) (le 4 21 refl) refl refl;
+  timer = tick;
+  pio0_0 = line_at_number 0 7 s _ low small refl refl refl refl;
+  pio0_1 = line_at_number 0 8 s _ low small refl refl refl refl;
+  pio1_0 = line_at_number 0 9 s _ low small refl refl refl refl;
+  pio1_1 = line_at_number 0 10 s _ low small refl refl refl refl;
+  dma_0 = line_at_number 0 11 s _ low small refl refl refl refl;
+  dma_1 = line_at_number 0 12 s _ low small refl refl refl refl;
+  io_bank = line_at_number 0 13 s _ low small refl refl refl (or_none _);
+  sio_0 = line_at_number 0 15 s _ low small refl refl refl refl;
+  sio_1 = line_at_number 0 16 s _ low small refl refl refl refl;
+  uart0 = line_at_number 0 20 s _ low small refl refl refl (or_none _);
+  uart1 = line_at_number 0 21 s _ low small refl refl refl (or_none _);
 }
+  where
+    low : 0 < 2
+    low = omega arith
+    tick : (n : ℕ) → n < 4 → has_line 0 s n ≡ with_device s n (has_bit (timer.lines_of s.outer.timer.block) n)
+    tick zero few = tick_at 0 0 s low refl refl refl
+    tick (suc zero) few = tick_at 0 1 s low refl refl refl
+    tick (suc (suc zero)) few = tick_at 0 2 s low refl refl refl
+    tick (suc (suc (suc zero))) few = tick_at 0 3 s low refl refl refl
+    tick (suc (suc (suc (suc n)))) few = absurd (omega (arith, few))
 
 numbered_1 : (s : State) → timer.lines_of s.outer.timer.block < 2 ^ 4 → AreNumbered 1 s
 numbered_1 s small = record {
-  timer = λ n low. lines_bit_1 n s (omega (arith, low))
-      ∙ by_timer (has_bit s.outer.irq n) (has_bit (timer.lines_of s.outer.timer.block) n) (own_outer 1 n s) (own_block 16 n (line_of s.sio.core1) s)
-      (no_outer n _ _ _ low) (no_block 16 n _ _ _ _ _ _ _ low (le 15 16 refl));
-  pio0_0 = of_block_1 7 s _ small (lt 7 22 refl) (le 4 7 refl) refl refl;
-  pio0_1 = of_block_1 8 s _ small (lt 8 22 refl) (le 4 8 refl) refl refl;
-  pio1_0 = of_block_1 9 s _ small (lt 9 22 refl) (le 4 9 refl) refl refl;
-  pio1_1 = of_block_1 10 s _ small (lt 10 22 refl) (le 4 10 refl) refl refl;
-  dma_0 = of_block_1 11 s _ small (lt 11 22 refl) (le 4 11 refl) refl refl;
-  dma_1 = of_block_1 12 s _ small (lt 12 22 refl) (le 4 12 refl) refl refl;
-  io_bank = of_outer_1 13 s _ small (lt 13 22 refl) (le 4 13 refl) refl refl;
-  sio_0 = of_block_1 15 s _ small (lt 15 22 refl) (le 4 15 refl) refl refl;
-  sio_1 = of_block_1 16 s _ small (lt 16 22 refl) (le 4 16 refl) refl refl;
-  uart0 = of_outer_1 20 s _ small (lt 20 22 refl) (le 4 20 refl) refl refl;
-  uart1 = of_outer_1 21 s _ small (lt 21 22 refl) (le 4 21 refl) refl refl;
+  timer = tick;
+  pio0_0 = line_at_number 1 7 s _ low small refl refl refl refl;
+  pio0_1 = line_at_number 1 8 s _ low small refl refl refl refl;
+  pio1_0 = line_at_number 1 9 s _ low small refl refl refl refl;
+  pio1_1 = line_at_number 1 10 s _ low small refl refl refl refl;
+  dma_0 = line_at_number 1 11 s _ low small refl refl refl refl;
+  dma_1 = line_at_number 1 12 s _ low small refl refl refl refl;
+  io_bank = line_at_number 1 13 s _ low small refl refl refl (or_none _);
+  sio_0 = line_at_number 1 15 s _ low small refl refl refl refl;
+  sio_1 = line_at_number 1 16 s _ low small refl refl refl refl;
+  uart0 = line_at_number 1 20 s _ low small refl refl refl (or_none _);
+  uart1 = line_at_number 1 21 s _ low small refl refl refl (or_none _);
 }
+  where
+    low : 1 < 2
+    low = omega arith
+    tick : (n : ℕ) → n < 4 → has_line 1 s n ≡ with_device s n (has_bit (timer.lines_of s.outer.timer.block) n)
+    tick zero few = tick_at 1 0 s low refl refl refl
+    tick (suc zero) few = tick_at 1 1 s low refl refl refl
+    tick (suc (suc zero)) few = tick_at 1 2 s low refl refl refl
+    tick (suc (suc (suc zero))) few = tick_at 1 3 s low refl refl refl
+    tick (suc (suc (suc (suc n)))) few = absurd (omega (arith, few))
 
 pub numbered : EachLineHasItsNumber
 numbered zero s low small = numbered_0 s small
