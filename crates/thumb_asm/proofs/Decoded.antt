@@ -19,7 +19,7 @@ use Rattle.thumb_words.proofs.Decode.{codes_decode}
 use Rattle.thumb_asm.specs.declared.fault.ThumbFault.{ThumbFault}
 use Rattle.thumb_asm.specs.declared.fault.ThumbFault.TheVariants.{Unknown, Twice, Range, Register, Align as AlignFault, TooLong}
 use Rattle.thumb_parse.specs.declared.item.Item.{Item}
-use Rattle.thumb_parse.specs.declared.item.Item.TheVariants.{Empty, Instruction, OutOfRange, WrongRegister, Literal, Address, Branch, Call, BranchIf, Word, WordAt, Half, Align}
+use Rattle.thumb_parse.specs.declared.item.Item.TheVariants.{Empty, Instruction, OutOfRange, WrongRegister, Literal, Address, Branch, Call, BranchIf, Word, WordAt, Half}
 use Rattle.thumb_parse.specs.declared.statement.Statement.{Statement}
 use Rattle.thumb_asm.specs.Laws.{AreDecoded, InstructionsAreDecoded, IsDecoded, WhatIsAssembledIsReadBack, half_at}
 use Rattle.thumb_asm.specs.Lines.{statement_at}
