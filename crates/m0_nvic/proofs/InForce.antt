@@ -18,9 +18,6 @@ neither false b h = refl
 contrary : {A : Type 0} (b : Bool) → b ≡ true → b ≡ false → A
 contrary b h i = absurd (grind (arith, common_steps))
 
-not_below_self : (a : ℤ) → int_lt a a ≡ false
-not_below_self a = grind (arith, ints, nat_tests)
-
 min_is : (a : ℤ) → (int_min a (pos 0) ≡ a) ⊎ (int_min a (pos 0) ≡ pos 0)
 min_is a = go (int_lt (pos 0) a)
   where

@@ -1,5 +1,5 @@
 -- The first program of a file.
-use Rattle.std.proofs.Common.{◌≡◌, ℕ, ◌+◌, ◌<◌, ◌≤◌, List, [], ◌∷◌, length, Some, None, Result, Ok, Err, slice_index_or, refl, sym, subst, arith}
+use Rattle.std.proofs.Common.{◌≡◌, ℕ, ◌+◌, ◌<◌, ◌≤◌, List, [], ◌∷◌, length, Some, Result, Ok, Err, slice_index_or, refl, sym, subst, arith}
 use Rattle.pio_asm.proofs.Shared.{PioFault, Program, Plan, IsProgram, ArePrograms, Assembles, bit_number, SideConfig, plans_of, IsWhole, AreWhole}
 use Rattle.pio_asm.proofs.Wholeness.{words_length}
 use Rattle.pio_asm.specs.Fitting.{IsRunnable, IsFirst}
@@ -21,19 +21,9 @@ first_of_list (plan ∷ plans) [] h is first some e = absurd is
 first_of_list (plan ∷ plans) (p ∷ ps) h is first some e =
     let here : IsProgram plan first = subst (λ (x : Program). IsProgram plan x) (sym e) is.0 in (here, runnable plan first h.0 here)
 
-none_of_list : (plans : List Plan) (programs : List Program) → ArePrograms plans programs → length programs ≡ 0 → IsFirst None (Ok plans)
-none_of_list [] [] is e = refl
-none_of_list [] (p ∷ ps) is e = absurd is
-none_of_list (plan ∷ plans) [] is e = absurd is
-none_of_list (plan ∷ plans) (p ∷ ps) is e = absurd (omega (arith, e))
-
 first_from : (outcome : Result (List Plan) PioFault) (programs : List Program) (first : Program) → ((plans : List Plan) → outcome ≡ Ok plans → AreWhole plans) → Assembles programs outcome → 0 < length programs → first ≡ slice_index_or programs 0 first → IsFirst (Some first) outcome
 first_from (Ok plans) programs first h is some e = first_of_list plans programs (h plans refl) is first some e
 first_from (Err fault) programs first h is some e = absurd is
-
-none_from : (outcome : Result (List Plan) PioFault) (programs : List Program) → Assembles programs outcome → length programs ≡ 0 → IsFirst None outcome
-none_from (Ok plans) programs is e = none_of_list plans programs is e
-none_from (Err fault) programs is e = absurd is
 
 pub first_is : (bytes : List ℕ) (programs : List Program) (first : Program) → Assembles programs (plans_of bytes) → 0 < length programs → first ≡ slice_index_or programs 0 first → IsFirst (Some first) (plans_of bytes)
 first_is bytes programs first is some e = first_from (plans_of bytes) programs first (plans_whole bytes) is some e

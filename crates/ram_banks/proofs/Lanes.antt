@@ -58,12 +58,3 @@ writes_lanes lanes value word = record {
   kept = λ k lt is. byte_of-with_lanes lanes value word k lt ∙ kept_lane lanes value word k is;
   small = with_lanes_small lanes value word;
 }
-
--- a write of all lanes leaves the value, and one of no lane the word
-pub with_lanes-all : (value word : ℕ) → value < 2 ^ 32 → with_lanes 15 value word ≡ value
-unfolding with_lanes
-with_lanes-all value word lt = omega arith
-
-pub with_lanes-none : (value word : ℕ) → word < 2 ^ 32 → with_lanes 0 value word ≡ word
-unfolding with_lanes
-with_lanes-none value word lt = omega arith

@@ -1,11 +1,10 @@
 -- How a reader of lines goes over the bytes of a source.
-use Rattle.reverse_debug.proofs.Shared.{Ahead, Bool, Consumes, EndsBy, Fills, HasNoEnd, List, None, Option, Passes, Reads, Some, Splits, [], ap, append_assoc, arith, cond, drop, false, given_bytes, length, length-append, min, nat_le, nat_lt, not, position, position_or_len, refl, subst, suc, sym, take, true, zero, ℕ, ◌++◌, ◌+◌, ◌-◌, ◌<◌, ◌==◌, ◌∙◌, ◌∷◌, ◌≡◌, ◌≤◌}
+use Rattle.reverse_debug.proofs.Shared.{Ahead, Bool, Consumes, Fills, HasNoEnd, List, None, Option, Passes, Reads, Some, [], ap, append_assoc, arith, cond, drop, false, given_bytes, length, length-append, min, nat_le, nat_lt, not, position, position_or_len, refl, subst, suc, sym, take, true, zero, ℕ, ◌++◌, ◌+◌, ◌-◌, ◌<◌, ◌==◌, ◌∙◌, ◌∷◌, ◌≡◌, ◌≤◌}
 use Rattle.std.specs.Option.{option_map}
 use Rattle.std.proofs.Math.Seq.{take-append-add}
 use Rattle.std.proofs.lemmas.List.{append-nil, take_all, take-append-drop}
 use Rattle.rp_ports.specs.declared.source.Taken.TheVariants as taken
-use Rattle.reverse_debug.specs.declared.reader.Next.{Next}
-use Rattle.reverse_debug.specs.declared.reader.Next.TheVariants.{Line, Last}
+use Rattle.reverse_debug.specs.declared.reader.Next.TheVariants.{Line}
 
 -- ---- the first LF
 
@@ -154,19 +153,4 @@ passed_more limit a b c d left left' left'' lost lost' lost'' given given' n fal
 pub nearer : (limit : ℕ) (b c d : Ahead) (left left' : Option (List ℕ)) (lost lost' n : ℕ) → b.taken < limit → Fills limit b c left left' lost lost' (taken.Took n) → d.taken ≡ c.taken → limit - d.taken < limit - b.taken
 nearer limit b c d left left' lost lost' n lt f same = omega (arith, lt, f.0, f.1, f.2, same)
 
--- no LF came to the end, to a failed take, or to the limit
-read_open : (next : Next) (limit : ℕ) (a b c : Ahead) (left left' left'' : Option (List ℕ)) (lost lost' lost'' : ℕ) (given : List ℕ) (k : Passed limit a b left left' lost lost' given) → c.taken ≡ b.taken → left'' ≡ left' → Splits (a.rest ++ k.bytes) (a.rest ++ k.bytes) c.rest next → EndsBy limit c.taken left'' lost lost'' next → Reads limit a c left left'' lost lost'' given next
-read_open next limit a b c left left' left'' lost lost' lost'' given k same kept splits ends = record {
-  bytes = k.bytes;
-  line = a.rest ++ k.bytes;
-  count = same ∙ k.count;
-  within = omega (arith, same, k.within);
-  consumed = subst (λ (x : Option (List ℕ)). Consumes left x k.bytes) (sym kept) k.consumed;
-  unended = k.unended;
-  gives = k.gives;
-  splits = splits;
-  ends = ends;
 }
-
-pub read_last : (limit : ℕ) (a b c : Ahead) (left left' left'' : Option (List ℕ)) (lost lost' lost'' : ℕ) (given : List ℕ) → Passed limit a b left left' lost lost' given → b.taken < limit → Fills limit b c left' left'' lost' lost'' taken.End → Reads limit a c left left'' lost lost'' given Last
-read_last limit a b c left left' left'' lost lost' lost'' given k lt f = read_open Last limit a b c left left' left'' lost lost' lost'' given k f.0 f.2 (refl, f.1) (f.4 ∙ k.steady, omega (arith, f.0, lt), f.3)

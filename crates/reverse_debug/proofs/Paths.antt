@@ -132,11 +132,6 @@ way_on w s t u to before now after k none e lt more =
     let so_far : now + s.cycle ≡ before + t.cycle = k.count in
     record { path = path_on w s t u k.path none e; low = omega arith; within = omega arith; stopped = tt; count = omega arith }
 
-pub way_stopped : (w : Setting) (s t u : State) (to before now after : ℕ) (why : Why) → Advances w s to t None before now → stop w t ≡ Some why → t.cycle < to → u ≡ t → after ≡ now → Advances w s to u (Some why) before after
-way_stopped w s t u to before now after why k stops lt e same =
-    let so_far : now + s.cycle ≡ before + t.cycle = k.count in
-    rw e (record { path = k.path; low = k.low; within = k.within; stopped = (stops, lt); count = omega arith })
-
 -- ---- quiet times
 
 pub quiet_there : (w : Setting) (t u : State) (n : ℕ) → u ≡ states w t n → IsQuiet w t n → u.cycle ≡ t.cycle + n

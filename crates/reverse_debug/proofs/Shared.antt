@@ -8,7 +8,7 @@ unfoldable pub use Rattle.reverse_debug.specs.Command.{are_words, command_by, co
 pub use Rattle.reverse_debug.specs.Command.Command.{Back, Bad, Before, Goto, Quit, Step, Until}
 pub use Rattle.reverse_debug.specs.Debugger.{talk_of, talk_with}
 pub use Rattle.reverse_debug.specs.Lines.{all_lines, closes, complete_from, complete_lines, open_from, open_line, unless_empty, until, without_cr}
-pub use Rattle.reverse_debug.specs.NextLine.{Ahead, EndsBy, Fills, HasNoEnd, Passes, Reads, Splits, behind, given_bytes}
+pub use Rattle.reverse_debug.specs.NextLine.{Ahead, Fills, HasNoEnd, Passes, Reads, behind, given_bytes}
 pub use Rattle.reverse_debug.specs.Reading.{Fits, meant, sought}
 pub use Rattle.reverse_debug.specs.Reply.{Said, answer, at_last, at_or_last, at_or_start, at_reply, behind_next, command_cost, ends_by, fewer, happens_by, is_begun, last_cycle, move_cost, pio_words, said, search_cost, seen, word_at}
 unfoldable pub use Rattle.reverse_debug.specs.Reply.{before_nth, behind_nth, cost, ends, happens, heard, moved_back, moved_to}

@@ -254,13 +254,6 @@ neither : (b c : Bool) → cond b true c ≡ false → (b ≡ false) × (c ≡ f
 neither true c e = absurd (true≢false e)
 neither false c e = (refl, e)
 
--- where there is no row, nothing is found
-pub no_row : {V S A : Type 0} (none : A) (found : Row V S → ℕ → A) (rows : List (Row V S)) (at : ℕ)
-    → has_row rows at ≡ false → at_row none found rows at ≡ none
-no_row none found [] at e = refl
-no_row none found (row ∷ rows) at e =
-    let parts = neither (is_at row.place at) (has_row rows at) e in rw (parts.0) (no_row none found rows at parts.1)
-
 alike : (b c : Bool) → cond b c (not c) ≡ true → c ≡ b
 alike true c e = e
 alike false c e = is_not c e

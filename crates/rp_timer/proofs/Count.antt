@@ -32,9 +32,6 @@ time-other c s e = rw e refl
 next-tick : (t k m : ℕ) → m ≡ k + 1 → ((t + k) % 2 ^ 64 + 1) % 2 ^ 64 ≡ (t + m) % 2 ^ 64
 next-tick t k m e = omega arith
 
-within : (t : ℕ) → t < 2 ^ 64 → t ≡ (t + 0) % 2 ^ 64
-within t h = omega arith
-
 count-tick : (s : State) (first n : ℕ) → s.paused ≡ false → s.time < 2 ^ 64 → (b : Bool) → is_tick (first + n) ≡ b →
     (after_cycles first n s).time ≡ (s.time + ((first + n) / 125 - first / 125)) % 2 ^ 64 →
     (after_cycles first (suc n) s).time ≡ (s.time + ((first + suc n) / 125 - first / 125)) % 2 ^ 64

@@ -408,11 +408,6 @@ part_more parts count number index next items new part lt is up was added =
           ∙ ap (λ (ps : List Part). items ++ concat (blocks_from count number ps)) here ∙ was.rest;
     }
 
-pub part_none : (parts : List Part) (count number index : ℕ) (items : List ℕ) → number ≡ 0 → index ≡ 0 → items ≡ [] → IsPart parts count number index items
-part_none parts count number index items e f none = record {
-  same = e ∙ sym f;
-  rest = ap (λ xs. xs ++ concat (blocks_from count number (drop index parts))) none
-      ∙ ap (λ n. concat (blocks_from count n (drop index parts))) e ∙ ap (λ i. concat (blocks_from count 0 (drop i parts))) f;
 }
 
 pub part_all : (image : Image) (parts : List Part) (count number index : ℕ) (items : List ℕ) → parts ≡ image.parts → count ≡ length parts → length parts ≤ index → IsPart parts count number index items → items ≡ file_of image
