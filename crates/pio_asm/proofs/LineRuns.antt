@@ -1,11 +1,12 @@
 -- The words of a line are tokens wherever they stand.
-use Rattle.std.proofs.Common.{◌≡◌, ◌==◌, ◌&&◌, ℕ, suc, zero, ◌+◌, ◌*◌, ◌/◌, ◌%◌, ◌<◌, min, Bool, true, false, nat_le, cond, List, [], ◌∷◌, Option, None, Some, arith, refl, ap, inl, inr, ◌∙◌}
-use Rattle.pio_asm.proofs.Shared.{eqb_tells, nat_tests, Keyword, Public, KeywordToken, NumberToken as Number, keyword_name, number_of, word_kind, IsRun, both, decimal, digits, option_map, hex_half}
+use Rattle.std.proofs.Common.{◌≡◌, ◌==◌, ◌&&◌, ℕ, suc, zero, ◌+◌, ◌*◌, ◌/◌, ◌%◌, ◌<◌, min, Bool, true, false, cond, List, [], ◌∷◌, Option, None, Some, arith, refl, ap, inl, inr, ◌∙◌}
+use Rattle.pio_asm.proofs.Shared.{eqb_tells, Keyword, Public, KeywordToken, NumberToken as Number, keyword_name, number_of, word_kind, IsRun, both, decimal, digits, option_map, hex_half}
 use Rattle.pio_parse.specs.declared.token.Span.{Span}
-use Rattle.source_text.specs.Characters.{digit_of, is_digit, is_word_char}
+use Rattle.source_text.specs.Characters.{is_digit, is_word_char}
 use Rattle.source_text.specs.Numbers.{digits_value}
 use Rattle.pio_parse.specs.Lexical.{is_word}
-use Rattle.std.specs.Char.{digit_char}
+use Rattle.std.specs.Char.{digit_char, digit_value, is_digit as is_digit_to}
+use Rattle.std.proofs.lemmas.Bool.{eqb-true, lt-ltb}
 
 pub key_run : (keyword : Keyword) → IsRun (keyword_name keyword) (KeywordToken keyword)
 key_run Public = record { run = refl; plain = refl; inside = refl; names = λ span. refl }
@@ -68,38 +69,28 @@ pub decimal_run : (n : ℕ) → n < 100 → IsRun (decimal n) (Number n)
 decimal_run n lt = number_run (decimal n) n (all_below-at (λ n. is_number (decimal n) n) 100 n decimals lt)
 
 -- hexadecimal digits
-hex_digits : all_below (λ d. is_word_char (digit_char d) && is_that (digit_of (digit_char d)) d) 16 ≡ true
+hex_digits : all_below (λ d. is_word_char (digit_char d) && (digit_value (digit_char d) == d)) 16 ≡ true
 hex_digits = refl
 
 record IsHex (d : ℕ) : Type 0 where
   char : is_word_char (digit_char d) ≡ true
-  value : digit_of (digit_char d) ≡ Some d
+  value : digit_value (digit_char d) ≡ d
+  digit : is_digit_to (digit_char d) 16 ≡ true
 
 hex_is : (d : ℕ) → d < 16 → IsHex d
 hex_is d lt =
-    let h = both (is_word_char (digit_char d)) (is_that (digit_of (digit_char d)) d) (all_below-at (λ d. is_word_char (digit_char d) && is_that (digit_of (digit_char d)) d) 16 d hex_digits lt) in
-    record { char = h.0; value = that_is (digit_of (digit_char d)) d h.1 }
+    let h = both (is_word_char (digit_char d)) (digit_value (digit_char d) == d) (all_below-at (λ d. is_word_char (digit_char d) && (digit_value (digit_char d) == d)) 16 d hex_digits lt) in
+    let value = eqb-true (digit_value (digit_char d)) d h.1 in
+    record { char = h.0; value = value; digit = rw value (lt-ltb d 16 lt) }
 
-next_digit : (d value : ℕ) (cs : List ℕ) → d < 16 → digits_value 16 value (digit_char d ∷ cs) ≡ digits_value 16 (value * 16 + d) cs
-next_digit d value cs lt =
-    let is = (hex_is d lt).value in
-    let fits : nat_le 16 d ≡ false = not_le d lt in
-    rw (is, fits) refl
-  where
-    not_le : (d : ℕ) → d < 16 → nat_le 16 d ≡ false
-    not_le d lt = grind (arith, nat_tests)
-
-four_digits : (a b c d : ℕ) → a < 16 → b < 16 → c < 16 → d < 16 → digits_value 16 0 (digit_char a ∷ digit_char b ∷ digit_char c ∷ digit_char d ∷ []) ≡ Some ((((0 * 16 + a) * 16 + b) * 16 + c) * 16 + d)
-four_digits a b c d la lb lc ld =
-    next_digit a 0 (digit_char b ∷ digit_char c ∷ digit_char d ∷ []) la
-    ∙ next_digit b (0 * 16 + a) (digit_char c ∷ digit_char d ∷ []) lb
-    ∙ next_digit c ((0 * 16 + a) * 16 + b) (digit_char d ∷ []) lc
-    ∙ next_digit d (((0 * 16 + a) * 16 + b) * 16 + c) [] ld
+four_digits : (a b c d : ℕ) → IsHex a → IsHex b → IsHex c → IsHex d
+    → digits_value 16 (digit_char a ∷ digit_char b ∷ digit_char c ∷ digit_char d ∷ []) ≡ Some (a * 4096 + (b * 256 + (c * 16 + (d * 1 + 0))))
+four_digits a b c d ha hb hc hd = rw (ha.digit, hb.digit, hc.digit, hd.digit, ha.value, hb.value, hc.value, hd.value) refl
 
 digit_lt : (n : ℕ) → n % 16 < 16
 digit_lt n = omega arith
 
-half_value : (n : ℕ) → n < 65536 → min 4294967296 ((((0 * 16 + n / 4096 % 16) * 16 + n / 256 % 16) * 16 + n / 16 % 16) * 16 + n % 16) ≡ n
+half_value : (n : ℕ) → n < 65536 → min 4294967296 (n / 4096 % 16 * 4096 + (n / 256 % 16 * 256 + (n / 16 % 16 * 16 + (n % 16 * 1 + 0)))) ≡ n
 half_value n lt = omega arith
 
 half_run : (a b c d : ℕ) → is_word_char a ≡ true → is_word_char b ≡ true → is_word_char c ≡ true → is_word_char d ≡ true → is_word (48 ∷ 120 ∷ a ∷ b ∷ c ∷ d ∷ []) ≡ true
@@ -111,7 +102,7 @@ hex_run n lt =
     let b = hex_is (n / 256 % 16) (digit_lt (n / 256)) in
     let c = hex_is (n / 16 % 16) (digit_lt (n / 16)) in
     let d = hex_is (n % 16) (digit_lt n) in
-    let value : number_of (48 ∷ 120 ∷ hex_half n) ≡ Some n = ap (option_map (min 4294967296)) (four_digits (n / 4096 % 16) (n / 256 % 16) (n / 16 % 16) (n % 16) (digit_lt (n / 4096)) (digit_lt (n / 256)) (digit_lt (n / 16)) (digit_lt n)) ∙ ap (λ k. Some k) (half_value n lt) in
+    let value : number_of (48 ∷ 120 ∷ hex_half n) ≡ Some n = ap (option_map (min 4294967296)) (four_digits (n / 4096 % 16) (n / 256 % 16) (n / 16 % 16) (n % 16) a b c d) ∙ ap (λ k. Some k) (half_value n lt) in
     record {
       run = half_run (digit_char (n / 4096 % 16)) (digit_char (n / 256 % 16)) (digit_char (n / 16 % 16)) (digit_char (n % 16)) a.char b.char c.char d.char;
       plain = refl;

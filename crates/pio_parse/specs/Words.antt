@@ -82,7 +82,7 @@ directive_of word = find (λ directive. same_word (directive_name directive) wor
 
 -- the number of digits to a base: a value above 2^32 - 1 is kept as 2^32, since no number may be so large
 abbrev pub number_to : ℕ → List ℕ → Option ℕ
-number_to base digits = option_map (min 4294967296) (digits_value base 0 digits)
+number_to base digits = option_map (min 4294967296) (digits_value base digits)
 
 -- a number: 0x with hexadecimal digits, 0b with binary ones, or decimal digits
 abbrev pub number_of : List ℕ → Option ℕ

@@ -1,5 +1,4 @@
 pub mod Befores
-pub mod Digits
 pub mod Ends
 pub mod LineLists
 pub mod Listing

@@ -3,8 +3,8 @@ pub use Rattle.arrayvec.specs.ArrayVec.{array_vec_len}
 pub use Rattle.m0_core.specs.Begins.{begins}
 pub use Rattle.outer_lane.specs.Setting.{Setting, setting_of}
 pub use Rattle.reverse_debug.specs.Advance.{Advances, Approaches, NoneEnds, Path, SeesAs}
-pub use Rattle.reverse_debug.specs.Command.{Command, address_of, addresses, decimal_digit, hexadecimal_digit, is_quit, is_ram, number_of, words}
-unfoldable pub use Rattle.reverse_debug.specs.Command.{are_words, command_by, command_of, value_in}
+pub use Rattle.reverse_debug.specs.Command.{Command, addresses, is_quit, is_ram, words}
+unfoldable pub use Rattle.reverse_debug.specs.Command.{are_words, command_by, command_of}
 pub use Rattle.reverse_debug.specs.Command.Command.{Back, Bad, Before, Goto, Quit, Step, Until}
 pub use Rattle.reverse_debug.specs.Debugger.{talk_of, talk_with}
 pub use Rattle.reverse_debug.specs.Lines.{all_lines, closes, complete_from, complete_lines, open_from, open_line, unless_empty, until, without_cr}
@@ -31,12 +31,12 @@ pub use Rattle.snap_ring.proofs.Faithful.{keeping_is_faithful}
 pub use Rattle.snap_ring.proofs.Nearest.{kept_both, kept_first, kept_only, kept_second}
 pub use Rattle.snap_ring.specs.Ring.{IsGreatest, IsNearest, Snapshots, is_due, is_kept, is_within, kept_with, near_spacing, restarted, restored, spacing_of, state_at}
 pub use Rattle.std.proofs.Common.{Bool, Err, IfOk, IfSome, List, None, Ok, OnOk, Option, Result, Some, [], add-one, ap, append_assoc, arith, cond, drop, false, flat_map, if◌then◌else◌, inl, inr, length, length-append, max, min, nat_le, nat_lt, not, refl, subst, suc, sym, take, true, zero, ℕ, ◌%◌, ◌&&◌, ◌*◌, ◌++◌, ◌+◌, ◌-◌, ◌/◌, ◌<◌, ◌==◌, ◌^◌, ◌||◌, ◌∙◌, ◌∷◌, ◌≡◌, ◌≤◌, ◌⊎◌}
-pub use Rattle.std.proofs.Math.Nat.{div-add-mod, mod-eq_of_lt, mod-le, mod-lt, mul-add-mod_self_left, pow-succ', pow-zero, zero-mod}
+pub use Rattle.std.proofs.Math.Nat.{div-add-mod, mod-eq_of_lt, mod-le, mod-lt, mul-add-mod_self_left, zero-mod}
 pub use Rattle.std.proofs.lemmas.Bool.{and_from, and_parts, cases_Bool, cases_lt, eq-eqb, eqb-true, le-leb, leb-true, lt-ltb, ltb-true, or_cases, or_parts, or_right, true≢false}
 pub use Rattle.std.proofs.lemmas.Bool.Decides.{nat_tests}
 pub use Rattle.std.proofs.lemmas.List.{drop-drop, length-take, take_all, take_rest}
 pub use Rattle.std.specs.List.{list_all, list_any, position, position_or_len, range_with_len}
-pub use Rattle.std.specs.Prelude.{codes, option_and_then, slice_index}
+pub use Rattle.std.specs.Prelude.{codes, slice_index}
 pub use Rattle.std.specs.Str.Lines.{strip_carriage_return}
 pub use Rattle.trace_text.proofs.Sending.{rose_later, sends_part, sends_then}
 pub use Rattle.trace_text.specs.Line.{hex_word, level_digit, spaced_word, stop_text}

@@ -1,9 +1,9 @@
 -- The commands of the debugger, and the lines that ask for them (the project's own). A line is a name and its operands, with one
 -- space between two words. A number is 1 to 10 decimal digits, an address 8 hexadecimal digits of either case.
-use Rattle.std.specs.Prelude.{ℕ, zero, suc, ◌+◌, ◌-◌, ◌*◌, ◌%◌, ◌^◌, Bool, true, false, ◌&&◌, ◌==◌, nat_le, if◌then◌else◌, List, [], ◌∷◌, length, Option, Some, None, codes}
-use Rattle.std.specs.Char.{is_ascii_digit, is_ascii_hexdigit}
+use Rattle.std.specs.Prelude.{ℕ, zero, suc, ◌+◌, ◌%◌, Bool, true, false, ◌&&◌, ◌==◌, nat_le, if◌then◌else◌, List, [], ◌∷◌, length, Option, Some, None, codes}
 use Rattle.std.specs.List.{slice_split, list_all}
 use Rattle.std.specs.Str.{bytes_eq}
+use Rattle.source_text.specs.Numbers.{digits_value, number_of as number_to}
 use Rattle.rp_base.specs.declared.map.Spot.{Spot}
 use Rattle.rp_base.specs.declared.map.Spot.TheVariants as spot
 use Rattle.rp_base.specs.Map.{place_of}
@@ -41,28 +41,15 @@ abbrev pub is_quit : Command → Bool
 is_quit Quit = true
 is_quit _ = false
 
--- ---- numbers: a digit weighs a power of the base
-
-unfoldable pub value_in : ℕ → (ℕ → ℕ) → List ℕ → ℕ
-value_in base value [] = 0
-value_in base value (digit ∷ digits) = value digit * base ^ length digits + value_in base value digits
-
-abbrev pub decimal_digit : ℕ → ℕ
-decimal_digit digit = digit - 48
-
-abbrev pub hexadecimal_digit : ℕ → ℕ
-hexadecimal_digit digit = if nat_le digit 57 then digit - 48 else if nat_le digit 70 then digit - 55 else digit - 87
+-- ---- numbers
 
 -- a number is 1 to 10 decimal digits
 abbrev pub number_of : List ℕ → Option ℕ
-number_of word =
-    if nat_le 1 (length word) && nat_le (length word) 10 && list_all is_ascii_digit word
-    then Some (value_in 10 decimal_digit word) else None
+number_of word = number_to 10 10 word
 
 -- an address is 8 hexadecimal digits
 abbrev pub address_of : List ℕ → Option ℕ
-address_of word =
-    if length word == 8 && list_all is_ascii_hexdigit word then Some (value_in 16 hexadecimal_digit word) else None
+address_of word = if length word == 8 then digits_value 16 word else None
 
 -- ---- words of SRAM: an address is a multiple of 4, and all of 1 to 16 words are in SRAM
 

@@ -15,7 +15,6 @@ pub(crate) fn is(word: &[u8], name: &[u8]) -> bool
 }
 
 /// The number of 1 to 10 decimal digits.
-#[tactic(auto, using(crate::proofs::Digits::number_is))]
 pub(crate) fn number_of(word: &[u8]) -> Option<u64>
     ensures value { result ≡ number_of word.now }
     ensures bound { IfSome result (λ n. n < 10_000_000_000) }
@@ -24,7 +23,6 @@ pub(crate) fn number_of(word: &[u8]) -> Option<u64>
 }
 
 /// The address of 8 hexadecimal digits.
-#[tactic(auto, using(crate::proofs::Digits::address_is))]
 pub(crate) fn address_of(word: &[u8]) -> Option<u32>
     ensures { result ≡ address_of word.now }
 {

@@ -1,13 +1,16 @@
--- The number of digits to a base, read from the left (the project's own).
-use Rattle.std.specs.Prelude.{nat_le, ℕ, ◌+◌, ◌*◌, ◌&&◌, if◌then◌else◌, List, [], ◌∷◌, length, Option, None, Some, option_and_then}
-use Rattle.source_text.specs.Characters.{digit_of}
+-- The number of digits to a base: each weighs the base to the power of how many come after it (the project's own).
+use Rattle.std.specs.Prelude.{nat_le, ℕ, ◌+◌, ◌*◌, ◌^◌, ◌&&◌, if◌then◌else◌, List, [], ◌∷◌, length, Option, None, Some}
+use Rattle.std.specs.Char.{digit_value, is_digit}
+use Rattle.std.specs.List.{list_all}
 
--- the number of digits after those that made `value`; none where a character is no digit to the base
-abbrev pub digits_value : ℕ → ℕ → List ℕ → Option ℕ
-digits_value base value [] = Some value
-digits_value base value (c ∷ cs) = option_and_then (λ digit. if nat_le base digit then None else digits_value base (value * base + digit) cs) (digit_of c)
+abbrev pub value_in : ℕ → List ℕ → ℕ
+value_in base [] = 0
+value_in base (digit ∷ digits) = digit_value digit * base ^ length digits + value_in base digits
+
+-- none where a character is no digit to the base
+abbrev pub digits_value : ℕ → List ℕ → Option ℕ
+digits_value base digits = if list_all (λ c. is_digit c base) digits then Some (value_in base digits) else None
 
 -- the number of at least one and at most so many digits
 abbrev pub number_of : ℕ → ℕ → List ℕ → Option ℕ
-number_of base most digits =
-    if nat_le 1 (length digits) && nat_le (length digits) most then digits_value base 0 digits else None
+number_of base most digits = if nat_le 1 (length digits) && nat_le (length digits) most then digits_value base digits else None

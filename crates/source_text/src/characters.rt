@@ -1,7 +1,8 @@
 //! The characters of words.
 
-ghost use Rattle.std.specs.Prelude.{◌≡◌, ◌<◌, IfSome};
-ghost use Rattle.source_text.specs.Characters.{digit_of, is_word_char};
+ghost use Rattle.std.specs.Prelude.{◌≡◌, ◌<◌, IfSome, if◌then◌else◌, None, Some};
+ghost use Rattle.std.specs.Char.{digit_value, is_digit};
+ghost use Rattle.source_text.specs.Characters.{is_word_char};
 
 /// Whether a byte goes on with a word that has begun: an ASCII letter, a digit or `_`.
 pub fn is_word_byte(byte: u8) -> bool
@@ -12,7 +13,7 @@ pub fn is_word_byte(byte: u8) -> bool
 
 /// The value of a hexadecimal digit of either case.
 pub(crate) fn digit(byte: u8) -> Option<u64>
-    ensures value { result ≡ digit_of byte }
+    ensures value { result ≡ (if is_digit byte 16 then Some (digit_value byte) else None) }
     ensures bound { IfSome result (λ digit. digit < 16) }
 {
     match byte {

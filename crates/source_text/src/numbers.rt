@@ -10,11 +10,12 @@ use crate::characters::digit;
 const MOST: u64 = 0x100_0000_0000;
 
 /// The number of digits to a base from 1 to 16, or `most` where it is larger.
+#[tactic(auto, using(crate::proofs::Capped::from_front, crate::proofs::Capped::at_end))]
 pub fn value_of_digits(base: u64, most: u64, digits: &[u8]) -> Option<u64>
     requires positive { 1 ≤ base }
     requires base { base ≤ 16 }
     requires most { most < 2 ^ 59 }
-    ensures { result ≡ option_map (min most) (digits_value base 0 digits.now) }
+    ensures { result ≡ option_map (min most) (digits_value base digits.now) }
 {
     let mut value: u64 = 0;
     for byte in digits {
