@@ -1,18 +1,17 @@
 -- The registers of a list, one after the other.
-use Rattle.std.proofs.Common.{◌≡◌, ℕ, zero, suc, ◌+◌, ◌-◌, ◌/◌, ◌%◌, ◌^◌, ◌<◌, Bool, true, false, cond, nat_eq, List, [], ◌∷◌, length, refl, sym, ap, subst, ◌∙◌, arith}
+use Rattle.std.proofs.Common.{◌≡◌, ℕ, zero, suc, ◌+◌, ◌-◌, ◌/◌, ◌%◌, ◌^◌, ◌<◌, ◌≤◌, Bool, true, false, cond, nat_eq, List, [], ◌∷◌, length, refl, sym, ap, subst, ◌∙◌, arith}
 use Rattle.std.specs.List.{filter}
 use Rattle.std.specs.Int.Count.{ones, ones_step, ones-ones}
 use Rattle.std.proofs.Math.Nat.{div-eq_of_lt}
 use Rattle.std.proofs.lemmas.Nat.{shr-shr}
+use Rattle.std.proofs.lemmas.Nat.Bits.{bit_at_above}
+use Rattle.std.proofs.lemmas.List.{append-nil}
 use Rattle.std.proofs.lemmas.Bool.Decides.{nat_tests}
 use Rattle.rp_base.specs.Word.{has_bit}
-use Rattle.std.specs.Prelude.{slice_index, map, ◌++◌, Option, Some, None}
+use Rattle.std.specs.Prelude.{◌++◌, Option, Some, None}
 use Rattle.m0_beats.specs.Registers.{register_of}
-use Rattle.std.proofs.Common.{append_assoc}
-use Rattle.m0_beats.specs.Beats.{registers_of, access, accesses}
+use Rattle.m0_beats.specs.Beats.{registers_of}
 use Rattle.m0_beats.specs.declared.timing.Beat.{Beat}
-use Rattle.rp_base.specs.declared.Size.TheVariants as sizes
-use Rattle.m0_beats.specs.Effects.{with_loaded, with_all_loaded}
 use Rattle.m0_beats.specs.declared.registers.Regs.{Regs}
 
 -- so many numbers from k on
@@ -51,14 +50,15 @@ rest_other list k h is =
     ap (filter (has_bit list)) (numbers_step k h)
     ∙ ap (λ b. cond b (k ∷ filter (has_bit list) (numbers_from (16 - (k + 1)) (k + 1))) (filter (has_bit list) (numbers_from (16 - (k + 1)) (k + 1)))) is
 
+-- no register from 16 on is in a list
+pub none_above : (list k : ℕ) → list < 2 ^ 16 → 16 ≤ k → has_bit list k ≡ false
+none_above list k fits above = ap (λ n. nat_eq n 1) (bit_at_above list 16 k fits above)
+
 -- ---- how many registers a list has
 
 length_step : (p : ℕ → Bool) (x : ℕ) (xs : List ℕ) → length (filter p (x ∷ xs)) ≡ cond (p x) 1 0 + length (filter p xs)
 length_step p x xs =
-    elim (p x) as (λ b. length (cond b (x ∷ filter p xs) (filter p xs)) ≡ cond b 1 0 + length (filter p xs)) [
-      | true ↦ omega arith
-      | false ↦ omega arith
-    ]
+    elim (p x) as (λ b. length (cond b (x ∷ filter p xs) (filter p xs)) ≡ cond b 1 0 + length (filter p xs)) [ true ↦ omega arith | false ↦ omega arith ]
 
 bit_test : (m : ℕ) → m < 2 → cond (nat_eq m 1) 1 0 ≡ m
 bit_test m h = grind (arith, nat_tests)
@@ -81,28 +81,10 @@ pub registers_count : (list : ℕ) → list < 2 ^ 16 → length (registers_of li
 unfolding numbers_from registers_of
 registers_count list h = listed_count 16 0 list h ∙ ap ones (omega arith)
 
--- ---- a load of the registers of a list
-
-pub load_listed : (s next : Regs) (list k value index : ℕ) (read : List ℕ) → k < 16 → has_bit list k ≡ true → value ≡ slice_index read index → next ≡ with_loaded s k value → with_all_loaded s (rest_of list k) read index ≡ with_all_loaded next (rest_of list (k + 1)) read (index + 1)
-load_listed s next list k value index read h is v e =
-    ap (λ ks. with_all_loaded s ks read index) (rest_listed list k h is)
-    ∙ sym (ap (λ n. with_all_loaded n (rest_of list (k + 1)) read (index + 1)) (e ∙ ap (with_loaded s k) v))
-
-pub load_other : (s : Regs) (list k index : ℕ) (read : List ℕ) → k < 16 → has_bit list k ≡ false → with_all_loaded s (rest_of list k) read index ≡ with_all_loaded s (rest_of list (k + 1)) read index
-load_other s list k index read h is = ap (λ ks. with_all_loaded s ks read index) (rest_other list k h is)
-
 -- ---- the accesses of the registers of a list
 
-pub access_listed : (f : ℕ → Option ℕ) (items new : List Beat) (beat : Beat) (list k address next : ℕ) → k < 16 → has_bit list k ≡ true → new ≡ items ++ beat ∷ [] → beat ≡ access address sizes.Word (f k) → next ≡ (address + 4) % 2 ^ 32 → items ++ accesses address (map f (rest_of list k)) ≡ new ++ accesses next (map f (rest_of list (k + 1)))
-access_listed f items new beat list k address next h is pushed made on =
-    ap (λ ks. items ++ accesses address (map f ks)) (rest_listed list k h is)
-    ∙ ap (λ b. items ++ b ∷ accesses ((address + 4) % 2 ^ 32) (map f (rest_of list (k + 1)))) (sym made)
-    ∙ ap (λ n. items ++ beat ∷ accesses n (map f (rest_of list (k + 1)))) (sym on)
-    ∙ sym (append_assoc items (beat ∷ []) (accesses next (map f (rest_of list (k + 1)))))
-    ∙ ap (λ bs. bs ++ accesses next (map f (rest_of list (k + 1)))) (sym pushed)
-
-pub access_other : (f : ℕ → Option ℕ) (items : List Beat) (list k address : ℕ) → k < 16 → has_bit list k ≡ false → items ++ accesses address (map f (rest_of list k)) ≡ items ++ accesses address (map f (rest_of list (k + 1)))
-access_other f items list k address h is = ap (λ ks. items ++ accesses address (map f ks)) (rest_other list k h is)
+pub append_nothing : (items : List Beat) → items ++ [] ≡ items
+append_nothing items = append-nil items
 
 -- what an access at a register's index writes: nothing where it reads
 abbrev pub no_write : ℕ → Option ℕ

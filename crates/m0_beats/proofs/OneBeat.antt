@@ -1,18 +1,17 @@
 -- One beat of a list of accesses.
-use Rattle.std.proofs.Common.{◌≡◌, ℕ, zero, suc, ◌+◌, ◌-◌, ◌*◌, ◌%◌, ◌^◌, ◌<◌, ◌≢◌, List, [], ◌∷◌, ◌++◌, length, refl, sym, ap, ◌∙◌, arith}
+use Rattle.std.proofs.Common.{◌≡◌, ℕ, zero, suc, ◌+◌, ◌-◌, ◌*◌, ◌%◌, ◌^◌, ◌<◌, ◌≢◌, List, [], ◌∷◌, ◌++◌, length, refl, ap, ◌∙◌, arith}
 use Rattle.std.specs.Prelude.{Option, Some, None, map, slice_get}
 use Rattle.std.specs.Option.{option_map}
 use Rattle.std.proofs.lemmas.Option.{slice_get-map}
 use Rattle.std.proofs.lemmas.List.{length-map}
 use Rattle.rp_base.specs.declared.Size.TheVariants as sizes
-use Rattle.std.proofs.Common.{true, false, cond, length-append}
+use Rattle.std.proofs.Common.{true, false, length-append}
 use Rattle.rp_base.specs.Word.{has_bit}
-use Rattle.m0_beats.specs.Registers.{sp_of}
 use Rattle.m0_beats.specs.declared.registers.Regs.{Regs}
 use Rattle.m0_beats.specs.declared.timing.Beat.TheVariants.{Inner}
-use Rattle.m0_beats.specs.Beats.{access, accesses, reads, registers_of, inner, pop_end, pop_beats}
+use Rattle.m0_beats.specs.Beats.{access, accesses, reads, registers_of, pop_beats}
 use Rattle.std.specs.Int.Count.{ones}
-use Rattle.m0_beats.proofs.Lists.{no_write, registers_count}
+use Rattle.m0_beats.proofs.Lists.{registers_count}
 use Rattle.m0_beats.specs.declared.timing.Beat.{Beat}
 
 -- the access of a word at an index
@@ -31,16 +30,10 @@ accesses_at from (write ∷ writes) (suc i) fits =
 
 -- an index past the registers, and an index of a register
 pub access_none : (f : ℕ → Option ℕ) (from : ℕ) (ks : List ℕ) (i : ℕ) → from < 2 ^ 32 → None ≡ slice_get ks i → None ≡ slice_get (accesses from (map f ks)) i
-access_none f from ks i fits e =
-    ap (λ k. option_map (word_access from i) (option_map f k)) e
-    ∙ ap (option_map (word_access from i)) (sym (slice_get-map f ks i))
-    ∙ sym (accesses_at from (map f ks) i fits)
+access_none f from ks i fits e = grind (arith, accesses_at from (map f ks) i fits, slice_get-map f ks i)
 
 pub access_some : (f : ℕ → Option ℕ) (from : ℕ) (ks : List ℕ) (i k : ℕ) → from < 2 ^ 32 → Some k ≡ slice_get ks i → Some (word_access from i (f k)) ≡ slice_get (accesses from (map f ks)) i
-access_some f from ks i k fits e =
-    ap (λ k. option_map (word_access from i) (option_map f k)) e
-    ∙ ap (option_map (word_access from i)) (sym (slice_get-map f ks i))
-    ∙ sym (accesses_at from (map f ks) i fits)
+access_some f from ks i k fits e = grind (arith, accesses_at from (map f ks) i fits, slice_get-map f ks i)
 
 -- ---- a list and what follows
 
@@ -70,28 +63,15 @@ register_next k ks (suc i) h = ap (slice_get ks) (omega arith)
 
 pub reads_count : (from list : ℕ) → list < 2 ^ 16 → length (reads from (registers_of list)) ≡ ones list
 reads_count from list fits =
-    length_accesses from (map no_write (registers_of list)) ∙ length-map (registers_of list) no_write ∙ registers_count list fits
+    grind (arith, length_accesses, length-map, registers_count list fits)
 
 -- ---- how many beats
 
 pub many_count : (f : ℕ → Option ℕ) (from list : ℕ) → 1 + length (registers_of list) ≡ length (Inner ∷ accesses from (map f (registers_of list)))
-many_count f from list =
-    let all : length (accesses from (map f (registers_of list))) ≡ length (registers_of list) =
-    length_accesses from (map f (registers_of list)) ∙ length-map (registers_of list) f in
-    omega (arith, all)
+many_count f from list = grind (arith, length_accesses from (map f (registers_of list)), length-map (registers_of list) f)
 
 pub pop_count_pc : (list : ℕ) (s : Regs) → has_bit list 15 ≡ true → 3 + length (registers_of list) ≡ length (pop_beats list s)
-pop_count_pc list s is =
-    let all : length (reads (sp_of s) (registers_of list)) ≡ length (registers_of list) =
-    length_accesses (sp_of s) (map no_write (registers_of list)) ∙ length-map (registers_of list) no_write in
-    let tail : length (pop_end list) ≡ 2 = ap (λ b. length (cond b (inner 2) [])) is in
-    let joined = length-append (reads (sp_of s) (registers_of list)) (pop_end list) in
-    omega (arith, all, tail, joined)
+pop_count_pc list s is = grind (arith, length_accesses, length-map, length-append)
 
 pub pop_count_low : (list : ℕ) (s : Regs) → has_bit list 15 ≡ false → 1 + length (registers_of list) ≡ length (pop_beats list s)
-pop_count_low list s is =
-    let all : length (reads (sp_of s) (registers_of list)) ≡ length (registers_of list) =
-    length_accesses (sp_of s) (map no_write (registers_of list)) ∙ length-map (registers_of list) no_write in
-    let tail : length (pop_end list) ≡ 0 = ap (λ b. length (cond b (inner 2) [])) is in
-    let joined = length-append (reads (sp_of s) (registers_of list)) (pop_end list) in
-    omega (arith, all, tail, joined)
+pop_count_low list s is = grind (arith, length_accesses, length-map, length-append)

@@ -1,13 +1,11 @@
 -- When words at ascending addresses are unaligned.
-use Rattle.std.proofs.Common.{◌≡◌, ◌≢◌, ℕ, ◌+◌, ◌%◌, ◌^◌, ◌<◌, Bool, true, false, not, cond, nat_eq, List, [], ◌∷◌, ◌++◌, length, refl, sym, ap, ◌∙◌, arith, inl, inr}
+use Rattle.std.proofs.Common.{◌≡◌, ◌≢◌, ℕ, ◌+◌, ◌%◌, ◌^◌, ◌<◌, true, false, not, nat_eq, List, [], ◌∷◌, length, refl, sym, ap, ◌∙◌, arith, inl, inr}
 use Rattle.std.specs.Prelude.{Option, ◌||◌, map}
 use Rattle.std.specs.List.{list_any}
 use Rattle.std.proofs.lemmas.Nat.{zero_from_ones}
-use Rattle.std.proofs.lemmas.List.Folds.{list_any-append}
 use Rattle.std.proofs.lemmas.List.{length-map}
 use Rattle.std.proofs.lemmas.Bool.Decides.{nat_tests, eqb_tells}
-use Rattle.m0_beats.specs.Beats.{accesses, is_unaligned_beat, inner, registers_of}
-use Rattle.m0_beats.specs.declared.timing.Beat.{Beat}
+use Rattle.m0_beats.specs.Beats.{accesses, is_unaligned_beat, registers_of}
 use Rattle.m0_beats.proofs.Lists.{registers_count}
 
 -- words from an address that is a multiple of 4
@@ -48,12 +46,3 @@ some_list list address write fits some =
           let count : 0 < length (map write (registers_of list)) = simp length-map (some_registers list fits some) in
           ap not e.0 ∙ sym (unaligned_words address (map write (registers_of list)) e.1 count)
     ]
-
-or_false : (b : Bool) → (b || false) ≡ b
-or_false true = refl
-or_false false = refl
-
--- the inner beats at the end of a POP of PC
-pub inner_end : (beats : List Beat) (pc : Bool) → list_any is_unaligned_beat (beats ++ cond pc (inner 2) []) ≡ list_any is_unaligned_beat beats
-inner_end beats true = list_any-append is_unaligned_beat beats (inner 2) ∙ or_false (list_any is_unaligned_beat beats)
-inner_end beats false = list_any-append is_unaligned_beat beats [] ∙ or_false (list_any is_unaligned_beat beats)

@@ -73,6 +73,7 @@ fn has_more_by_row(op: &Op, regs: &Regs, done: usize) -> bool
 
 /// How many beats a row of the table has.
 #[inline(always)]
+#[tactic(auto, using(crate::proofs::OneBeat::many_count, crate::proofs::OneBeat::pop_count_pc, crate::proofs::OneBeat::pop_count_low))]
 fn shape_count(shape: &Shape, regs: &Regs) -> usize
     ensures { result ≡ length (beats_of_shape shape.now regs.now) }
 {
@@ -94,6 +95,7 @@ fn shape_count(shape: &Shape, regs: &Regs) -> usize
 }
 
 /// How many registers a list has.
+#[tactic(auto, using(crate::proofs::Lists::registers_count))]
 fn register_count(list: u16) -> usize
     ensures count { result ≡ length (registers_of list) }
     ensures room { result ≤ 16 }

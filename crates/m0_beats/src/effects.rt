@@ -218,6 +218,7 @@ impl Regs {
     }
 
     /// The registers of a list take the values in turn.
+    #[tactic(auto, using(crate::proofs::Lists::rest_start, crate::proofs::Lists::rest_end, crate::proofs::Lists::rest_listed, crate::proofs::Lists::rest_other))]
     fn load_all(&mut self, list: u16, read: &[u32])
         ensures { self.new ≡ with_all_loaded self.old (registers_of list) read.now 0 }
     {
@@ -321,6 +322,7 @@ pub(crate) fn value_at(read: &[u32], index: usize) -> u32
 }
 
 /// A register is in a list.
+#[tactic(auto, using(crate::proofs::Lists::none_above))]
 pub(crate) fn is_listed(list: u16, k: u8) -> bool
     ensures { result ≡ has_bit list k }
 {
@@ -328,6 +330,7 @@ pub(crate) fn is_listed(list: u16, k: u8) -> bool
 }
 
 /// How many bytes the registers of a list take.
+#[tactic(auto, using(crate::proofs::Lists::registers_count))]
 pub(crate) fn bytes_of_list(list: u16) -> u32
     ensures { result ≡ bytes_of_list list }
 {

@@ -50,6 +50,7 @@ fn bytes(size: Size) -> u32
 }
 
 /// The words of a list are unaligned: there are some, and the first is.
+#[tactic(auto, using(crate::proofs::Unaligned::empty_list, crate::proofs::Unaligned::some_list))]
 fn are_unaligned(list: u16, address: u32) -> bool
     ensures { TellsUnaligned result address list }
 {
@@ -81,6 +82,7 @@ fn return_value(regs: &Regs, value: u32) -> Option<u32>
 }
 
 /// The last value that the registers of a list take.
+#[tactic(auto, using(crate::proofs::Lists::registers_count))]
 fn last_read(list: u16, read: &[u32]) -> u32
     ensures { result ≡ last_read list read.now }
 {

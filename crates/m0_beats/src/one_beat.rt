@@ -68,6 +68,7 @@ fn single_at(address: u32, size: Size, write: Option<u32>, index: usize) -> Opti
 }
 
 /// The register of a list at an index.
+#[tactic(auto, using(crate::proofs::Lists::rest_start, crate::proofs::Lists::rest_end, crate::proofs::Lists::rest_listed, crate::proofs::Lists::rest_other, crate::proofs::OneBeat::register_next))]
 fn register_at(list: u16, index: usize) -> Option<u8>
     ensures { result ≡ slice_get (registers_of list) index }
 {
@@ -106,6 +107,7 @@ fn write_at(from: u32, list: u16, regs: &Regs, index: usize) -> Option<Beat>
 }
 
 /// One of the reads of the registers of a list.
+#[tactic(auto, using(crate::proofs::OneBeat::access_some, crate::proofs::OneBeat::access_none))]
 fn one_read(from: u32, list: u16, index: usize) -> Option<Beat>
     ensures { result ≡ slice_get (reads from (registers_of list)) index }
 {
@@ -116,6 +118,7 @@ fn one_read(from: u32, list: u16, index: usize) -> Option<Beat>
 }
 
 /// One of the writes of the registers of a list.
+#[tactic(auto, using(crate::proofs::OneBeat::access_some, crate::proofs::OneBeat::access_none))]
 fn one_write(from: u32, list: u16, regs: &Regs, index: usize) -> Option<Beat>
     ensures { result ≡ slice_get (writes from (registers_of list) regs.now) index }
 {
@@ -137,6 +140,7 @@ fn word_address(from: u32, index: usize) -> u32
 }
 
 /// The beat at an index of POP.
+#[tactic(auto, using(crate::proofs::OneBeat::get_rest, crate::proofs::OneBeat::get_front, crate::proofs::OneBeat::get_back, crate::proofs::OneBeat::reads_count))]
 fn pop_at(list: u16, regs: &Regs, index: usize) -> Option<Beat>
     ensures { result ≡ slice_get (pop_beats list regs.now) index }
 {

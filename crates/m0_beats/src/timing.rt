@@ -101,6 +101,7 @@ fn single(address: u32, size: Size, write: Option<u32>) -> Beats
 }
 
 /// The reads of the registers of a list, upwards from an address.
+#[tactic(auto, using(crate::proofs::Lists::rest_start, crate::proofs::Lists::rest_end, crate::proofs::Lists::rest_listed, crate::proofs::Lists::rest_other, std::proofs::Common::append_assoc, crate::proofs::Lists::append_nothing))]
 fn push_reads(out: &mut Beats, from: u32, list: u16)
     requires { array_vec_len out.old ≤ 1 }
     ensures beats { out.new.items ≡ out.old.items ++ reads from (registers_of list) }
@@ -116,6 +117,7 @@ fn push_reads(out: &mut Beats, from: u32, list: u16)
 }
 
 /// The writes of the registers of a list, upwards from an address.
+#[tactic(auto, using(crate::proofs::Lists::rest_start, crate::proofs::Lists::rest_end, crate::proofs::Lists::rest_listed, crate::proofs::Lists::rest_other, std::proofs::Common::append_assoc, crate::proofs::Lists::append_nothing))]
 fn push_writes(out: &mut Beats, from: u32, list: u16, regs: &Regs)
     requires { array_vec_len out.old ≤ 1 }
     ensures { out.new.items ≡ out.old.items ++ writes from (registers_of list) regs.now }
