@@ -408,8 +408,6 @@ part_more parts count number index next items new part lt is up was added =
           ∙ ap (λ (ps : List Part). items ++ concat (blocks_from count number ps)) here ∙ was.rest;
     }
 
-}
-
 pub part_all : (image : Image) (parts : List Part) (count number index : ℕ) (items : List ℕ) → parts ≡ image.parts → count ≡ length parts → length parts ≤ index → IsPart parts count number index items → items ≡ file_of image
 unfolding file_of
 part_all image parts count number index items same all past was =

@@ -30,6 +30,7 @@ pub use writing::write_image;
 ///
 /// The first fault of the file: first its length, then block for block, then what the whole lacks. `Memory` comes
 /// where memory runs out.
+#[tactic(auto, using(crate::proofs::Files::image_empty, crate::proofs::Files::image_ragged))]
 pub fn read_image(alloc: Global, bytes: &[u8]) -> Result<Image, ImageFault>
     requires { length bytes.now ≤ 16777216 }
     // The answer is the definition's, unless memory ran out.

@@ -53,6 +53,7 @@ fn parts_in_order(alloc: Global, blocks: &[Uf2Block]) -> Result<PartList, ImageF
 }
 
 /// The image of the kept blocks, or what they lack.
+#[tactic(auto, using(crate::proofs::Images::whole_empty, crate::proofs::Images::whole_missing, crate::proofs::Images::whole_image))]
 pub fn image_of_blocks(alloc: Global, kept: &KeptBlocks) -> Result<Image, ImageFault>
     requires index { IsIndexed kept.now }
     requires spread { AreSpread kept.now.blocks.items }

@@ -51,6 +51,7 @@ fn any_flag(flags: &[bool], start: usize, end: usize) -> bool
 
 impl<'a> KeptBlocks<'a> {
     /// No blocks.
+    #[tactic(auto, unfolding(crate::specs::Uf2::has_number, crate::specs::Uf2::is_loaded))]
     pub fn new(alloc: Global) -> Result<KeptBlocks<'a>, ImageFault>
         ensures index { IfOk result IsIndexed }
         ensures blocks { IfOk result (λ kept. kept.blocks.items ≡ []) }
@@ -171,6 +172,7 @@ impl<'a> KeptBlocks<'a> {
 }
 
 /// The kept blocks of a file whose length is a multiple of the block size.
+#[tactic(auto, using(crate::proofs::Files::kept_start, crate::proofs::Files::no_fault_start, crate::proofs::Files::read_kept, crate::proofs::Files::no_fault_more, crate::proofs::Files::read_fault))]
 pub fn read_blocks<'a>(alloc: Global, bytes: &'a [u8]) -> Result<KeptBlocks<'a>, ImageFault>
     requires { length bytes.now ≤ 16777216 }
     ensures none { OnOk result (first_fault bytes.now (length bytes.now / 512) ≡ None) }

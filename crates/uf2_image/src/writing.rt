@@ -65,6 +65,7 @@ fn push_block(bytes: &mut Vec<u8>, count: u32, number: u32, part: &Part) -> Resu
 /// # Errors
 ///
 /// `AllocError` comes where memory runs out.
+#[tactic(auto, using(crate::proofs::Written::part_all, crate::proofs::Written::what_is_written_is_read))]
 pub fn write_image(alloc: Global, image: &Image) -> Result<Vec<u8>, AllocError>
     requires { IsWritable image.now }
     ensures value { IfOk result (λ bytes. bytes.items ≡ file_of image.now) }

@@ -1,16 +1,10 @@
 use Rattle.std.proofs.Common.{◌/◌, ◌∙◌, sym, arith, length, subst, List, ℕ}
-use Rattle.std.proofs.lemmas.Bool.{eqb-false, eqb-true}
+use Rattle.std.proofs.lemmas.Bool.{eqb-false}
 use Rattle.std.proofs.lemmas.Result.{err_from_is_err_and, MatchResult-weaker}
 use Rattle.uf2_image.specs.Reading.{AreSpread}
-use Rattle.uf2_image.proofs.Files.{image_empty, image_fault, image_ragged, image_whole}
+use Rattle.uf2_image.proofs.Files.{image_fault, image_whole}
 use Rattle.uf2_image.proofs.Spread.{spread_kept}
 use Rattle.uf2_image.proofs.read_image.Goals as goal
-
-pub returns-then-is_empty-clause-image : goal.returns-then-is_empty-clause-image
-returns-then-is_empty-clause-image c other = image_empty c.args.bytes.now (eqb-true (length c.args.bytes.now) 0 (sym c.if-is_empty.ensures))
-
-pub returns-then-bytes-ne0-clause-image : goal.returns-then-bytes-ne0-clause-image
-returns-then-bytes-ne0-clause-image c other = image_ragged c.args.bytes.now c.if-bytes-ne0.true
 
 pub returns-in_err-kept-clause-image : goal.returns-in_err-kept-clause-image
 returns-in_err-kept-clause-image c =

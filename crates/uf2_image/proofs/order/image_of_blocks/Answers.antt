@@ -1,27 +1,8 @@
-use Rattle.std.proofs.Common.{◌∙◌, ap, sym, min, map, ℕ, List, slice_get}
+use Rattle.std.proofs.Common.{◌∙◌, ap, min, map, ℕ, List, slice_get}
 use Rattle.std.specs.List.{fold}
-use Rattle.uf2_image.specs.Uf2.{in_order, least_missing, part_of, target_of}
-use Rattle.uf2_image.proofs.Images.{image_fits, whole_empty, whole_image, whole_missing}
+use Rattle.uf2_image.specs.Uf2.{in_order, part_of, target_of}
+use Rattle.uf2_image.proofs.Images.{image_fits}
 use Rattle.uf2_image.proofs.order.image_of_blocks.Goals as goal
-
-pub returns-in_default-clause-image : goal.returns-in_default-clause-image
-returns-in_default-clause-image c other =
-    whole_empty c.args.kept.now.blocks.items (c.in_default.ensures.value ∙ ap (λ (xs : List (List ℕ)). slice_get xs 0) c.deref.ensures.value)
-
-pub returns-in-Some-least_missing-clause-image : goal.returns-in-Some-least_missing-clause-image
-returns-in-Some-least_missing-clause-image c other =
-    whole_missing c.args.kept.now.blocks.items c.in-Some.first.now c.in-Some-least_missing.number
-    (c.in-Some.ensures.value ∙ ap (λ (xs : List (List ℕ)). slice_get xs 0) c.deref.ensures.value)
-    (sym c.in-Some-least_missing.is ∙ c.least_missing.ensures ∙ ap (least_missing c.args.kept.now.blocks.items) c.count.ensures)
-
-pub returns-clause-image : goal.returns-clause-image
-returns-clause-image c =
-    whole_image c.args.kept.now.blocks.items c.in-Some.first.now c.lowest_target-lowest.result c.target.result c.in_ok-parts.parts
-    (c.in-Some.ensures.value ∙ ap (λ (xs : List (List ℕ)). slice_get xs 0) c.deref.ensures.value)
-    (sym c.in_default-least_missing.is ∙ c.least_missing.ensures ∙ ap (least_missing c.args.kept.now.blocks.items) c.count.ensures)
-    (c.in_ok-parts.ensures.parts ∙ ap (λ (bs : List (List ℕ)). in_order (map part_of bs)) c.deref-3.ensures.value)
-    (c.lowest_target-lowest.ensures ∙ ap (λ (bs : List (List ℕ)). fold (λ a block. min a (target_of block)) c.target.result bs) c.deref-2.ensures.value)
-    c.target.ensures c.requires.spread.payloads
 
 pub returns-clause-fits : goal.returns-clause-fits
 returns-clause-fits c =
