@@ -113,6 +113,7 @@ fn cycle_alone<E, S: Lane<E>, W: Around>(
 }
 
 /// Cycles of a lane that runs alone, at most so many. Gives how many there are.
+#[tactic(auto, using(crate::proofs::RunsAlone::alone_first))]
 fn cycles_alone<E, S: Lane<E>, W: Around>(
     lane: &mut S,
     env: &E,

@@ -79,6 +79,7 @@ pub trait Device: Sync + Drop {
     }
 
     /// So many cycles from a first one on, in which the pads have these levels.
+    #[tactic(auto, using(crate::proofs::Times::times_none, crate::proofs::Times::times_more))]
     fn pass(&self, state: &mut [u32], first: u64, pads: u32, n: u64)
         requires words { length state.old ≡ (meaning self.now).count }
         requires number { first + n < 2 ^ 64 }

@@ -67,12 +67,14 @@ impl<A: Device, B: Device> Device for Pair<A, B> {
     }
 
     #[inline(always)]
+    #[tactic(auto, using(crate::proofs::Quiet::both_quiet_by))]
     fn quiet(&self, state: &[u32], cycle: u64, pads: u32) -> u64 {
         let (front, back) = state.split_at(self.first.words());
         let first = self.first.quiet(front, cycle, pads);
         first.min(self.second.quiet(back, cycle, pads))
     }
 
+    #[tactic(auto, using(crate::proofs::Times::times_none, crate::proofs::Quiet::pass_both, crate::proofs::Quiet::step_both))]
     fn pass(&self, state: &mut [u32], first: u64, pads: u32, n: u64) {
         let words = self.first.words();
         let (front, back) = state.split_at(words);

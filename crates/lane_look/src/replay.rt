@@ -56,6 +56,7 @@ pub fn finish_alone<E, S: Lane<E>>(lane: &mut S, env: &E, begun: &S::Begun, mark
 }
 
 /// Replays a log for so many cycles. Gives how many of its entries were used.
+#[tactic(auto, using(crate::proofs::Replays::stands_first, crate::proofs::Replays::stands_used))]
 fn replay<E, S: Lane<E>>(
     lane: &mut S,
     env: &E,
@@ -83,6 +84,7 @@ fn replay<E, S: Lane<E>>(
 }
 
 /// Makes `after` the state after the first cycles, and keeps the log and the marks of these.
+#[tactic(auto, using(crate::proofs::Rewinds::rewound_true))]
 pub fn rewind<E, S: Lane<E>>(report: &mut Report<S>, env: &E, n: u16)
     requires report { IsTrue (meaning S.asks S.wanted S.next S.marked) env.now report.old }
     requires within { n ≤ report.old.length }

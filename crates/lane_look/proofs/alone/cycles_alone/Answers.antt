@@ -1,11 +1,8 @@
-use Rattle.std.proofs.Common.{◌≡◌, ℕ, ◌+◌, refl, ap, ◌∙◌, arith}
+use Rattle.std.proofs.Common.{◌≡◌, ℕ, ◌+◌, ap, ◌∙◌, arith}
 use Rattle.lane_look.specs.Replay.{meaning}
 use Rattle.lane_look.specs.Alone.{surroundings}
-use Rattle.lane_look.proofs.RunsAlone.{alone_first, alone_next, alone_ended, alone_full}
+use Rattle.lane_look.proofs.RunsAlone.{alone_next, alone_ended, alone_full}
 use Rattle.lane_look.proofs.alone.cycles_alone.Goals as goal
-
-pub loop-k-init : goal.loop-k-init
-loop-k-init g c = (alone_first (meaning g.S.Lane.asks g.S.Lane.wanted g.S.Lane.next g.S.Lane.marked) (surroundings g.W.Around.answer g.W.Around.stored) c.args.env.now c.args.lane.now c.args.start c.args.look.now.around c.args.look.now.log.now c.args.marks.now c.requires.log c.requires.marks, refl)
 
 pub returns-then-not-cycle_alone-clause-length : goal.returns-then-not-cycle_alone-clause-length
 returns-then-not-cycle_alone-clause-length g c =
