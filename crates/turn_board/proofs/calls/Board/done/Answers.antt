@@ -1,4 +1,4 @@
-use Rattle.std.proofs.Common.{rules, ap, ◌∙◌, subst, sym}
+use Rattle.std.proofs.Common.{ap, ◌∙◌, subst, sym}
 use Rattle.std.specs.Prelude.{IsSome}
 use Rattle.turn_board.specs.Tickets.{IsUnfinished}
 use Rattle.turn_board.proofs.Owning.{done_free}
