@@ -9,6 +9,10 @@ use Rattle.pwm_block.specs.Packing.{words_of, block_of}
 use Rattle.pwm_block.specs.Step.{after_step}
 use Rattle.pwm_block.specs.Device.{packed_wires, packed_step, pwm_device}
 
+-- as the code tests it
+is-off : (signs : ℕ) → bit_and signs 255 ≡ 0 → (signs % 2 ^ 8 == 0) ≡ true
+is-off signs h = let e : signs % 2 ^ 8 ≡ 0 = sym (and_mask signs 8) ∙ h in ap (λ (x : ℕ). x == 0) e
+
 -- the last levels of the pads are kept, and nothing else changes
 abbrev pub off : ℕ → List ℕ → ℕ → List ℕ
 off pads ws zero = ws
@@ -38,16 +42,12 @@ length-off : (pads : ℕ) (ws : List ℕ) (k : ℕ) → length (off pads ws k) �
 length-off pads ws zero = refl
 length-off pads ws (suc k) = length-set ws 66 pads
 
-pub off-quiet : (ws : List ℕ) (cycle pads n : ℕ) → length ws ≡ 68 → (slice_index ws 65 % 2 ^ 8 == 0) ≡ true → IsDeviceQuiet pwm_device ws cycle pads n
-off-quiet ws cycle pads n fits e = record {
-  drives = λ k lt. ap packed_wires (off-after pads ws cycle k e) ∙ wires-off pads ws k;
-  words = λ k le. ap length (off-after pads ws cycle k e) ∙ (length-off pads ws k ∙ fits);
+pub off_quiet : (ws : List ℕ) (cycle pads n : ℕ) → length ws ≡ 68 → bit_and (slice_index ws 65) 255 ≡ 0 → IsDeviceQuiet pwm_device ws cycle pads n
+off_quiet ws cycle pads n fits e = record {
+  drives = λ k lt. ap packed_wires (off-after pads ws cycle k (is-off _ e)) ∙ wires-off pads ws k;
+  words = λ k le. ap length (off-after pads ws cycle k (is-off _ e)) ∙ (length-off pads ws k ∙ fits);
 }
 
-pub off-passed : (pads : ℕ) (ws : List ℕ) (first n : ℕ) → 0 < n → (slice_index ws 65 % 2 ^ 8 == 0) ≡ true → slice_set ws 66 pads ≡ device_after pwm_device pads first n ws
-off-passed pads ws first zero pos e = absurd (omega arith)
-off-passed pads ws first (suc n) pos e = sym (off-after pads ws first (suc n) e)
-
--- as the code tests it
-pub is-off : (signs : ℕ) → bit_and signs 255 ≡ 0 → (signs % 2 ^ 8 == 0) ≡ true
-is-off signs h = let e : signs % 2 ^ 8 ≡ 0 = sym (and_mask signs 8) ∙ h in ap (λ (x : ℕ). x == 0) e
+pub off_passed : (pads : ℕ) (ws : List ℕ) (first n : ℕ) → 0 < n → bit_and (slice_index ws 65) 255 ≡ 0 → slice_set ws 66 pads ≡ device_after pwm_device pads first n ws
+off_passed pads ws first zero pos e = absurd (omega arith)
+off_passed pads ws first (suc n) pos e = sym (off-after pads ws first (suc n) (is-off _ e))

@@ -1,6 +1,6 @@
 -- The slices that words hold, and what is made of each of them.
-use Rattle.std.proofs.Common.{◌∙◌, ap, sym, ◌≡◌, ℕ, zero, suc, ◌+◌, ◌-◌, ◌*◌, ◌%◌, ◌^◌, ◌<◌, ◌≤◌, Bool, true, false, refl, arith, List, [], ◌∷◌, ◌++◌, length, take, drop}
-use Rattle.std.specs.Prelude.{◌==◌, not, replicate, bit_and, bit_or}
+use Rattle.std.proofs.Common.{◌∙◌, ap, sym, ◌≡◌, ℕ, zero, suc, ◌+◌, ◌-◌, ◌*◌, ◌^◌, ◌<◌, ◌≤◌, Bool, true, false, refl, arith, List, [], ◌∷◌, length, take, drop}
+use Rattle.std.specs.Prelude.{replicate, bit_or}
 use Rattle.std.specs.Int.Bits.{or_zero_r}
 use Rattle.std.proofs.lemmas.List.{take-take, drop-take}
 use Rattle.rp_base.specs.Word.{bit_number}
@@ -8,7 +8,7 @@ use Rattle.pwm_block.specs.State.{Slice, State, slice_at_reset, at_reset, is_ena
 use Rattle.pwm_block.specs.Step.{numbered, set_of}
 use Rattle.pwm_block.specs.Outputs.{outputs_of, output_a, output_b}
 use Rattle.pwm_block.specs.Words.{with_slices}
-use Rattle.pwm_block.specs.Packing.{slice_of, slices_in, slice_words, all_words, words_of, block_of}
+use Rattle.pwm_block.specs.Packing.{slice_of, slices_in, words_of, block_of}
 
 -- ---- the slices in words
 
@@ -31,13 +31,13 @@ pub none_left : (left : ℕ) (ws : List ℕ) → left ≡ 0 → slices_in left w
 none_left left ws e = ap (λ (n : ℕ). slices_in n ws) e ∙ no_slices ws
 
 -- the words behind the slices are not looked at
-pub slices-front : (n m : ℕ) (ws : List ℕ) → m ≡ 8 * n → slices_in n (take m ws) ≡ slices_in n ws
-slices-front zero m ws e = no_slices (take m ws) ∙ sym (no_slices ws)
-slices-front (suc n) m ws e =
+pub slices_front : (n m : ℕ) (ws : List ℕ) → m ≡ 8 * n → slices_in n (take m ws) ≡ slices_in n ws
+slices_front zero m ws e = no_slices (take m ws) ∙ sym (no_slices ws)
+slices_front (suc n) m ws e =
     one_more n (take m ws)
     ∙ ap (λ (xs : List ℕ). slice_of xs ∷ slices_in n (drop 8 (take m ws))) (take-take 8 m ws (omega arith))
     ∙ ap (λ (xs : List ℕ). slice_of (take 8 ws) ∷ slices_in n xs) (ap (λ (k : ℕ). drop 8 (take k ws)) (sum n m e) ∙ drop-take 8 (8 * n) ws)
-    ∙ ap (λ (ss : List Slice). slice_of (take 8 ws) ∷ ss) (slices-front n (8 * n) (drop 8 ws) refl)
+    ∙ ap (λ (ss : List Slice). slice_of (take 8 ws) ∷ ss) (slices_front n (8 * n) (drop 8 ws) refl)
     ∙ sym (one_more n ws)
   where
     sum : (n m : ℕ) → m ≡ 8 * suc n → m ≡ 8 + 8 * n
@@ -53,9 +53,9 @@ pub length-numbered : (f : ℕ → Slice → Slice) (n : ℕ) (ss : List Slice) 
 length-numbered f n [] = refl
 length-numbered f n (s ∷ ss) = omega (arith, length-numbered f (n + 1) ss)
 
-pub numbered-same : (n : ℕ) (ss : List Slice) → numbered (λ k s. s) n ss ≡ ss
-numbered-same n [] = refl
-numbered-same n (s ∷ ss) = ap (λ (rest : List Slice). s ∷ rest) (numbered-same (n + 1) ss)
+pub numbered_same : (n : ℕ) (ss : List Slice) → numbered (λ k s. s) n ss ≡ ss
+numbered_same n [] = refl
+numbered_same n (s ∷ ss) = ap (λ (rest : List Slice). s ∷ rest) (numbered_same (n + 1) ss)
 
 pub numbered-alike : (r : Slice) (n : ℕ) (ss : List Slice) → numbered (λ k s. r) n ss ≡ replicate (length ss) r
 numbered-alike r n [] = refl
@@ -73,9 +73,9 @@ plus-zero n = omega arith
 plus-suc : (n m : ℕ) → n + suc m ≡ suc (n + m)
 plus-suc n m = omega arith
 
-bit-lt : (b : Bool) → bit_number b < 2
-bit-lt true = omega arith
-bit-lt false = omega arith
+pub bit_small : (b : Bool) → bit_number b < 2
+bit_small true = omega arith
+bit_small false = omega arith
 
 -- so many times as many
 times : ℕ → ℕ → ℕ
@@ -92,11 +92,11 @@ times-one k = refl
 
 set_of-times : (p : ℕ → Slice → Bool) (n : ℕ) (ss : List Slice) → set_of p n ss < times 2 (length ss)
 set_of-times p n [] = omega (arith, times-one 2)
-set_of-times p n (s ∷ ss) = omega (arith, times-more 2 (length ss), set_of-times p (n + 1) ss, bit-lt (p n s))
+set_of-times p n (s ∷ ss) = omega (arith, times-more 2 (length ss), set_of-times p (n + 1) ss, bit_small (p n s))
 
 outputs_of-times : (ss : List Slice) → outputs_of ss < times 4 (length ss)
 outputs_of-times [] = omega (arith, times-one 4)
-outputs_of-times (s ∷ ss) = omega (arith, times-more 4 (length ss), outputs_of-times ss, bit-lt (output_a s), bit-lt (output_b s))
+outputs_of-times (s ∷ ss) = omega (arith, times-more 4 (length ss), outputs_of-times ss, bit_small (output_a s), bit_small (output_b s))
 
 rise-2 : (n m : ℕ) → times 2 n ≤ times 2 (n + m)
 rise-2 n zero = omega (arith, ap (times 2) (plus-zero n))
@@ -135,76 +135,16 @@ pub no_words : (ws : List ℕ) → length ws ≡ 0 → ws ≡ []
 no_words [] h = refl
 no_words (w ∷ ws) h = absurd (omega arith)
 
-pub words-none : (f : ℕ → Slice → Slice) (n left : ℕ) (ws : List ℕ) → left ≡ 0 → length ws ≡ 8 * left
-    → ws ≡ all_words (numbered f n (slices_in left ws))
-words-none f n left ws e h =
-    no_words ws (omega arith) ∙ ap (λ (ss : List Slice). all_words (numbered f n ss)) (sym (none_left left ws e))
-
-pub outputs-none : (f : ℕ → Slice → Slice) (n left : ℕ) (ws : List ℕ) → left ≡ 0 → 0 ≡ outputs_of (numbered f n (slices_in left ws))
-outputs-none f n left ws e = ap (λ (ss : List Slice). outputs_of (numbered f n ss)) (sym (none_left left ws e))
-
-pub enabled-none : (f : ℕ → Slice → Slice) (n left : ℕ) (ws : List ℕ) → left ≡ 0
-    → 0 ≡ set_of (λ n s. is_enabled s) n (numbered f n (slices_in left ws))
-enabled-none f n left ws e = ap (λ (ss : List Slice). set_of (λ n s. is_enabled s) n (numbered f n ss)) (sym (none_left left ws e))
-
-pub set_of-none_left : (p : ℕ → Slice → Bool) (n left : ℕ) (ws : List ℕ) → left ≡ 0 → 0 ≡ set_of p n (slices_in left ws)
-set_of-none_left p n left ws e = ap (λ (ss : List Slice). set_of p n ss) (sym (none_left left ws e))
-
-pub words-more : (f : ℕ → Slice → Slice) (n left : ℕ) (ws head tail : List ℕ) → 0 < left
-    → head ≡ slice_words (f n (slice_of (take 8 ws))) → tail ≡ all_words (numbered f (n + 1) (slices_in (left - 1) (drop 8 ws)))
-    → head ++ tail ≡ all_words (numbered f n (slices_in left ws))
-words-more f n left ws head tail lt h t =
-    ap (λ (xs : List ℕ). xs ++ tail) h
-    ∙ ap (λ (xs : List ℕ). slice_words (f n (slice_of (take 8 ws))) ++ xs) t
-    ∙ ap (λ (ss : List Slice). all_words (numbered f n ss)) (sym (first_slice left ws lt))
-
-pub outputs-more : (f : ℕ → Slice → Slice) (n left : ℕ) (ws : List ℕ) (a b r : ℕ) → 0 < left
-    → a ≡ bit_number (output_a (f n (slice_of (take 8 ws)))) → b ≡ bit_number (output_b (f n (slice_of (take 8 ws))))
-    → r ≡ outputs_of (numbered f (n + 1) (slices_in (left - 1) (drop 8 ws)))
-    → a + b * 2 + r * 4 ≡ outputs_of (numbered f n (slices_in left ws))
-outputs-more f n left ws a b r lt g h t =
-    ap (λ (x : ℕ). x + b * 2 + r * 4) g
-    ∙ ap (λ (x : ℕ). bit_number (output_a (f n (slice_of (take 8 ws)))) + x * 2 + r * 4) h
-    ∙ ap (λ (x : ℕ). bit_number (output_a (f n (slice_of (take 8 ws)))) + bit_number (output_b (f n (slice_of (take 8 ws)))) * 2 + x * 4) t
-    ∙ ap (λ (ss : List Slice). outputs_of (numbered f n ss)) (sym (first_slice left ws lt))
-
-pub enabled-more : (f : ℕ → Slice → Slice) (n left : ℕ) (ws : List ℕ) (a r : ℕ) → 0 < left
-    → a ≡ bit_number (is_enabled (f n (slice_of (take 8 ws))))
-    → r ≡ set_of (λ n s. is_enabled s) (n + 1) (numbered f (n + 1) (slices_in (left - 1) (drop 8 ws)))
-    → a + r * 2 ≡ set_of (λ n s. is_enabled s) n (numbered f n (slices_in left ws))
-enabled-more f n left ws a r lt h t =
-    ap (λ (x : ℕ). x + r * 2) h
-    ∙ ap (λ (x : ℕ). bit_number (is_enabled (f n (slice_of (take 8 ws)))) + x * 2) t
-    ∙ ap (λ (ss : List Slice). set_of (λ n s. is_enabled s) n (numbered f n ss)) (sym (first_slice left ws lt))
-
-pub set_of-more : (p : ℕ → Slice → Bool) (n left : ℕ) (ws : List ℕ) (a r : ℕ) → 0 < left
-    → a ≡ bit_number (p n (slice_of (take 8 ws)))
-    → r ≡ set_of p (n + 1) (slices_in (left - 1) (drop 8 ws))
-    → a + r * 2 ≡ set_of p n (slices_in left ws)
-set_of-more p n left ws a r lt h t =
-    ap (λ (x : ℕ). x + r * 2) h
-    ∙ ap (λ (x : ℕ). bit_number (p n (slice_of (take 8 ws))) + x * 2) t
-    ∙ ap (λ (ss : List Slice). set_of p n ss) (sym (first_slice left ws lt))
-
 -- ---- how large what is found is
 
-pub outputs-below : (x : ℕ) (f : ℕ → Slice → Slice) (n left : ℕ) (ws : List ℕ) → x ≡ outputs_of (numbered f n (slices_in left ws)) → left ≤ 8
-    → x < 2 ^ 16
-outputs-below x f n left ws e h =
-    omega (arith, e, outputs_of-lt (numbered f n (slices_in left ws)) (omega (arith, length-numbered f n (slices_in left ws), length-slices left ws)))
+pub set_small : (p : ℕ → Slice → Bool) (n left : ℕ) (ws : List ℕ) → left ≤ 8 → set_of p n (slices_in left ws) < 2 ^ 8
+set_small p n left ws h = set_of-lt p n (slices_in left ws) (omega (arith, length-slices left ws))
 
-pub enabled-below : (x : ℕ) (f : ℕ → Slice → Slice) (n left : ℕ) (ws : List ℕ)
-    → x ≡ set_of (λ n s. is_enabled s) n (numbered f n (slices_in left ws)) → left ≤ 8 → x < 2 ^ 8
-enabled-below x f n left ws e h =
-    omega (
-      arith,
-      e,
-      set_of-lt (λ n s. is_enabled s) n (numbered f n (slices_in left ws))
-          (omega (arith, length-numbered f n (slices_in left ws), length-slices left ws)),
-    )
+pub enabled_small : (f : ℕ → Slice → Slice) (n left : ℕ) (ws : List ℕ) → left ≤ 8 → set_of (λ n s. is_enabled s) n (numbered f n (slices_in left ws)) < 2 ^ 8
+enabled_small f n left ws h = set_of-lt (λ n s. is_enabled s) n (numbered f n (slices_in left ws)) (omega (arith, length-numbered f n (slices_in left ws), length-slices left ws))
 
-pub set_of-below : (x : ℕ) (p : ℕ → Slice → Bool) (n left : ℕ) (ws : List ℕ) → x ≡ set_of p n (slices_in left ws) → left ≤ 8 → x < 2 ^ 8
-set_of-below x p n left ws e h = omega (arith, e, set_of-lt p n (slices_in left ws) (omega (arith, length-slices left ws)))
+pub outputs_small : (f : ℕ → Slice → Slice) (n left : ℕ) (ws : List ℕ) → left ≤ 8 → outputs_of (numbered f n (slices_in left ws)) < 2 ^ 16
+outputs_small f n left ws h = outputs_of-lt (numbered f n (slices_in left ws)) (omega (arith, length-numbered f n (slices_in left ws), length-slices left ws))
 
 -- ---- the whole block
 
@@ -222,41 +162,11 @@ five ss ts a b c d e f g h i j k l m =
 abbrev after : (ℕ → Slice → Slice) → (ℕ → Slice → Bool) → ℕ → ℕ → ℕ → ℕ → List Slice → State
 after f p last r e fo ss = record { slices = numbered f 0 ss; last = last; raised = bit_or r (set_of p 0 ss); enabled = e; forced = fo }
 
-joined : (f : ℕ → Slice → Slice) (p : ℕ → Slice → Bool) (last r e fo o en w : ℕ) (ss : List Slice) (head signs : List ℕ)
-    → head ≡ all_words (numbered f 0 ss)
-    → o ≡ outputs_of (numbered f 0 ss) → en ≡ set_of (λ n s. is_enabled s) 0 (numbered f 0 ss) → w ≡ set_of p 0 ss
-    → signs ≡ o * (2 ^ 16 + 1) ∷ (en + bit_number (not (bit_or (bit_and (bit_or r w) e) fo == 0)) * 2 ^ 8) ∷ last
-    ∷ (bit_or r w % 2 ^ 8 + e % 2 ^ 8 * 2 ^ 8 + fo % 2 ^ 8 * 2 ^ 16) ∷ []
-    → head ++ signs ≡ words_of (after f p last r e fo ss)
-joined f p last r e fo o en w ss head signs h i j k l =
-    ap (λ (xs : List ℕ). xs ++ signs) h
-    ∙ ap (λ (xs : List ℕ). all_words (numbered f 0 ss) ++ xs) l
-    ∙ ap (λ (x : ℕ). all_words (numbered f 0 ss) ++ x * (2 ^ 16 + 1) ∷ (en + bit_number (not (bit_or (bit_and (bit_or r w) e) fo == 0)) * 2 ^ 8)
-    ∷ last ∷ (bit_or r w % 2 ^ 8 + e % 2 ^ 8 * 2 ^ 8 + fo % 2 ^ 8 * 2 ^ 16) ∷ []) i
-    ∙ ap (λ (x : ℕ). all_words (numbered f 0 ss) ++ outputs_of (numbered f 0 ss) * (2 ^ 16 + 1)
-    ∷ (x + bit_number (not (bit_or (bit_and (bit_or r w) e) fo == 0)) * 2 ^ 8)
-    ∷ last ∷ (bit_or r w % 2 ^ 8 + e % 2 ^ 8 * 2 ^ 8 + fo % 2 ^ 8 * 2 ^ 16) ∷ []) j
-    ∙ ap (λ (x : ℕ). all_words (numbered f 0 ss) ++ outputs_of (numbered f 0 ss) * (2 ^ 16 + 1)
-    ∷ (set_of (λ n s. is_enabled s) 0 (numbered f 0 ss) + bit_number (not (bit_or (bit_and (bit_or r x) e) fo == 0)) * 2 ^ 8)
-    ∷ last ∷ (bit_or r x % 2 ^ 8 + e % 2 ^ 8 * 2 ^ 8 + fo % 2 ^ 8 * 2 ^ 16) ∷ []) k
-
-pub renewed : (f : ℕ → Slice → Slice) (p : ℕ → Slice → Bool) (last r e fo o en w : ℕ) (ws head signs : List ℕ)
-    → head ≡ all_words (numbered f 0 (slices_in 8 (take 64 ws)))
-    → o ≡ outputs_of (numbered f 0 (slices_in 8 (take 64 ws)))
-    → en ≡ set_of (λ n s. is_enabled s) 0 (numbered f 0 (slices_in 8 (take 64 ws)))
-    → w ≡ set_of p 0 (slices_in 8 (take 64 ws))
-    → signs ≡ o * (2 ^ 16 + 1) ∷ (en + bit_number (not (bit_or (bit_and (bit_or r w) e) fo == 0)) * 2 ^ 8) ∷ last
-    ∷ (bit_or r w % 2 ^ 8 + e % 2 ^ 8 * 2 ^ 8 + fo % 2 ^ 8 * 2 ^ 16) ∷ []
-    → head ++ signs ≡ words_of (after f p last r e fo (slices_in 8 ws))
-renewed f p last r e fo o en w ws head signs h i j k l =
-    joined f p last r e fo o en w (slices_in 8 (take 64 ws)) head signs h i j k l
-    ∙ ap (λ (ss : List Slice). words_of (after f p last r e fo ss)) (slices-front 8 64 ws refl)
-
-pub started : (ws : List ℕ) → after (λ n s. slice_at_reset) (λ n s. false) 0 0 0 0 (slices_in 8 ws) ≡ at_reset
+pub started : (ws : List ℕ) → words_of (after (λ n s. slice_at_reset) (λ n s. false) 0 0 0 0 (slices_in 8 ws)) ≡ words_of at_reset
 started ws =
-    five _ _ 0 0 _ _ 0 0 0 0
+    ap words_of (five _ _ 0 0 _ _ 0 0 0 0
     (numbered-alike slice_at_reset 0 (slices_in 8 ws) ∙ ap (λ (n : ℕ). replicate n slice_at_reset) (length-slices 8 ws))
-    refl (ap (λ (x : ℕ). bit_or 0 x) (set_of-none 0 (slices_in 8 ws))) refl refl
+    refl (ap (λ (x : ℕ). bit_or 0 x) (set_of-none 0 (slices_in 8 ws))) refl refl)
 
 none-raised : (p : ℕ → Slice → Bool) (r : ℕ) (ss : List Slice) → p ≡ (λ n s. false) → bit_or r (set_of p 0 ss) ≡ r
 none-raised p r ss h = ap (λ (q : ℕ → Slice → Bool). bit_or r (set_of q 0 ss)) h ∙ ap (bit_or r) (set_of-none 0 ss) ∙ or_zero_r r
@@ -274,5 +184,5 @@ pub unchanged : (last r e fo : ℕ) (ws : List ℕ) → last ≡ (block_of ws).l
     ≡ words_of (record (block_of ws) { raised = r; enabled = e; forced = fo })
 unchanged last r e fo ws i =
     let same : after (λ n s. s) (λ n s. false) last r e fo (slices_in 8 ws) ≡ record (block_of ws) { raised = r; enabled = e; forced = fo } =
-    five _ _ _ _ _ _ e e fo fo (numbered-same 0 (slices_in 8 ws)) i (none-raised (λ n s. false) r (slices_in 8 ws) refl) refl refl in
+    five _ _ _ _ _ _ e e fo fo (numbered_same 0 (slices_in 8 ws)) i (none-raised (λ n s. false) r (slices_in 8 ws) refl) refl refl in
     ap words_of same

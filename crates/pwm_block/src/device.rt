@@ -60,6 +60,7 @@ impl Device for Pwm {
     }
 
     #[inline(always)]
+    #[tactic(auto, using(crate::proofs::Quiet::off_quiet, lane_look::proofs::Quiet::quiet_none))]
     fn quiet(&self, state: &[u32], _cycle: u64, _pads: u32) -> u64 {
         if state[SIGNS] & 0xff == 0 {
             u64::MAX
@@ -69,6 +70,7 @@ impl Device for Pwm {
     }
 
     #[inline(always)]
+    #[tactic(auto, using(crate::proofs::Quiet::off_passed, lane_look::proofs::Times::times_none))]
     fn pass(&self, state: &mut [u32], first: u64, pads: u32, n: u64) {
         if state[SIGNS] & 0xff == 0 {
             if 0 < n {
@@ -122,6 +124,7 @@ fn cycle(state: &mut [u32], pads: u32)
 
 /// So many cycles one by one.
 #[inline(never)]
+#[tactic(auto, using(lane_look::proofs::Times::times_none, lane_look::proofs::Times::times_more))]
 fn cycles(state: &mut [u32], _first: u64, pads: u32, n: u64)
     requires { length state.old ≡ 68 }
     ensures { state.new ≡ device_after pwm_device pads _first n state.old }

@@ -110,6 +110,7 @@ struct Found {
 }
 
 /// A change of the last so many slices; the first of them has this number.
+#[tactic(auto, using(crate::proofs::Slices::none_left, crate::proofs::Slices::first_slice, crate::proofs::Slices::no_words, crate::proofs::Slices::set_small, crate::proofs::Slices::enabled_small, crate::proofs::Slices::outputs_small, crate::proofs::Slices::bit_small))]
 fn change_slices(words: &mut [u32], left: u32, number: u32, change: &Change) -> Found
     requires all { number + left ≡ 8 }
     requires room { length words.old ≡ 8 * left }
@@ -140,6 +141,7 @@ fn change_slices(words: &mut [u32], left: u32, number: u32, change: &Change) -> 
 }
 
 /// The set of those of the last so many slices that are enabled; the first of them has this number.
+#[tactic(auto, using(crate::proofs::Slices::none_left, crate::proofs::Slices::first_slice, crate::proofs::Slices::set_small, crate::proofs::Slices::bit_small))]
 pub(crate) fn enabled(words: &[u32], left: u32, number: u32) -> u32
     requires all { number + left ≡ 8 }
     requires room { 8 * left ≤ length words.now }
@@ -154,6 +156,7 @@ pub(crate) fn enabled(words: &[u32], left: u32, number: u32) -> u32
 
 /// A change of all slices; the last levels of the pads and the interrupts are these from then on, and each slice that wraps sets its
 /// interrupt.
+#[tactic(auto, using(crate::proofs::Slices::enabled_small, crate::proofs::Slices::outputs_small))]
 pub(crate) fn renew(state: &mut [u32], change: &Change, last: u32, interrupts: Interrupts)
     requires { length state.old ≡ 68 }
     ensures { state.new ≡ words_of (record {

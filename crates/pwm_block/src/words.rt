@@ -136,6 +136,7 @@ fn write_block(state: &mut [u32], offset: u16, word: u32)
 }
 
 /// A change of slices in which none wraps.
+#[tactic(auto, using(crate::proofs::Slices::changed))]
 fn change(state: &mut [u32], change: &Change)
     requires room { length state.old ≡ 68 }
     requires still { wraps_by change.now ≡ (λ n s. false) }
@@ -147,6 +148,7 @@ fn change(state: &mut [u32], change: &Change)
 }
 
 /// The interrupts become these.
+#[tactic(auto, using(crate::proofs::Slices::unchanged))]
 fn write_interrupts(state: &mut [u32], interrupts: Interrupts)
     requires { length state.old ≡ 68 }
     ensures { state.new ≡ words_of (record (block_of state.old) {
