@@ -152,5 +152,3 @@ passed_more limit a b c d left left' left'' lost lost' lost'' given given' n fal
 -- there is less to take
 pub nearer : (limit : ℕ) (b c d : Ahead) (left left' : Option (List ℕ)) (lost lost' n : ℕ) → b.taken < limit → Fills limit b c left left' lost lost' (taken.Took n) → d.taken ≡ c.taken → limit - d.taken < limit - b.taken
 nearer limit b c d left left' lost lost' n lt f same = omega (arith, lt, f.0, f.1, f.2, same)
-
-}
