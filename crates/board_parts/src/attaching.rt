@@ -49,6 +49,7 @@ fn attach_next<P: Part>(
 /// # Errors
 ///
 /// `AllocError` where memory runs out.
+#[tactic(auto, using(crate::proofs::Placing::all_fit_first))]
 pub fn attach_all<P: Part + Sync>(
     alloc: Global,
     parts: Vec<P>,

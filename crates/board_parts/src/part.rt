@@ -77,6 +77,7 @@ pub trait Part: Drop {
     }
 
     /// So many cycles from a first one on, in which the pads have these levels.
+    #[tactic(auto, using(lane_look::proofs::Times::times_none))]
     fn pass(&self, state: &mut [u32], first: u64, pads: u32, n: u64)
         requires state { length state.old ≡ (meaning self.now).words }
         requires placed { are_pins (meaning self.now).pins (attached self.now) ≡ true }

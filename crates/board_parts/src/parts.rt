@@ -64,6 +64,7 @@ impl Part for Box<dyn Part + Sync> {
 }
 
 /// The words of all parts together, which are at most 128.
+#[tactic(auto, using(crate::proofs::Viewing::viewed))]
 fn count_words<P: Part>(list: &[P]) -> usize
     requires { words_of (map (λ p. placed_at (P.attached p) (P.meaning p)) list.now) ≤ 128 }
     ensures { result ≡ words_of (map (λ p. placed_at (P.attached p) (P.meaning p)) list.now) }
@@ -212,6 +213,7 @@ fn drives_all<P: Part>(list: &[P], state: &[u32], cycle: u64, pads: u32) -> Driv
 }
 
 /// For how many cycles each of these parts is quiet.
+#[tactic(auto, using(crate::proofs::Quiet::no_parts_quiet))]
 fn quiet_all<P: Part>(list: &[P], state: &[u32], cycle: u64, pads: u32) -> u64
     requires state { length state.now ≡ words_of (map (λ p. placed_at (P.attached p) (P.meaning p)) list.now) }
     requires placed { all_placed (map (λ p. placed_at (P.attached p) (P.meaning p)) list.now) ≡ true }
@@ -229,6 +231,7 @@ fn quiet_all<P: Part>(list: &[P], state: &[u32], cycle: u64, pads: u32) -> u64
 }
 
 /// So many cycles of parts, each over its own words.
+#[tactic(auto, using(crate::proofs::Quiet::no_parts_after))]
 fn pass_all<P: Part>(list: &[P], state: &mut [u32], first: u64, pads: u32, n: u64)
     requires state { length state.old ≡ words_of (map (λ p. placed_at (P.attached p) (P.meaning p)) list.now) }
     requires placed { all_placed (map (λ p. placed_at (P.attached p) (P.meaning p)) list.now) ≡ true }

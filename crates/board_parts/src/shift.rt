@@ -71,6 +71,7 @@ impl Part for Shift {
     }
 
     /// A second cycle with the same pads changes nothing.
+    #[tactic(auto, using(crate::proofs::Quiet::shift_after, crate::proofs::Quiet::shift_words, lane_look::proofs::Times::times_none))]
     fn pass(&self, state: &mut [u32], first: u64, pads: u32, n: u64) {
         if 0 < n {
             let _ = self.step(state, first, pads);

@@ -1,19 +1,8 @@
-use Rattle.std.proofs.Common.{◌≡◌, List, map, true, sym, ap, subst, ◌∙◌, arith, rules}
-use Rattle.std.proofs.lemmas.Grind.{common_steps}
+use Rattle.std.proofs.Common.{◌≡◌, map, true, sym, ap, subst, ◌∙◌, arith}
 use Rattle.board_parts.specs.Parts.{all_placed, parts_device, words_of}
-use Rattle.board_parts.specs.Wiring.{counts_of, wired_in}
-use Rattle.board_parts.proofs.Placing.{all_attached, all_fit_first, fit_from, placed_placed, placed_words}
+use Rattle.board_parts.specs.Wiring.{wired_in}
+use Rattle.board_parts.proofs.Placing.{all_attached, placed_placed, placed_words}
 use Rattle.board_parts.proofs.attaching.attach_all.Goals as goal
-
-pub loop-part-init : goal.loop-part-init
-loop-part-init g c =
-    let wirings = map wired_in c.args.wirings.now in
-    let all = all_fit_first (counts_of (map g.P.Part.meaning c.args.parts.items)) wirings c.requires.fit in (
-      first_of (search rules, grind (arith, common_steps)),
-      subst (λ (ps : List g.row.P.Denot). fit_from 0 (counts_of (map g.P.Part.meaning ps)) wirings ≡ true) (sym c.into_iter-part-iterator.ensures.into_iter_gives.0) all,
-      first_of (search rules, grind (arith, common_steps)),
-      first_of (search rules, grind (arith, common_steps)),
-    )
 
 pub new-requires-clause-placed : goal.new-requires-clause-placed
 new-requires-clause-placed g c =

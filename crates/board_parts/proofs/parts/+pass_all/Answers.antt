@@ -1,13 +1,8 @@
 use Rattle.std.proofs.Common.{rules}
 use Rattle.board_parts.specs.Parts.{placed_at}
-use Rattle.board_parts.proofs.Quiet.{more_after, no_parts_after}
+use Rattle.board_parts.proofs.Quiet.{more_after}
 use Rattle.board_parts.proofs.Viewing.{viewed}
 use Rattle.board_parts.proofs.parts.+pass_all.Goals as goal
-
-pub returns-in_default : goal.returns-in_default
-returns-in_default g t c =
-    let view = λ (p : g.row.P.Denot). placed_at (g.P.Part.attached p) (g.P.Part.meaning p) in
-    no_parts_after view c.args.list.now c.args.state.now c.args.pads c.args.first c.args.n c.in_default.len_below c.requires.state
 
 pub returns-in-len1-up : goal.returns-in-len1-up
 returns-in-len1-up g t c =

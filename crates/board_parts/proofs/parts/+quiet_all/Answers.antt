@@ -1,13 +1,8 @@
 use Rattle.std.proofs.Common.{arith, rules}
 use Rattle.board_parts.specs.Parts.{placed_at}
-use Rattle.board_parts.proofs.Quiet.{more_quiet, no_parts_quiet}
+use Rattle.board_parts.proofs.Quiet.{more_quiet}
 use Rattle.board_parts.proofs.Viewing.{viewed}
 use Rattle.board_parts.proofs.parts.+quiet_all.Goals as goal
-
-pub returns-in-empty : goal.returns-in-empty
-returns-in-empty g t c =
-    let view = λ (p : g.row.P.Denot). placed_at (g.P.Part.attached p) (g.P.Part.meaning p) in
-    no_parts_quiet view c.args.list.now c.args.state.now c.args.cycle c.args.pads _ c.in-empty.len_below c.requires.state
 
 pub returns-in-len1-up : goal.returns-in-len1-up
 returns-in-len1-up g t c =
