@@ -1,9 +1,8 @@
 -- The peripherals that run alone ask the same in each cycle, and their run never ends early.
-use Rattle.window_merge.proofs.Shared.{Ask, Bool, List, Questions, SeenOutputs, Setting, alone, alone_length, answer_of, ap, around, asking_lane, begun_alone, ends_at, false, is_used, least, peripheral_lane, questions, questions_of, refl, second_question, suc, sym, true, zero, ℕ, ◌++◌, ◌+◌, ◌∙◌, ◌∷◌, ◌≡◌}
-use Rattle.lane_look.specs.declared.lane.Ask.TheVariants as ask
+use Rattle.window_merge.proofs.Shared.{Ask, Bool, List, Questions, SeenOutputs, Setting, alone, alone_length, answer_of, ap, around, asking_lane, begun_alone, ends_at, is_used, least, peripheral_lane, questions, questions_of, refl, suc, sym, zero, ℕ, ◌++◌, ◌+◌, ◌∙◌, ◌≡◌, arith}
 use Rattle.lane_look.specs.Replay.{Entry, asked}
 use Rattle.outer_lane.specs.State.{State as OuterState}
-use Rattle.outer_lane.specs.Step.{next_by, next, pads_by, asks_second, asks, pins_in, no_pins}
+use Rattle.outer_lane.specs.Step.{next_by, next, pads_by, asks_second, asks}
 use Rattle.rp_machine.specs.State.{State}
 use Rattle.window_merge.proofs.Copying.{first_same}
 
@@ -12,17 +11,10 @@ uses_same : (w : Setting) (s : OuterState) (seen : SeenOutputs) → questions_of
 unfolding next next_by pads_by
 uses_same w s seen = refl
 
-second_same : (f : Ask → ℕ) (s : OuterState) (cycle : ℕ) (first : List ℕ) (b : Bool) → is_used 7 s.pads ≡ b
-    → asked f (asks_second s cycle first) ≡ asked f (second_question (record { pio0 = false; pio1 = b }))
-unfolding asks_second
-second_same f s cycle first true e = rw e refl
-second_same f s cycle first false e = rw e refl
-
 both_same : (f : Ask → ℕ) (s : OuterState) (cycle : ℕ) (a b : Bool) → is_used 6 s.pads ≡ a → is_used 7 s.pads ≡ b
     → asked f (asks s cycle) ≡ asked f (questions (record { pio0 = a; pio1 = b }))
-unfolding asks
-both_same f s cycle true b e_a e_b = rw e_a (ap (λ (l : List Entry). (ask.Outs 0, f (ask.Outs 0)) ∷ l) (second_same f s cycle (pins_in (f (ask.Outs 0))) b e_b))
-both_same f s cycle false b e_a e_b = rw e_a (second_same f s cycle no_pins b e_b)
+unfolding asks asks_second
+both_same f s cycle a b h1 h2 = grind arith
 
 asked_same : (f : Ask → ℕ) (s : OuterState) (cycle : ℕ) → asked f (asks s cycle) ≡ asked f (questions (questions_of s))
 asked_same f s cycle = both_same f s cycle (is_used 6 s.pads) (is_used 7 s.pads) refl refl
@@ -59,12 +51,7 @@ pub talk_same : (w : Setting) (lane : ℕ) (before : OuterState) (start : ℕ) (
     → (alone asking_lane (around lane) tt (questions_of before) start s k).talk ≡ (alone (peripheral_lane w) (around lane) tt before start s k).talk
 talk_same w lane before start s k = sym (asks_same w lane before start s k).same_talk
 
-ends_same : (w : Setting) (lane : ℕ) (before : OuterState) (start : ℕ) (s : State) (k : ℕ)
-    → ends_at asking_lane (around lane) tt (questions_of before) start s k ≡ ends_at (peripheral_lane w) (around lane) tt before start s k
-unfolding ends_at
-ends_same w lane before start s k = refl
-
 pub length_asking : (w : Setting) (lane : ℕ) (before : OuterState) (start : ℕ) (s : State) (bound : ℕ)
     → alone_length asking_lane (around lane) tt (questions_of before) start s bound ≡ alone_length (peripheral_lane w) (around lane) tt before start s bound
-unfolding alone_length least
-length_asking w lane before start s bound = first_same _ _ 0 bound (ends_same w lane before start s)
+unfolding alone_length least ends_at
+length_asking w lane before start s bound = search (arith, first_same)

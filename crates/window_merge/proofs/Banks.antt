@@ -1,5 +1,5 @@
 -- A spot in SRAM has the index of a word and is in one of the six banks, and is reached through its port.
-use Rattle.std.proofs.Common.{◌≡◌, ℕ, ◌<◌, ◌≤◌, ◌-◌, ◌&&◌, Bool, true, false, nat_le, if◌then◌else◌, List, [], ◌∷◌, refl, arith}
+use Rattle.std.proofs.Common.{◌≡◌, ℕ, ◌<◌, ◌≤◌, ◌-◌, ◌&&◌, Bool, true, nat_le, if◌then◌else◌, List, [], ◌∷◌, arith}
 use Rattle.window_merge.proofs.Shared.{Range, Spot, and_parts, leb-true, place_by, place_of, ranges}
 use Rattle.rp_base.specs.declared.map.Spot.TheVariants as spot
 
@@ -16,8 +16,7 @@ AreBanked [] = Unit {0}
 AreBanked (r ∷ rs) = IsBanked r × AreBanked rs
 
 either : (c : Bool) (t u : Spot) → (c ≡ true → HasBank t) → HasBank u → HasBank (if c then t else u)
-either true t u p q = p refl
-either false t u p q = q
+either c t u h1 h2 = grind arith
 
 placed : (rs : List Range) (address : ℕ) → AreBanked rs → HasBank (place_by rs address)
 placed [] address h = tt
@@ -31,15 +30,7 @@ infixr 5 ◌&◌
 x & y = (x, y)
 
 all_banked : AreBanked ranges
-all_banked =
-    record { banked = λ a le. (omega (arith, le), omega arith) }
-    & record { banked = λ a le. (omega (arith, le), omega arith) }
-    & record { banked = λ a le. (omega (arith, le), omega arith) }
-    & record { banked = λ a le. (omega (arith, le), omega (arith, le)) }
-    & record { banked = λ a le. tt } & record { banked = λ a le. tt } & record { banked = λ a le. tt }
-    & record { banked = λ a le. tt } & record { banked = λ a le. tt } & record { banked = λ a le. tt }
-    & record { banked = λ a le. tt } & record { banked = λ a le. tt } & record { banked = λ a le. tt }
-    & record { banked = λ a le. tt } & record { banked = λ a le. tt } & record { banked = λ a le. tt } & tt
+all_banked = grind arith
 
 pub has_bank : (address : ℕ) → HasBank (place_of address)
 unfolding place_of

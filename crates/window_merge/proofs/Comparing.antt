@@ -1,5 +1,5 @@
 -- A look that answers by a log, and compares its answers with the machine's.
-use Rattle.window_merge.proofs.Shared.{Ask, Bool, None, Option, Question, Ready, Some, Want, [], and-true, answer_of, ap, asked_of, clash, differs, false, is_port_of, nat_eq, not, refl, share_port, subst, sym, true, ℕ, ◌&&◌, ◌||◌, ◌∙◌, ◌∷◌, ◌≡◌}
+use Rattle.window_merge.proofs.Shared.{Ask, Bool, Question, Ready, Want, [], and-true, answer_of, ap, asked_of, clash, differs, false, nat_eq, not, share_port, subst, ℕ, ◌&&◌, ◌||◌, ◌∙◌, ◌∷◌, ◌≡◌, arith}
 use Rattle.lane_look.specs.Asking.{Asking, Runs}
 use Rattle.lane_look.specs.declared.lane.Want.TheVariants as want
 use Rattle.lane_look.specs.Replay.{first_answer, others, told, left, talk}
@@ -17,11 +17,7 @@ abbrev ByBoth : Comparer → Ask → ℕ → Comparer → Type 0
 ByBoth old ask answer new = (answer ≡ first_answer old.rest) × (new ≡ record old { rest = others old.rest; same = old.same && nat_eq (answer_of old.lane old.machine.now ask) answer })
 
 runs_both : {B : Type 0} (old : Comparer) (tree : Asking B) (result : B) (new : Comparer) → Runs ByBoth old tree result new → Both old tree result new
-runs_both old (Ready begun) result new r = record {
-  begun = r.1;
-  left_over = ap (λ (k : Comparer). k.rest) r.0;
-  is_same = ap (λ (k : Comparer). k.same) r.0 ∙ sym (and-true old.same);
-}
+runs_both old (Ready begun) result new r = search (arith, and-true)
 runs_both old (Question ask next) result new r =
     let f = answer_of old.lane old.machine.now in
     let x = first_answer old.rest in
@@ -43,30 +39,15 @@ both_in old asks s t result new e r = subst (λ (x : State). Both old (asks x) r
 
 -- ---- four wants among twelve
 
-no_port : (a : Option (ℕ × Bool)) → is_port_of a None ≡ false
-no_port None = refl
-no_port (Some access) = refl
-
 pub shares_none : (a : Want) → share_port a want.Nothing ≡ false
 unfolding asked_of
-shares_none want.Nothing = refl
-shares_none (want.Ram request) = no_port (asked_of (want.Ram request))
-shares_none (want.Outward request) = no_port (asked_of (want.Outward request))
-shares_none _ = refl
+shares_none a = grind arith
 
 bools : (a b c d e f : Bool) → ((a || (b || (c || false))) || ((d || (e || false)) || ((f || false) || false))) ≡ a || (b || (c || (d || (e || f))))
-bools true b c d e f = refl
-bools false true c d e f = refl
-bools false false true d e f = refl
-bools false false false true e f = refl
-bools false false false false true f = refl
-bools false false false false false true = refl
-bools false false false false false false = refl
+bools a b c d e f = grind arith
 
 pub clash_four : (c0 c1 r v : Want)
     → clash (c0 ∷ want.Nothing ∷ c1 ∷ want.Nothing ∷ r ∷ v ∷ want.Nothing ∷ want.Nothing ∷ want.Nothing ∷ want.Nothing ∷ want.Nothing ∷ want.Nothing ∷ [])
     ≡ share_port c0 c1 || (share_port c0 r || (share_port c0 v || (share_port c1 r || (share_port c1 v || share_port r v))))
 unfolding asked_of
-clash_four c0 c1 r v =
-    rw (shares_none c0, shares_none c1, shares_none r, shares_none v)
-    (bools (share_port c0 c1) (share_port c0 r) (share_port c0 v) (share_port c1 r) (share_port c1 v) (share_port r v))
+clash_four c0 c1 r v = search (arith, shares_none, bools)

@@ -1,15 +1,12 @@
 -- A lane that runs alone by copies goes the way of one that runs alone in the state that was copied.
-use Rattle.window_merge.proofs.Shared.{Ask, Asking, Bool, Copies, IsRunAlone, List, Mark, None, Option, Question, RanIn, Ready, Report, Request, Setting, Some, Want, [], answer_of, answered, answered_same, ap, around, asks_sram, block_lines, copied, copied_answer, copied_store, copies_of, false, if◌then◌else◌, inputs_of, is_some, is_used, lines_of, outs_of, pacing_of, packed_pair, peripheral_lane, pio_lane, place_of, refl, stored, stored_at, stored_by, stored_in, suc, true, zero, ℕ, ◌+◌, ◌==◌, ◌∙◌, ◌∷◌, ◌≡◌}
+use Rattle.window_merge.proofs.Shared.{Ask, Asking, Bool, Copies, IsRunAlone, List, Mark, None, Question, RanIn, Ready, Report, Setting, Some, Want, [], answer_of, answered, answered_same, ap, around, asks_sram, block_lines, copied, copied_answer, copied_store, copies_of, if◌then◌else◌, inputs_of, is_some, lines_of, outs_of, pacing_of, peripheral_lane, pio_lane, refl, stored, stored_by, suc, true, zero, ℕ, ◌+◌, ◌==◌, ◌∙◌, ◌∷◌, ◌≡◌, arith}
 use Rattle.lane_look.specs.declared.lane.Ask.TheVariants as ask
-use Rattle.lane_look.specs.declared.lane.Want.TheVariants as want
 use Rattle.lane_look.specs.Replay.{Meaning, Entry, asked, after_begun, marks_with}
-use Rattle.lane_look.specs.Alone.{Surroundings, Alone, all_stored, begun_alone, alone_cycle, alone, ends_wants, ends_now, ends_at, first_from, least, alone_length}
+use Rattle.lane_look.specs.Alone.{Surroundings, Alone, all_stored, begun_alone, alone, ends_at, first_from, least, alone_length}
 use Rattle.rp_machine.specs.State.{State}
 use Rattle.outer_lane.specs.State.{State as OuterState}
 use Rattle.outer_lane.specs.Step as outer
-use Rattle.pio_block.specs.State.{State as Pio, is_busy}
 use Rattle.pio_block.specs.Cycle as pio_cycle
-use Rattle.pio_block.specs.Words as pio
 
 -- ---- two functions that answer the same
 
@@ -50,42 +47,13 @@ pub record SameLane {E F S B : Type 0} (m : Meaning E S B) (env : E) (n : Meanin
 
 begun_same : {E F S B V W : Type 0} (m : Meaning E S B) (env : E) (n : Meaning F S B) (env' : F) (a : Surroundings V) (b : Surroundings W) (h : W → V)
     → SameLane m env n env' → Copied a b h n env' → (cycle : ℕ) (s : S) (w : W) → begun_alone m a env cycle s (h w) ≡ begun_alone n b env' cycle s w
-begun_same m env n env' a b h same alike cycle s w =
-    ap (answered (a.answer (h w))) (same.asks s cycle)
-    ∙ (alike.answers w s cycle).begun
-
-cycle_same : {E F S B V W : Type 0} (m : Meaning E S B) (env : E) (n : Meaning F S B) (env' : F) (a : Surroundings V) (b : Surroundings W) (h : W → V)
-    → SameLane m env n env' → Copied a b h n env' → (cycle : ℕ) (r : Alone S W) → alone_cycle m a env cycle (as_copied h r) ≡ as_copied h (alone_cycle n b env' cycle r)
-cycle_same {E} {F} {S} {B} {V} {W} m env n env' a b h same alike cycle r =
-    let here = begun_same m env n env' a b h same alike cycle r.state r.around in
-    let begun = begun_alone n b env' cycle r.state r.around in
-    let tree = n.asks env' r.state cycle in
-    let talk : asked (a.answer (h r.around)) (m.asks env r.state cycle) ≡ asked (b.answer r.around) tree =
-    ap (asked (a.answer (h r.around))) (same.asks r.state cycle) ∙ (alike.answers r.around r.state cycle).talk in
-    let state : after_begun m env r.state (begun_alone m a env cycle r.state (h r.around)) ≡ after_begun n env' r.state begun =
-    ap (after_begun m env r.state) here ∙ same.next r.state begun in
-    let around_after : all_stored a (h r.around) (m.wanted (begun_alone m a env cycle r.state (h r.around))) ≡ h (all_stored b r.around (n.wanted begun)) =
-    ap (λ (x : B). all_stored a (h r.around) (m.wanted x)) here ∙ ap (all_stored a (h r.around)) (same.wanted begun) ∙ all_copied a b h alike.stores r.around (n.wanted begun) in
-    let marks : marks_with m env r.state (begun_alone m a env cycle r.state (h r.around)) r.marks ≡ marks_with n env' r.state begun r.marks =
-    ap (λ (x : B). marks_with m env r.state x r.marks) here ∙ same.marked r.state begun r.marks in
-    rw (state, around_after, talk, marks) refl
+begun_same m env n env' a b h same alike cycle s w = grind arith
 
 pub alone_same : {E F S B V W : Type 0} (m : Meaning E S B) (env : E) (n : Meaning F S B) (env' : F) (a : Surroundings V) (b : Surroundings W) (h : W → V)
     → SameLane m env n env' → Copied a b h n env' → (before : S) (start : ℕ) (w : W) (k : ℕ) → alone m a env before start (h w) k ≡ as_copied h (alone n b env' before start w k)
 unfolding alone
 alone_same m env n env' a b h same alike before start w zero = refl
-alone_same m env n env' a b h same alike before start w (suc k) =
-    ap (alone_cycle m a env (start + k)) (alone_same m env n env' a b h same alike before start w k)
-    ∙ cycle_same m env n env' a b h same alike (start + k) (alone n b env' before start w k)
-
-ends_same : {E F S B V W : Type 0} (m : Meaning E S B) (env : E) (n : Meaning F S B) (env' : F) (a : Surroundings V) (b : Surroundings W) (h : W → V)
-    → SameLane m env n env' → Copied a b h n env' → (before : S) (start : ℕ) (w : W) (k : ℕ) → ends_at m a env before start (h w) k ≡ ends_at n b env' before start w k
-unfolding ends_at
-ends_same {E} {F} {S} {B} {V} {W} m env n env' a b h same alike before start w k =
-    let r = alone n b env' before start w k in
-    ap (λ (x : Alone S V). ends_now m a env (start + k) x.state x.around) (alone_same m env n env' a b h same alike before start w k)
-    ∙ ap (λ (x : B). ends_wants (m.wanted x)) (begun_same m env n env' a b h same alike (start + k) r.state r.around)
-    ∙ ap ends_wants (same.wanted (begun_alone n b env' (start + k) r.state r.around))
+alone_same m env n env' a b h same alike before start w (suc k) = search (arith, begun_same, all_copied, (alone_same m env n env' a b h same alike before start w k))
 
 pub first_same : (t u : ℕ → Bool) (from count : ℕ) → ((k : ℕ) → t k ≡ u k) → first_from t from count ≡ first_from u from count
 first_same t u from zero h = refl
@@ -93,70 +61,34 @@ first_same t u from (suc count) h = rw (h from, first_same t u (suc from) count 
 
 pub length_same : {E F S B V W : Type 0} (m : Meaning E S B) (env : E) (n : Meaning F S B) (env' : F) (a : Surroundings V) (b : Surroundings W) (h : W → V)
     → SameLane m env n env' → Copied a b h n env' → (before : S) (start : ℕ) (w : W) (bound : ℕ) → alone_length m a env before start (h w) bound ≡ alone_length n b env' before start w bound
-unfolding alone_length least
-length_same m env n env' a b h same alike before start w bound =
-    first_same (ends_at m a env before start (h w)) (ends_at n b env' before start w) 0 bound (λ k. ends_same m env n env' a b h same alike before start w k)
+unfolding alone_length least ends_at
+length_same m env n env' a b h same alike before start w bound = search (arith, first_same, alone_same, begun_same)
 
 -- ---- the copies of a state
 
-pick : (c : Bool) (s : State) → (if c then packed_pair (pio.outs_of s.pio0.block) else packed_pair (pio.outs_of s.pio1.block)) ≡ packed_pair (pio.outs_of (if c then s.pio0.block else s.pio1.block))
-pick true s = refl
-pick false s = refl
-
 pub outs_same : (block : ℕ) (s : State) → (if block == 0 then outs_of 0 s else outs_of 1 s) ≡ outs_of block s
 unfolding outs_of
-outs_same block s = pick (block == 0) s
-
-answers_copied : (lane : ℕ) (s : State) → asks_sram lane ≡ true → (ask : Ask) → copied_answer (copies_of lane s) ask ≡ answer_of lane s ask
-answers_copied lane s e ask.Lines = refl
-answers_copied lane s e (ask.Half address) = rw e refl
-answers_copied lane s e (ask.Word address) = rw e refl
-answers_copied lane s e ask.Pacing = refl
-answers_copied lane s e ask.Inputs = refl
-answers_copied lane s e (ask.Outs block) = outs_same block s
-
-stored_if : (c : Bool) (ram : List ℕ) (request : Request)
-    → stored_in request (if c then Some ram else None) ≡ (if c then Some (stored (stored_at request request.write (place_of request.address)) ram) else None)
-stored_if true ram request = refl
-stored_if false ram request = refl
+outs_same block s = grind arith
 
 stores_copied : (lane : ℕ) (s : State) (v : Want) → copied_store (copies_of lane s) v ≡ copies_of lane (stored_by v s)
 unfolding lines_of block_lines pacing_of inputs_of outs_of
-stores_copied lane s want.Nothing = refl
-stores_copied lane s (want.Ram request) = ap (λ (ram : Option (List ℕ)). record (copies_of lane s) { ram = ram }) (stored_if (asks_sram lane) s.sram request)
-stores_copied lane s _ = refl
+stores_copied lane s v = grind arith
 
 -- a lane that asks for words of SRAM has a copy of it
 pub with_sram : {S B : Type 0} (m : Meaning (Unit {0}) S B) (lane : ℕ) → asks_sram lane ≡ true → Copied copied (around lane) (copies_of lane) m tt
-with_sram m lane e = record {
-  answers = λ s x cycle. same_by (copied_answer (copies_of lane s)) (answer_of lane s) (answers_copied lane s e) (m.asks tt x cycle);
-  stores = stores_copied lane;
-}
+with_sram m lane e = search (arith, same_by, stores_copied, outs_same)
 
 -- a PIO block asks for inputs alone
 inputs_same : (lane : ℕ) (s : State) (c : Bool) → SameBy (copied_answer (copies_of lane s)) (answer_of lane s) (if c then Question ask.Inputs (λ x. Ready (Some (pio_cycle.inputs_of x))) else Ready None)
-inputs_same lane s true = record { begun = refl; talk = refl }
-inputs_same lane s false = record { begun = refl; talk = refl }
-
-pio_same : (lane : ℕ) (s : State) (block : Pio) → SameBy (copied_answer (copies_of lane s)) (answer_of lane s) (pio_cycle.asks block)
-unfolding pio_cycle.asks
-pio_same lane s block = inputs_same lane s (is_busy block)
+inputs_same lane s c = grind arith
 
 pub pio_copied : (lane : ℕ) → Copied copied (around lane) (copies_of lane) pio_lane tt
-pio_copied lane = record { answers = λ s block cycle. pio_same lane s block; stores = stores_copied lane }
-
--- the peripherals ask for the outputs of the PIO blocks alone
-outs_asked : (lane : ℕ) (s : State) (c d : Bool) (o : OuterState) (cycle : ℕ) → is_used 7 o.pads ≡ d
-    → SameBy (copied_answer (copies_of lane s)) (answer_of lane s) (if c then Question (ask.Outs 0) (λ answer. outer.asks_second o cycle (outer.pins_in answer)) else outer.asks_second o cycle outer.no_pins)
-unfolding outer.asks_second
-outs_asked lane s true true o cycle e = rw e (record { begun = refl; talk = refl })
-outs_asked lane s true false o cycle e = rw e (record { begun = refl; talk = refl })
-outs_asked lane s false true o cycle e = rw e (record { begun = refl; talk = refl })
-outs_asked lane s false false o cycle e = rw e (record { begun = refl; talk = refl })
+unfolding pio_cycle.asks
+pio_copied lane = search (arith, stores_copied, inputs_same)
 
 outer_same : (lane : ℕ) (s : State) (o : OuterState) (cycle : ℕ) → SameBy (copied_answer (copies_of lane s)) (answer_of lane s) (outer.asks o cycle)
-unfolding outer.asks
-outer_same lane s o cycle = outs_asked lane s (is_used 6 o.pads) (is_used 7 o.pads) o cycle refl
+unfolding outer.asks outer.asks_second
+outer_same lane s o cycle = grind arith
 
 pub outer_copied : (w : Setting) (lane : ℕ) → Copied copied (around lane) (copies_of lane) (peripheral_lane w) tt
 outer_copied w lane = record { answers = λ s o cycle. outer_same lane s o cycle; stores = stores_copied lane }
@@ -176,14 +108,8 @@ as_run_alone {S} m lane before room s start copies bound bound' report alike e_s
 
 -- ---- a copy of SRAM stays where there is one
 
-copy_kept : (request : Request) (ram : Option (List ℕ)) → is_some (stored_in request ram) ≡ is_some ram
-copy_kept request None = refl
-copy_kept request (Some ram) = refl
-
 store_kept : (c : Copies) (v : Want) → is_some (copied_store c v).ram ≡ is_some c.ram
-store_kept c want.Nothing = refl
-store_kept c (want.Ram request) = copy_kept request c.ram
-store_kept c _ = refl
+store_kept c v = grind arith
 
 wants_kept : (c : Copies) (wants : List Want) → is_some (all_stored copied c wants).ram ≡ is_some c.ram
 wants_kept c [] = refl

@@ -1,8 +1,7 @@
 -- Cycles of a window as long as core 0 alone is at work in SRAM beside lanes that are quiet: the start answers each lane as the machine does.
-use Rattle.std.proofs.Common.{◌≡◌, ℕ, zero, suc, ◌+◌, ◌%◌, ◌^◌, ◌<◌, ◌≤◌, ◌==◌, ◌||◌, ◌&&◌, nat_eq, not, add-one, Bool, true, false, if◌then◌else◌, List, [], ◌∷◌, ◌++◌, length, length-append, Option, Some, None, refl, sym, ap, subst, ◌∙◌, below_more, arith}
-use Rattle.window_merge.proofs.Shared.{Act, AreBlocksQuiet, Ask, Asking, Begun, Blocks, DmaRead, GoesAsAlone, HasRoom, IsCore0Alone, IsCore1Quiet, KeepsInward, Mark, MayGoAlone, Notes, Question, Ready, Request, SeenOutputs, Setting, Spot, Start, Want, Wanted, alone_by, and_parts, answer_of, answered, begun, begun_same, beside, beside_after, blocks_after, clash, core0_goes_on_alone, core1_after, differs, ends_want, eqb-true, fewer, inputs_of, is_clean, is_first_alone, lines_of, lines_on, lines_stay, list_any, mark, marks_in, no_notes, not-not, noted_by, noted_core0, noted_in, noted_inward, or-true, outs_on, pacing_on, packed_pair, place_of, same_marks, seen_later, seen_number, seen_of, slice_index, states, stayed, stays_after, tell_on, told_both, wanted, wants_of}
+use Rattle.std.proofs.Common.{◌≡◌, ℕ, zero, suc, ◌+◌, ◌%◌, ◌^◌, ◌<◌, ◌≤◌, ◌==◌, ◌||◌, nat_eq, not, add-one, Bool, true, false, if◌then◌else◌, List, [], ◌∷◌, ◌++◌, length, length-append, Option, None, refl, sym, ap, subst, ◌∙◌, below_more, arith}
+use Rattle.window_merge.proofs.Shared.{Act, AreBlocksQuiet, Ask, Asking, Begun, Blocks, GoesAsAlone, HasRoom, IsCore0Alone, IsCore1Quiet, KeepsInward, Mark, MayGoAlone, Notes, Question, Ready, Request, SeenOutputs, Setting, Spot, Start, Want, Wanted, alone_by, and_parts, answer_of, answered, begun, begun_same, beside, beside_after, blocks_after, clash, core0_goes_on_alone, core1_after, differs, ends_want, fewer, inputs_of, is_clean, is_first_alone, lines_of, lines_on, lines_stay, list_any, mark, marks_in, no_notes, not-not, noted_by, noted_core0, noted_in, noted_inward, or-true, outs_on, pacing_on, packed_pair, same_marks, seen_later, seen_number, seen_of, slice_index, states, stayed, stays_after, tell_on, told_both, wanted, wants_of}
 use Rattle.std.proofs.lemmas.List.{append-nil, append_assoc}
-use Rattle.rp_base.specs.declared.map.Spot.TheVariants as spot
 use Rattle.lane_look.specs.declared.lane.Ask.TheVariants as ask
 use Rattle.lane_look.specs.declared.lane.Want.TheVariants as want
 use Rattle.lane_look.specs.Replay.{asked}
@@ -13,8 +12,7 @@ use Rattle.m0_core.specs.Cycle as core
 use Rattle.dma_engine.specs.State.{State as Engine}
 use Rattle.dma_engine.specs.declared.begun.Access.{Access}
 use Rattle.dma_engine.specs.Asks as dma_asks
-use Rattle.dma_engine.specs.declared.begun.Access.TheVariants as access
-use Rattle.dma_engine.specs.Asks.{may_be_device, outside, asks_at, asks_for, asks_read, next_request, write_begun, waits_for_counts}
+use Rattle.dma_engine.specs.Asks.{asks_at, asks_for, asks_read, next_request, write_begun, waits_for_counts}
 use Rattle.dma_engine.specs.Cycle as dma
 use Rattle.pio_block.specs.State.{State as Pio, is_busy}
 use Rattle.pio_block.specs.Cycle as pio
@@ -24,7 +22,6 @@ use Rattle.outer_lane.specs.State.{State as OuterState}
 use Rattle.outer_lane.specs.Step as outer
 use Rattle.outer_lane.specs.Quiet.{IsQuiet, seen_in, outer_after}
 use Rattle.rp_machine.specs.State.{State}
-use Rattle.rp_machine.specs.Wantless.{is_nothing}
 use Rattle.rp_machine.specs.Inward.{TellsSame, GoesAlone, StaysInward, core0_want, inward_after, onward_after}
 use Rattle.rp_machine.proofs.Going.{fewer_cycles, core_fewer}
 use Rattle.rp_machine.proofs.OneCore.{first_want, wanted_alone}
@@ -56,15 +53,13 @@ all_asked f g (Ready begun) h = tt
 all_asked {B} f g (Question question next) h = (h question, λ x. all_asked f g (next x) h)
 
 either_way : {B : Type 0} (f g : Ask → ℕ) (c : Bool) (one other : Asking B) → AsksAlike f g one → AsksAlike f g other → AsksAlike f g (if c then one else other)
-either_way {B} f g true one other h k = h
-either_way {B} f g false one other h k = k
+either_way f g c one other h1 h2 = grind arith
 
 -- ---- lanes that do not ask for SRAM
 
 ready_asks : (f g : Ask → ℕ) (lines cycle : ℕ) (tree : Asking Act) → IsReady tree → AsksAlike f g (core_asks.carried lines cycle tree)
 unfolding core_asks.carried
-ready_asks f g lines cycle (Ready begun) ready = tt
-ready_asks f g lines cycle (Question question next) ready = absurd ready
+ready_asks f g lines cycle tree h1 = grind arith
 
 -- a core that asks for its interrupt lines alone
 lines_asks : (f g : Ask → ℕ) (s : Core) (cycle : ℕ) → f ask.Lines ≡ g ask.Lines → (s.asleep ≡ false → IsReady (core_asks.asks_awake s)) → AsksAlike f g (core_asks.asks s cycle)
@@ -93,24 +88,14 @@ outer_asks f g s cycle e0 e1 =
 
 -- an engine that wants no read asks for no word
 wants_a_read : (answer : Ask → ℕ) (counts : ℕ) (write : Access) (request : Request) (at : Spot) → dma.want_of (answered answer (asks_at counts write request at)).read ≡ want.Nothing → ⊥
-wants_a_read answer counts write request (spot.Ram index bank) e = absurd (cc e)
-wants_a_read answer counts write request (spot.Reg block offset alias) e = absurd (cc e)
-wants_a_read answer counts write request (spot.Sio offset) e = absurd (cc e)
-wants_a_read answer counts write request (spot.Ppb offset) e = absurd (cc e)
-wants_a_read answer counts write request spot.Outside e = by_device (may_be_device request.address) e
-  where
-    by_device : (c : Bool) → dma.want_of (if c then access.Outward request else outside DmaRead request) ≡ want.Nothing → ⊥
-    by_device true e = absurd (cc e)
-    by_device false e = absurd (cc e)
+wants_a_read answer counts write request at h1 = grind arith
 
 no_request : (answer : Ask → ℕ) (counts : ℕ) (write : Access) (next : Option Request) → dma.want_of (answered answer (asks_for counts write next)).read ≡ want.Nothing → next ≡ None
-no_request answer counts write None e = refl
-no_request answer counts write (Some request) e = absurd (wants_a_read answer counts write request (place_of request.address) e)
+no_request answer counts write next h1 = search (arith, wants_a_read)
 
 requests_by : (answer : Ask → ℕ) (c : Bool) (s : Engine) → dma.want_of (answered answer (if c then Question ask.Pacing (λ counts. asks_read counts s) else asks_read 0 s)).read ≡ want.Nothing → next_request s ≡ None
 unfolding asks_read
-requests_by answer true s e = no_request answer (answer ask.Pacing) (write_begun s) (next_request s) e
-requests_by answer false s e = no_request answer 0 (write_begun s) (next_request s) e
+requests_by answer c s h1 = search (arith, no_request)
 
 requests_none : (answer : Ask → ℕ) (s : Engine) → dma.want_of (answered answer (dma_asks.asks s)).read ≡ want.Nothing → next_request s ≡ None
 unfolding dma_asks.asks
@@ -136,11 +121,7 @@ AreAlike w start notes s =
 
 differs_none : (w : Setting) (start : Start) (notes : Notes) (s : State) → AreAlike w start notes s
     → differs_from start notes s ≡ false
-differs_none w start notes s h =
-    let e : Each w (λ S B l. differs (answer_of l.number s) (asked (guess l.number start (seen_of l.number notes s.sram))
-    (tree l s)) ≡ false) =
-    on_each h (every (λ S B l h. never_differs _ _ (tree l s) h)) in
-    rw (e.core0, e.core1, e.dma, e.pio0, e.pio1, e.outer) refl
+differs_none w start notes s h = search (arith, tree, on_each, every, never_differs)
 
 pub begun_alike : (w : Setting) (start : Start) (notes : Notes) (s : State) → AreAlike w start notes s
     → begun_from start notes s ≡ begun s
@@ -204,21 +185,10 @@ wants_with v v1 read write =
 -- no other master wants anything
 pub apart_alone : (b : Begun) → is_first_alone (wanted b) ≡ true → clash (wants_of b) ≡ false
 unfolding wanted
-apart_alone b e =
-    let v = core.want_of b.core0 in
-    let read = dma.want_of b.dma.read in
-    let write = dma.want_of b.dma.write in
-    let core1 = and_parts (is_nothing (core.want_of b.core1)) _ e in
-    let reads = and_parts (is_nothing read) _ core1.1 in
-    let writes = and_parts (is_nothing write) true reads.1 in
-    ap (λ (x : Want). clash (wants_with v x read write)) (nothing _ core1.0)
-    ∙ ap (λ (x : Want). clash (wants_with v want.Nothing x write)) (nothing read reads.0)
-    ∙ ap (λ (x : Want). clash (wants_with v want.Nothing want.Nothing x)) (nothing write writes.0)
-    ∙ clash_none v
+apart_alone b e = search (arith, and_parts, nothing, clash_none)
 
 pub goes_first_alone : (b : Begun) (xs : List Wanted) (ends alone : Bool) → xs ≡ wanted b → ends ≡ ends_wanted xs → ends ≡ false → alone ≡ is_first_alone (wanted b) → alone ≡ true → alone ≡ goes_by b
-goes_first_alone b xs ends alone e e_ends none e_alone first =
-    first ∙ sym (ap (λ (c : Bool). not (c || clash (wants_of b))) (ap ends_wanted (sym e) ∙ sym e_ends ∙ none) ∙ ap not (apart_alone b (sym e_alone ∙ first)))
+goes_first_alone b xs ends alone e e_ends none e_alone first = search (arith, apart_alone)
 
 goes_by_alone : (s : State) (p : Blocks) (c : Core) → IsCore0Alone s p c → ends_want (core.want_of (begun s).core0) ≡ false → goes_by (begun s) ≡ true
 goes_by_alone s p c h keeps =
@@ -265,16 +235,6 @@ record StandsOnward (w : Setting) (s : State) (k : ℕ) : Type 0 where
 pub starts_by : (a b : Start) → a.lines0 ≡ b.lines0 → a.lines1 ≡ b.lines1 → a.pacing ≡ b.pacing → a.inputs ≡ b.inputs → a.pio0 ≡ b.pio0 → a.pio1 ≡ b.pio1 → a ≡ b
 starts_by a b e0 e1 e2 e3 e4 e5 = rw (← e0, ← e1, ← e2, ← e3, ← e4, ← e5) refl
 
-pub same_start : (a b : Start)
-    → ((a.lines0 == b.lines0) && ((a.lines1 == b.lines1) && ((a.pacing == b.pacing) && ((a.inputs == b.inputs) && ((a.pio0 == b.pio0) && (a.pio1 == b.pio1)))))) ≡ true → a ≡ b
-same_start a b e =
-    let p0 = and_parts (a.lines0 == b.lines0) _ e in
-    let p1 = and_parts (a.lines1 == b.lines1) _ p0.1 in
-    let p2 = and_parts (a.pacing == b.pacing) _ p1.1 in
-    let p3 = and_parts (a.inputs == b.inputs) _ p2.1 in
-    let p4 = and_parts (a.pio0 == b.pio0) (a.pio1 == b.pio1) p3.1 in
-    starts_by a b (eqb-true _ _ p0.0) (eqb-true _ _ p1.0) (eqb-true _ _ p2.0) (eqb-true _ _ p3.0) (eqb-true _ _ p4.0) (eqb-true _ _ p4.1)
-
 stands_onward : (w : Setting) (m : Notes) (s : State) (n k : ℕ) → IsOnward w m s n → k < n → StandsOnward w s k
 unfolding mark inputs_of
 stands_onward w m s n k h lt =
@@ -320,9 +280,7 @@ own_notes m s zero = (refl, refl)
 own_notes m s (suc k) = own_notes m s k
 
 sees_onward : (m : Notes) (s : State) (k : ℕ) → is_clean 0 m ≡ true → is_clean 0 (noted_inward m k s) ≡ true
-sees_onward m s k sees =
-    let own = own_notes m s k in
-    rw (own.0, own.1) sees
+sees_onward m s k sees = search (arith, own_notes)
 
 alike_onward : (w : Setting) (m : Notes) (s : State) (n k : ℕ) → IsOnward w m s n → k < n → AreAlike w (start_of s)
     (noted_inward m k s) (onward_after w s k)
@@ -366,15 +324,12 @@ goes_as_alone w m s n h k lt =
 pub same_mark : (w : Setting) (s : State) (m : Mark) (n k : ℕ) → ((j : ℕ) → j < n → mark w (states w s j) ≡ m) → k ≤ n → marks_in w s k ≡ same_marks k m
 unfolding marks_in same_marks
 same_mark w s m n zero h le = refl
-same_mark w s m n (suc k) h le =
-    ap (λ (x : Mark). marks_in w s k ++ x ∷ []) (h k (omega arith)) ∙ ap (λ (ms : List Mark). ms ++ m ∷ []) (same_mark w s m n k h (omega arith))
+same_mark w s m n (suc k) h le = search (arith, (same_mark w s m n k h (omega arith)))
 
 -- with the levels of the pads, which stay
 pub marked_same : (w : Setting) (s t : State) (n pads : ℕ) (marks marks' : List Mark) → ((k : ℕ) → k < n → mark w (states w s k) ≡ mark_with s.outer.pads.current)
     → t.outer.pads.current ≡ s.outer.pads.current → pads ≡ t.outer.pads.current → marks' ≡ marks ++ same_marks n (mark_with pads) → marks' ≡ marks ++ marks_in w s n
-marked_same w s t n pads marks marks' each stay e_pads e =
-    e ∙ ap (λ p. marks ++ same_marks n (mark_with p)) (e_pads ∙ stay)
-    ∙ ap (λ (ms : List Mark). marks ++ ms) (sym (same_mark w s (mark_with s.outer.pads.current) n n each (omega arith)))
+marked_same w s t n pads marks marks' each stay e_pads e = search (arith, same_mark)
 
 pub marked_onward : (w : Setting) (m : Notes) (s t : State) (n pads : ℕ) (marks marks' : List Mark) → IsOnward w m s n → t ≡ states w s n → pads ≡ t.outer.pads.current
     → marks' ≡ marks ++ same_marks n (mark_with pads) → marks' ≡ marks ++ marks_in w s n
@@ -383,10 +338,6 @@ marked_onward w m s t n pads marks marks' h e_state e_pads e =
     (ap (λ (x : State). x.outer.pads.current) (e_state ∙ at_onward w m s n n h (omega arith)) ∙ ap (λ (b : Bank). b.current) (h.quiet.pads n (omega arith))) e_pads e
 
 -- ---- what is noted of core 0 on the way
-
--- a cycle in which it wants nothing
-pub nothing_noted : (x : Want) (sram : List ℕ) (notes : Notes) → x ≡ want.Nothing → notes ≡ noted_core0 x sram notes
-nothing_noted x sram notes e = sym (ap (λ (v : Want). noted_core0 v sram notes) e)
 
 pub keeps_none : (s : State) → KeepsInward s 0
 keeps_none s k lt = absurd (omega arith)
@@ -406,8 +357,7 @@ unfolding noted_inward
 noted_none m s = refl
 
 pub room_fewer : (notes : Notes) (room more : ℕ) → HasRoom notes room → more ≤ room → HasRoom notes more
-room_fewer notes room more h le =
-    record { originals = omega (arith, le, h.originals); core0 = omega (arith, le, h.core0); core1 = omega (arith, le, h.core1); dma = omega (arith, le, h.dma) }
+room_fewer notes room more h le = grind arith
 
 pub room_noted : (x : Want) (sram : List ℕ) (notes notes' : Notes) (room more : ℕ) → HasRoom notes room → more + 3 ≤ room → notes' ≡ noted_core0 x sram notes → HasRoom notes' more
 room_noted x sram notes notes' room more h le e = subst (λ (n : Notes). HasRoom n more) (sym e) (room_on x want.Nothing want.Nothing sram notes room more h le)
@@ -425,11 +375,7 @@ same_none mark marks = record { same = sym (append-nil marks); count = omega ari
 
 pub same_more : (mark : Mark) (k : ℕ) (first marks marks' : List Mark) → AreSame mark k first marks → marks' ≡ marks ++ mark ∷ [] → AreSame mark (k + 1) first marks'
 unfolding same_marks
-same_more mark k first marks marks' h e = record {
-  same = e ∙ ap (λ (ms : List Mark). ms ++ mark ∷ []) h.same ∙ append_assoc first (same_marks k mark) (mark ∷ [])
-      ∙ ap (λ (j : ℕ). first ++ same_marks j mark) (sym (add-one k));
-  count = let more = ap length e ∙ length-append marks (mark ∷ []) in let count = h.count in omega (arith, more, count);
-}
+same_more mark k first marks marks' h e = search (arith, append_assoc, add-one, length-append)
 
 -- ---- what the calls leave
 

@@ -1,6 +1,6 @@
 -- One lane of a window: where it stands after k cycles, and what its run alone makes of the next one; what holds of each of six.
-use Rattle.std.proofs.Common.{◌≡◌, ◌≢◌, ℕ, zero, suc, ◌+◌, ◌<◌, ◌≤◌, Bool, true, false, if◌then◌else◌, inl, inr, List, ◌++◌, refl, ap, sym, ◌∙◌, arith}
-use Rattle.window_merge.proofs.Shared.{Alone, Ask, Asking, Begun, IsRunAlone, Report, Setting, alone, alone_length, answer_of, answered, around, core1_bound, core_lane, differs, dma_lane, ends_at, ends_wants, eqb_tells, first_from, least, longest, peripheral_lane, pio_lane, wanted_in}
+use Rattle.std.proofs.Common.{◌≡◌, ◌≢◌, ℕ, zero, suc, ◌+◌, ◌<◌, ◌≤◌, Bool, false, if◌then◌else◌, List, ◌++◌, refl, ap, sym, ◌∙◌, arith}
+use Rattle.window_merge.proofs.Shared.{Alone, Ask, Asking, Begun, IsRunAlone, Report, Setting, alone, alone_length, answered, around, core1_bound, core_lane, differs, dma_lane, ends_at, ends_wants, eqb_tells, first_from, least, longest, peripheral_lane, pio_lane, wanted_in}
 use Rattle.lane_look.specs.Replay.{Meaning, Entry, told, left, talk, after_begun}
 use Rattle.rp_machine.specs.State.{State}
 use Rattle.window_merge.specs.declared.runs.Rests.{Rests}
@@ -12,11 +12,7 @@ use Rattle.window_merge.proofs.Told.{Told, told_at}
 first_below_by : (test : ℕ → Bool) (from count k : ℕ) (b : Bool) → test from ≡ b → from ≤ k
     → ((low : suc from ≤ k) → k < first_from test (suc from) count → test k ≡ false)
     → k < (if b then from else first_from test (suc from) count) → test k ≡ false
-first_below_by test from count k true e low rest lt = absurd (omega arith)
-first_below_by test from count k false e low rest lt = elim (eqb_tells k from) [
-  | inl h ↦ ap test h.1 ∙ e
-  | inr h ↦ let ne : k ≢ from = h.1 in rest (omega arith) lt
-]
+first_below_by test from count k b h1 h2 h3 h4 = search (arith, eqb_tells)
 
 first_below : (test : ℕ → Bool) (from count k : ℕ) → from ≤ k → k < first_from test from count → test k ≡ false
 first_below test from zero k low lt = absurd (omega arith)
@@ -73,8 +69,7 @@ whole_talk m number before s bound =
 pub log_alone : {S B : Type 0} {m : Meaning (Unit {0}) S B} {number : ℕ} {before : S} {s : State} {bound : ℕ} {report : Report S}
     → IsRunAlone m number before s bound report
     → report.log ≡ whole_talk m number before s bound
-log_alone {S} {B} {m} {number} {before} {s} h =
-    h.same_log ∙ ap (λ n. (alone m (around number) tt before s.cycle s n).talk) h.same_length
+log_alone {S} {B} {m} {number} {before} {s} h = cc
 
 -- what the log tells the lane in the next cycle
 abbrev pub LaneTold : {S B : Type 0} → Lane S B → Setting → State → ℕ → State → Rests → Type 0
@@ -93,9 +88,7 @@ pub lane_next : {S B : Type 0} (l : Lane S B) (w : Setting) (s : State) (k : ℕ
     → LaneStands l w s k now rests → k ≢ cycles_of l w s → LaneTold l w s k now rests
     → l.of now' ≡ after_begun l.m tt (l.of now) (told (l.log rests) (tree l now)) → l.log rests' ≡ left (l.log rests) (tree l now)
     → LaneStands l w s (k + 1) now' rests'
-lane_next l w s k now rests now' rests' h on t e_state e_rest =
-    let within = h.within in
-    record { is_alone = e_state ∙ t.state_after; is_log = rw e_rest t.left_over; within = omega arith }
+lane_next l w s k now rests now' rests' h on t e_state e_rest = grind arith
 
 -- its run goes on, so it wants nothing, or an access to SRAM
 pub ends_is : {S B : Type 0} (l : Lane S B) (s : State) (k : ℕ)
@@ -116,9 +109,7 @@ lane_goes_on l w s k now rests h on t =
 pub lane_agrees : {S B : Type 0} (l : Lane S B) (w : Setting) (s : State) (k : ℕ) (now : State) (rests : Rests) (f : Ask → ℕ)
     → LaneTold l w s k now rests → differs f (talk (l.log rests) (tree l now)) ≡ false
     → told (l.log rests) (tree l now) ≡ answered f (tree l now)
-lane_agrees l w s k now rests f t e =
-    let g = answer_of l.number (run l s k).around in
-    t.begun ∙ sym (agree f g (tree l now) (ap (differs f) (t.asked_here ∙ sym t.talk_here) ∙ e))
+lane_agrees l w s k now rests f t e = search (arith, agree)
 
 -- a run of no cycle
 pub no_cycles : {S B : Type 0} (m : Meaning (Unit {0}) S B) (lane : ℕ) (before : S) (s : State)
@@ -142,11 +133,4 @@ every f = record { core0 = f _ _ _; core1 = f _ _ _; dma = f _ _ _; pio0 = f _ _
 
 -- what follows of each from what holds of it
 pub on_each : {w : Setting} {P Q : (S B : Type 0) → Lane S B → Type 0} → Each w P → Each w (λ S B l. P S B l → Q S B l) → Each w Q
-on_each h f = record {
-  core0 = f.core0 h.core0;
-  core1 = f.core1 h.core1;
-  dma = f.dma h.dma;
-  pio0 = f.pio0 h.pio0;
-  pio1 = f.pio1 h.pio1;
-  outer = f.outer h.outer;
-}
+on_each h f = grind arith

@@ -1,10 +1,10 @@
 -- A window in one pass: in each cycle the lanes begin what their runs alone begin, and the pass ends where the window closes.
 use Rattle.std.proofs.Common.{◌≡◌, ◌≢◌, ℕ, zero, suc, ◌+◌, ◌-◌, ◌*◌, ◌<◌, ◌≤◌, ◌||◌, ◌&&◌, ◌⊎◌, Bool, true, false, not, if◌then◌else◌, inl, inr, List, [], ◌∷◌, ◌++◌, length, refl, ap, sym, ◌∙◌, subst, add-one, arith}
-use Rattle.window_merge.proofs.Shared.{Ask, Asking, Begun, BegunTransfer, Deed, GoesAsAlone, GoneOver, IsWindow, KnowsSio, Mark, Notes, Setting, Start, Want, and_parts, answer_of, answered, answered_same, around, begun_by, cases_Bool, clash, core1_bound, core_lane, differs_by, dma_lane, ends_in, eqb_tells, fits, has_hold, is_launching, left_by, longest, marks_in, noted_in, or_cases, or_left, or_parts, patched, peripheral_lane, pio_lane, runs_follow, runs_of, slice_index, sram_after, states, wants_of, window_length}
+use Rattle.window_merge.proofs.Shared.{Ask, Begun, BegunTransfer, Deed, GoesAsAlone, GoneOver, IsWindow, KnowsSio, Mark, Notes, Setting, Start, Want, and_parts, answer_of, answered, around, begun_by, clash, core1_bound, core_lane, differs_by, dma_lane, ends_in, eqb_tells, fits, has_hold, is_launching, left_by, longest, marks_in, noted_in, or_cases, or_left, or_parts, patched, peripheral_lane, pio_lane, runs_follow, runs_of, slice_index, sram_after, states, wants_of, window_length}
 use Rattle.std.proofs.lemmas.List.{append-nil, append_assoc}
 use Rattle.lane_look.specs.declared.lane.Want.TheVariants as want
-use Rattle.lane_look.specs.Replay.{Meaning, asked, told, talk}
-use Rattle.lane_look.specs.Alone.{all_stored, alone, alone_length, ends_want, ends_wants, ends_at, wanted_in, least}
+use Rattle.lane_look.specs.Replay.{Meaning}
+use Rattle.lane_look.specs.Alone.{all_stored, alone, alone_length, ends_wants, ends_at, wanted_in, least}
 use Rattle.m0_core.specs.Cycle as core
 use Rattle.dma_engine.specs.Cycle as dma
 use Rattle.outer_lane.specs.Step as outer
@@ -12,10 +12,10 @@ use Rattle.rp_machine.specs.declared.deed.Deed.TheVariants as deed
 use Rattle.rp_machine.specs.State.{State}
 use Rattle.rp_machine.specs.Cycle.{wanted, stored, next_by, mark}
 use Rattle.window_merge.specs.declared.runs.Rests.{Rests}
-use Rattle.window_merge.specs.Notes.{is_none, seen_of, seen_word, is_clean, write_of, original_word, own_word, with_word, no_notes, noted, noted_by, HasRoom}
+use Rattle.window_merge.specs.Notes.{is_none, seen_of, seen_word, write_of, original_word, with_word, no_notes, noted, noted_by, HasRoom}
 use Rattle.window_merge.specs.Start.{start_of, guess, begun_from, differs_from, ends_wanted, goes_by, goes_on}
 use Rattle.window_merge.proofs.Separate.{IsSeparate, separate_sram}
-use Rattle.window_merge.proofs.Copying.{asked_same}
+use Rattle.window_merge.proofs.Copying.{SameBy, same_by}
 use Rattle.window_merge.proofs.Meeting.{least_meets}
 use Rattle.window_merge.proofs.Lanes.{whole_talk, Lane, run, cycles_of, tree, LaneStands, below_least, ends_is, no_cycles, Each}
 use Rattle.window_merge.proofs.Lanes.{every, on_each}
@@ -35,10 +35,7 @@ lane_wants : {S B : Type 0} (l : Lane S B) (w : Setting) (s : State) (k : ℕ) (
     → LaneStands l w s k now rests → now.cycle ≡ s.cycle + k → LaneBegins l s k now b
     → l.m.wanted (l.did b) ≡ wanted_in l.m (around l.number) tt (l.of s) s.cycle s k
 unfolding wanted_in
-lane_wants {S} l w s k now rests b t at h =
-    let f = answer_of l.number (run l s k).around in
-    ap l.m.wanted (h ∙ ap (λ (x : S). answered f (l.m.asks tt x now.cycle)) t.is_alone
-    ∙ ap (λ c. answered f (l.m.asks tt (run l s k).state c)) at)
+lane_wants {S} l w s k now rests b t at h = search (arith, run)
 
 lane_test : {S B : Type 0} (l : Lane S B) (w : Setting) (s : State) (k : ℕ) (now : State) (rests : Rests) (b : Begun)
     → LaneStands l w s k now rests → now.cycle ≡ s.cycle + k → LaneBegins l s k now b
@@ -66,11 +63,7 @@ lane_on : {S B : Type 0} (l : Lane S B) (w : Setting) (s : State) (k : ℕ) (now
     → LaneStands l w s k now rests → now.cycle ≡ s.cycle + k → LaneBegins l s k now b → k < l.bound s (longest w s)
     → ends_wants (l.m.wanted (l.did b)) ≡ false → k ≢ cycles_of l w s
 unfolding alone_length
-lane_on l w s k now rests b t at h lt goes same =
-    let test = ends_at l.m (around l.number) tt (l.of s) s.cycle s in
-    let unmet : test k ≡ false = lane_test l w s k now rests b t at h ∙ goes in
-    let here : test k ≡ true = ap test same ∙ (least_meets test (l.bound s (longest w s))).met (omega (arith, same, lt)) in
-    absurd (cc (here, unmet))
+lane_on l w s k now rests b t at h lt goes same = search (arith, lane_test, least_meets)
 
 -- ---- six lanes
 
@@ -82,24 +75,13 @@ Begins w s k now b = Each w (λ S B l. LaneBegins l s k now b)
 wants_end : (b : Begun) → ends_wanted (wanted b) ≡ true
     → (ends_wants (core.wanted b.core0) ≡ true) ⊎ ((ends_wants (core.wanted b.core1) ≡ true) ⊎ (ends_wants (dma.wanted b.dma) ≡ true))
 unfolding wanted
-wants_end b e = elim (or_cases (ends_want (core.want_of b.core0)) _ e) [
-  | inl h ↦ inl (or_left _ _ h)
-  | inr h ↦ elim (or_cases (ends_want (core.want_of b.core1)) _ h) [
-    | inl h1 ↦ inr (inl (or_left _ _ h1))
-    | inr h1 ↦ inr (inr h1)
-  ]
-]
+wants_end b e = search (arith, or_cases, or_left)
 
 -- or none of them has one
 none_ends : (w : Setting) (b : Begun) → ends_wanted (wanted b) ≡ false
     → Each w (λ S B l. ends_wants (l.m.wanted (l.did b)) ≡ false)
 unfolding wanted
-none_ends w b e =
-    let a0 = or_parts (ends_want (core.want_of b.core0)) _ e in
-    let a1 = or_parts (ends_want (core.want_of b.core1)) _ a0.1 in
-    let a2 = or_parts (ends_want (dma.want_of b.dma.read)) _ a1.1 in
-    let a3 = or_parts (ends_want (dma.want_of b.dma.write)) _ a2.1 in
-    record { core0 = rw a0.0 refl; core1 = rw a1.0 refl; dma = rw (a2.0, a3.0) refl; pio0 = refl; pio1 = refl; outer = refl }
+none_ends w b e = search (arith, or_parts)
 
 run_ends : (w : Setting) (s : State) (k : ℕ) (now : State) (rests : Rests) (marks : List Mark) (b : Begun)
     → Stands w s k now rests marks → Begins w s k now b → ends_wanted (wanted b) ≡ true
@@ -132,10 +114,7 @@ runs_go_on w s k now rests marks b t h unlaunched lt e =
 -- the logs of the whole runs would tell the lanes the same
 told_same : (w : Setting) (s : State) (k : ℕ) (now : State) (rests : Rests) (b : Begun) → AreTold w s k now rests
     → Begins w s k now b → begun_by rests now ≡ b
-told_same w s k now rests b t h =
-    let e : Each w (λ S B l. told (l.log rests) (tree l now) ≡ l.did b) = on_each h
-    (on_each t (every (λ S B l t h. t.begun ∙ sym h))) in
-    rw (e.core0, e.core1, e.dma, e.pio0, e.pio1, e.outer) refl
+told_same w s k now rests b t h = search (arith, tree, on_each, every)
 
 -- ---- whether the cycle is kept
 
@@ -148,40 +127,19 @@ record Tried (w : Setting) (s : State) (k : ℕ) (now : State) (rests : Rests) (
 tried : (w : Setting) (s : State) (k : ℕ) (now : State) (rests : Rests) (marks : List Mark) (b : Begun) (d : Bool)
     → Stands w s k now rests marks → Begins w s k now b → (AreTold w s k now rests → differs_by rests now ≡ d)
     → is_launching s.core1 ≡ false → k < longest w s → ends_wanted (wanted b) ≡ false → Tried w s k now rests marks b d
-tried w s k now rests marks b d t h differ unlaunched lt e =
-    let on = runs_go_on w s k now rests marks b t h unlaunched lt e in
-    let goes : Tries w s k now rests marks = record { stands = t; on = on; below = lt } in
-    let told_here = all_told w s k now rests marks goes in
-    let same = told_same w s k now rests b told_here h in
-    record {
-      goes = goes;
-      same = same;
-      fitting = ap (λ (x : Bool). not (x || clash (wants_of (begun_by rests now)))) (differ told_here)
-          ∙ ap (λ (x : Begun). not (d || clash (wants_of x))) same;
-    }
+tried w s k now rests marks b d t h differ unlaunched lt e = search (arith, runs_go_on, all_told, told_same)
 
 kept_by : (d ends c : Bool) → ends ≡ false → not (d || not (not (ends || c))) ≡ not (d || c)
-kept_by d true c e = absurd (cc e)
-kept_by true false c e = refl
-kept_by false false true e = refl
-kept_by false false false e = refl
+kept_by d ends c h1 = grind arith
 
 never_by : (d ends c : Bool) → not (d || not (not (ends || c))) ≡ true → ends ≡ false
-never_by true ends c e = absurd (cc e)
-never_by false true c e = absurd (cc e)
-never_by false false c e = refl
+never_by d ends c h1 = grind arith
 
 -- where it is not, the window closes there
 closed : (w : Setting) (s : State) (k : ℕ) (now : State) (rests : Rests) (marks : List Mark) (b : Begun) (d : Bool)
     → Stands w s k now rests marks → Begins w s k now b → (AreTold w s k now rests → differs_by rests now ≡ d)
     → is_launching s.core1 ≡ false → k < longest w s → not (d || not (goes_by b)) ≡ false → k ≡ window_length w s
-closed w s k now rests marks b d t h differ unlaunched lt e = elim (cases_Bool (ends_wanted (wanted b))) [
-  | inl ends ↦ ends_run w s k now rests marks t lt (run_ends w s k now rests marks b t h ends)
-  | inr none ↦
-      let r = tried w s k now rests marks b d t h differ unlaunched lt none in
-      ends_tried w s k now rests marks r.goes
-      (r.fitting ∙ sym (kept_by d (ends_wanted (wanted b)) (clash (wants_of b)) none) ∙ e)
-]
+closed w s k now rests marks b d t h differ unlaunched lt e = search (arith, ends_run, run_ends, tried, ends_tried, kept_by)
 
 -- where it is, the machine goes on
 record GoneOn (w : Setting) (s : State) (k : ℕ) (now : State) (b : Begun) (now' : State) (marks' : List Mark) : Type 0 where
@@ -228,19 +186,7 @@ pub record Follows (s : State) (k : ℕ) (now : State) (start : Start) (notes : 
 
 pub follows_first : (s : State) → length s.sram ≡ 67584 → Follows s 0 s (start_of s) no_notes
 unfolding patched alone
-follows_first s long = record {
-  is_start = refl;
-  long = long;
-  restores = λ i. refl;
-  core0 = refl;
-  core1 = refl;
-  dma = refl;
-  clean0 = λ e1 e2. refl;
-  clean1 = λ e0 e2. refl;
-  clean2 = λ e0 e1. refl;
-  clean = λ e0 e1 e2. refl;
-  room = λ le. record { originals = omega arith; core0 = omega arith; core1 = omega arith; dma = omega arith };
-}
+follows_first s long = grind arith
 
 -- ---- what a lane sees
 
@@ -249,19 +195,13 @@ abbrev Sees : (ℕ → ℕ) → List ℕ → Type 0
 Sees seen sees = (i : ℕ) → i < 67584 → seen i ≡ slice_index sees i
 
 sees0 : (s : State) (k : ℕ) (now : State) (start : Start) (notes : Notes) → Follows s k now start notes → Sees (seen_of 0 notes now.sram) (sram_alone core_lane 0 s.core0 s k)
-sees0 s k now start notes f i lt = sight (is_clean 0 notes) notes.core0 notes.originals now.sram s.sram (sram_alone core_lane 0 s.core0 s k) i
-    (λ c. let p = and_parts (is_none notes.core1) (is_none notes.dma) c in f.clean0 (no_word notes.core1 p.0)
-    (no_word notes.dma p.1)) f.restores f.core0 f.long lt
+sees0 s k now start notes f i lt = search (arith, sight, and_parts, no_word)
 
 sees1 : (s : State) (k : ℕ) (now : State) (start : Start) (notes : Notes) → Follows s k now start notes → Sees (seen_of 1 notes now.sram) (sram_alone core_lane 1 s.core1 s k)
-sees1 s k now start notes f i lt = sight (is_clean 1 notes) notes.core1 notes.originals now.sram s.sram (sram_alone core_lane 1 s.core1 s k) i
-    (λ c. let p = and_parts (is_none notes.core0) (is_none notes.dma) c in f.clean1 (no_word notes.core0 p.0)
-    (no_word notes.dma p.1)) f.restores f.core1 f.long lt
+sees1 s k now start notes f i lt = search (arith, sight, and_parts, no_word)
 
 sees2 : (s : State) (k : ℕ) (now : State) (start : Start) (notes : Notes) → Follows s k now start notes → Sees (seen_of 2 notes now.sram) (sram_alone dma_lane 2 s.dma.block s k)
-sees2 s k now start notes f i lt = sight (is_clean 2 notes) notes.dma notes.originals now.sram s.sram (sram_alone dma_lane 2 s.dma.block s k) i
-    (λ c. let p = and_parts (is_none notes.core0) _ c in f.clean2 (no_word notes.core0 p.0)
-    (no_word notes.core1 (and_parts _ true p.1).0)) f.restores f.dma f.long lt
+sees2 s k now start notes f i lt = search (arith, sight, and_parts, no_word)
 
 -- a lane that wants nothing leaves what is around it
 still_around : {S B : Type 0} (m : Meaning (Unit {0}) S B) (lane : ℕ) (before : S) (s : State) (k : ℕ)
@@ -287,20 +227,12 @@ sees_start m lane before s k now start notes f stores_none i lt =
 answers_alone : {S B : Type 0} (l : Lane S B) (s : State) (k : ℕ) (start : Start) (seen : ℕ → ℕ) → start ≡ start_of s
     → Sees seen (run l s k).around.sram → (question : Ask)
     → guess l.number start seen question ≡ answer_of l.number (run l s k).around question
-answers_alone l s k start seen e sees question =
-    ap (λ (x : Start). guess l.number x seen question) e
-    ∙ guess_is l.number s seen (run l s k).around.sram question sees
-    ∙ ap (λ (t : State). answer_of l.number t question) (sym (around_over l.m l.number (l.of s) s k))
-
--- both functions let a tree begin the same, and ask the same
-record Alike {B : Type 0} (f g : Ask → ℕ) (tree : Asking B) : Type 0 where
-  begun : answered f tree ≡ answered g tree
-  talk : asked f tree ≡ asked g tree
+answers_alone l s k start seen e sees question = search (arith, guess_is, run, around_over)
 
 -- each lane begins and asks the same
 abbrev AnswerAlone : Setting → State → ℕ → State → Start → Notes → Type 0
 AnswerAlone w s k now start notes =
-    Each w (λ S B l. Alike (guess l.number start (seen_of l.number notes now.sram)) (answer_of l.number (run l s k).around)
+    Each w (λ S B l. SameBy (guess l.number start (seen_of l.number notes now.sram)) (answer_of l.number (run l s k).around)
     (tree l now))
 
 all_alone : (w : Setting) (s : State) (k : ℕ) (now : State) (start : Start) (notes : Notes) → Follows s k now start notes
@@ -315,28 +247,16 @@ all_alone w s k now start notes f =
       outer = sees_start (peripheral_lane w) 5 s.outer s k now start notes f (λ t did. refl);
     } in
     on_each sees (every (λ S B l sees.
-    let same = answers_alone l s k start (seen_of l.number notes now.sram) f.is_start sees in
-    record { begun = answered_same _ _ same (tree l now); talk = asked_same _ _ (tree l now) same }))
+    same_by _ _ (answers_alone l s k start (seen_of l.number notes now.sram) f.is_start sees) (tree l now)))
 
 begins_later : (w : Setting) (s : State) (k : ℕ) (now : State) (start : Start) (notes : Notes) → AnswerAlone w s k now start notes
     → Begins w s k now (begun_from start notes now)
-begins_later w s k now start notes a = record {
-  core0 = a.core0.begun;
-  core1 = a.core1.begun;
-  dma = a.dma.begun;
-  pio0 = a.pio0.begun;
-  pio1 = a.pio1.begun;
-  outer = a.outer.begun;
-}
+begins_later w s k now start notes a = grind arith
 
 -- the logs of the whole runs would tell the same answers
 differs_later : (w : Setting) (s : State) (k : ℕ) (now : State) (rests : Rests) (start : Start) (notes : Notes)
     → AnswerAlone w s k now start notes → AreTold w s k now rests → differs_by rests now ≡ differs_from start notes now
-differs_later w s k now rests start notes a t =
-    let e : Each w (λ S B l. talk (l.log rests) (tree l now) ≡ asked (guess l.number start (seen_of l.number notes now.sram))
-    (tree l now)) =
-    on_each a (on_each t (every (λ S B l t a. t.talk_here ∙ sym t.asked_here ∙ sym a.talk))) in
-    rw (e.core0, e.core1, e.dma, e.pio0, e.pio1, e.outer) refl
+differs_later w s k now rests start notes a t = search (arith, tree, on_each, every)
 
 -- ---- the next cycle
 
@@ -363,8 +283,7 @@ read_rests v sram e = sym (after_want v sram) ∙ ap (λ (d : Deed). stored d sr
 
 dma_stores : (lane : ℕ) (read v : Want) (t : State) → write_of read ≡ deed.Nothing
     → (all_stored (around lane) t (read ∷ v ∷ [])).sram ≡ stored (write_of v) t.sram
-dma_stores lane read v t reads =
-    stored_sram v _ ∙ ap (sram_after v) (stored_sram read t ∙ read_rests read t.sram reads) ∙ sym (after_want v t.sram)
+dma_stores lane read v t reads = search (arith, stored_sram, read_rests, after_want)
 
 -- the DMA engine's read writes nothing
 dma_reads : (w : Setting) (s : State) (k : ℕ) (now : State) (b : Begun) → Begins w s k now b
@@ -373,19 +292,7 @@ dma_reads w s k now b h = ap (λ (x : BegunTransfer). write_of (dma.want_of x.re
 
 -- a cycle notes at most three words
 pub room_on : (v0 v1 v : Want) (sram : List ℕ) (notes : Notes) (room more : ℕ) → HasRoom notes room → more + 3 ≤ room → HasRoom (noted v0 v1 v sram notes) more
-room_on v0 v1 v sram notes room more h le =
-    let o0 = with_word-length (original_word sram (write_of v0)) notes.originals in
-    let o1 = with_word-length (original_word sram (write_of v1)) (with_word (original_word sram (write_of v0)) notes.originals) in
-    let o2 = with_word-length (original_word sram (write_of v)) (with_word (original_word sram (write_of v1)) (with_word (original_word sram (write_of v0)) notes.originals)) in
-    let c0 = with_word-length (own_word (seen_of 0 notes sram) (write_of v0)) notes.core0 in
-    let c1 = with_word-length (own_word (seen_of 1 notes sram) (write_of v1)) notes.core1 in
-    let c2 = with_word-length (own_word (seen_of 2 notes sram) (write_of v)) notes.dma in
-    record {
-      originals = omega (arith, le, h.originals, o0, o1, o2);
-      core0 = omega (arith, le, h.core0, c0);
-      core1 = omega (arith, le, h.core1, c1);
-      dma = omega (arith, le, h.dma, c2);
-    }
+room_on v0 v1 v sram notes room more h le = search (arith, with_word-length)
 
 -- what the machine's SRAM is then
 sram_next : (w : Setting) (s : State) (k : ℕ) (now : State) (b : Begun) (now' : State) → Begins w s k now b → IsSeparate b now → now' ≡ next_by w b (wanted b) now
@@ -481,8 +388,7 @@ pub record First (s : State) : Type 0 where
   pub long : length s.sram ≡ 67584
 
 stands_none : (w : Setting) (s : State) → First s → Stands w s 0 s (whole_talks w s) []
-stands_none w s h = stands_first w s (whole_talks w s) [] h.free h.knows
-    (record { core0 = refl; core1 = refl; dma = refl; pio0 = refl; pio1 = refl; outer = refl }) refl
+stands_none w s h = search (arith, stands_first)
 
 pub passes_none : (w : Setting) (s : State) → First s → is_launching s.core1 ≡ false → Passes w s 0 s (start_of s) no_notes []
 passes_none w s h launching = record {
@@ -528,9 +434,7 @@ passes_later w s k now start notes marks now' notes' marks' p lt goes e_now e_ma
 
 passes_at : (w : Setting) (s : State) (k k' : ℕ) (now now' : State) (start : Start) (notes : Notes) (marks marks' : List Mark) → Passes w s k now start notes marks → k ≡ k' → now ≡ now' → marks ≡ marks'
     → Passes w s k' now' start notes marks'
-passes_at w s k k' now now' start notes marks marks' p e_k e_now e_marks =
-    subst (λ (j : ℕ). Passes w s j now' start notes marks') e_k
-    (subst (λ (x : State). Passes w s k x start notes marks') e_now (subst (λ (ms : List Mark). Passes w s k now start notes ms) e_marks p))
+passes_at w s k k' now now' start notes marks marks' p e_k e_now e_marks = grind arith
 
 states_follow : (w : Setting) (s now : State) (k n : ℕ) → now ≡ states w s k → states w s (k + n) ≡ states w now n
 states_follow w s now k n e = (runs_follow w s k n).state ∙ ap (λ (x : State). states w x n) (sym e)
@@ -571,8 +475,7 @@ pub along : {w : Setting} {s : State} {k : ℕ} {now : State} {start : Start} {n
     {notes' : Notes} {marks' : List Mark} → Passes w s k now start notes marks
     → GoneOver w start now notes marks n now' notes' marks' → k + n ≤ longest w s
     → Passes w s (k + n) now' start notes' marks'
-along {w} {s} {k} {now} {start} {notes} {marks} {n} p h within =
-    rw (h.state, h.noted, h.marked) (passes_along w s k now start notes marks n n p within h.goes (omega arith))
+along {w} {s} {k} {now} {start} {notes} {marks} {n} p h within = search (arith, passes_along)
 
 -- of which there were none
 pub along_none : {w : Setting} {s : State} {k most : ℕ} {now : State} {start : Start} {notes : Notes} {marks : List Mark} {n : ℕ}
@@ -594,9 +497,7 @@ along_first {w} {s} {n} {now} {notes} {marks} first gone launching le =
 
 pub closed_later : (w : Setting) (s : State) (k : ℕ) (now : State) (start : Start) (notes : Notes) (marks : List Mark)
     → Passes w s k now start notes marks → k < longest w s → goes_on start notes now ≡ false → k ≡ window_length w s
-closed_later w s k now start notes marks p lt e =
-    let a = all_alone w s k now start notes p.follows in
-    closed w s k now p.rests marks (begun_from start notes now) (differs_from start notes now) p.stands (begins_later w s k now start notes a) (differs_later w s k now p.rests start notes a) p.launching lt e
+closed_later w s k now start notes marks p lt e = search (arith, all_alone, closed, begins_later, differs_later)
 
 pub closed_full : {w : Setting} {s : State} {k : ℕ} {now : State} {start : Start} {notes : Notes} {marks : List Mark}
     → Passes w s k now start notes marks → k ≡ longest w s → IsWindow w s k now marks
@@ -604,18 +505,10 @@ closed_full {w} {s} {k} {now} {start} {notes} {marks} p e = is_window p.stands (
 
 -- there is room for the notes of so many more cycles
 pub has_room : (s : State) (k : ℕ) (now : State) (start : Start) (notes : Notes) (n more : ℕ) → Follows s k now start notes → k + n ≤ 256 → more ≤ 3 * n → HasRoom notes more
-has_room s k now start notes n more f le few =
-    let h = f.room (omega (arith, le)) in
-    record {
-      originals = omega (arith, h.originals, le, few);
-      core0 = omega (arith, h.core0, le, few);
-      core1 = omega (arith, h.core1, le, few);
-      dma = omega (arith, h.dma, le, few);
-    }
+has_room s k now start notes n more f le few = grind arith
 
 -- no cycle
 pub gone_none : (w : Setting) (start : Start) (s : State) (notes : Notes) (marks : List Mark)
     → GoneOver w start s notes marks 0 s notes marks
 unfolding states noted_in marks_in
-gone_none w start s notes marks =
-    record { state = refl; goes = λ k lt. absurd (omega arith); noted = refl; marked = sym (append-nil marks) }
+gone_none w start s notes marks = search (arith, append-nil)

@@ -1,5 +1,5 @@
 -- What a word of SRAM is where words were written into it.
-use Rattle.std.proofs.Common.{◌≡◌, ℕ, suc, ◌-◌, ◌<◌, ◌==◌, if◌then◌else◌, inl, inr, List, [], ◌∷◌, ◌++◌, length, refl, ap, sym}
+use Rattle.std.proofs.Common.{◌≡◌, ℕ, suc, ◌-◌, ◌<◌, ◌==◌, if◌then◌else◌, List, [], ◌∷◌, ◌++◌, length, refl, ap, sym}
 use Rattle.window_merge.proofs.Shared.{arith, eqb_tells, get_or-set_other, get_or-set_same, last_of, length-set, patched, subst, take-suc, with_lanes, ◌∙◌}
 use Rattle.std.specs.Prelude.{◌≤◌, ◌≢◌, slice_index, slice_index_or, slice_set, take}
 use Rattle.ram_banks.specs.Sram.{written}
@@ -11,10 +11,7 @@ patched-append (w ∷ words) word sram = patched-append words word (slice_set sr
 
 -- what stands at an index once a word was put
 set_at : (sram : List ℕ) (at word i : ℕ) → i < length sram → slice_index (slice_set sram at word) i ≡ (if at == i then word else slice_index sram i)
-set_at sram at word i lt = elim (eqb_tells at i) [
-  | inl h ↦ rw h.0 (ap (λ n. slice_index (slice_set sram n word) i) h.1 ∙ get_or-set_same sram i word 0 lt)
-  | inr h ↦ rw h.0 (get_or-set_other sram at i word 0 (λ e. h.1 (sym e)))
-]
+set_at sram at word i lt = search (arith, eqb_tells, get_or-set_same, get_or-set_other)
 
 -- the last note is looked at first
 pub last_end : (ns : List (ℕ × ℕ)) (n : ℕ × ℕ) (index word : ℕ) → last_of (ns ++ n ∷ []) index word ≡ (if n.0 == index then n.1 else last_of ns index word)
@@ -32,21 +29,11 @@ back words left index word some le =
 
 pub found_back : (words : List (ℕ × ℕ)) (left index word : ℕ) → 0 < left → left ≤ length words → last_of (take left words) index word ≡ last_of words index word
     → (slice_index_or words (left - 1) (0, 0)).0 ≡ index → (slice_index_or words (left - 1) (0, 0)).1 ≡ last_of words index word
-found_back words left index word some le h is =
-    let n = slice_index_or words (left - 1) (0, 0) in
-    elim (eqb_tells n.0 index) [
-      | inl e ↦ sym (sym h ∙ back words left index word some le ∙ ap (λ b. if b then n.1 else last_of (take (left - 1) words) index word) e.0)
-      | inr ne ↦ absurd (ne.1 is)
-    ]
+found_back words left index word some le h is = search (arith, eqb_tells, back)
 
 pub passed_back : (words : List (ℕ × ℕ)) (left index word : ℕ) → 0 < left → left ≤ length words → last_of (take left words) index word ≡ last_of words index word
     → (slice_index_or words (left - 1) (0, 0)).0 ≢ index → last_of (take (left - 1) words) index word ≡ last_of words index word
-passed_back words left index word some le h other =
-    let n = slice_index_or words (left - 1) (0, 0) in
-    elim (eqb_tells n.0 index) [
-      | inl e ↦ absurd (other e.1)
-      | inr ne ↦ sym (sym h ∙ back words left index word some le ∙ ap (λ b. if b then n.1 else last_of (take (left - 1) words) index word) ne.0)
-    ]
+passed_back words left index word some le h other = search (arith, eqb_tells, back)
 
 pub patched_last : (own : List (ℕ × ℕ)) (sram : List ℕ) (i : ℕ) → i < length sram → slice_index (patched own sram) i ≡ last_of own i (slice_index sram i)
 unfolding patched
@@ -58,12 +45,9 @@ patched_last (n ∷ ns) sram i lt =
 -- the last word of an index is the one that is read
 pub read_last : (words shown : List (ℕ × ℕ)) (sram : List ℕ) (index word result : ℕ) → length sram ≡ 67584 → index < 67584 → shown ≡ words → word ≡ slice_index sram index
     → result ≡ last_of shown index word → result ≡ slice_index (patched words sram) index
-read_last words shown sram index word result long lt e_words e_word e =
-    e ∙ ap (λ (ws : List (ℕ × ℕ)). last_of ws index word) e_words ∙ ap (last_of words index) e_word ∙ sym (patched_last words sram index (omega (arith, long, lt)))
+read_last words shown sram index word result long lt e_words e_word e = search (arith, patched_last)
 
 -- what a write leaves
 pub write_more : (words new : List (ℕ × ℕ)) (sram : List ℕ) (index lanes value before word : ℕ) → before ≡ slice_index (patched words sram) index
     → word ≡ with_lanes lanes value before → new ≡ words ++ (index, word) ∷ [] → patched new sram ≡ written (patched words sram) index lanes value
-write_more words new sram index lanes value before word e_before e_word e_new =
-    ap (λ ws. patched ws sram) e_new ∙ patched-append words (index, word) sram
-    ∙ ap (λ x. slice_set (patched words sram) index x) (e_word ∙ ap (with_lanes lanes value) e_before)
+write_more words new sram index lanes value before word e_before e_word e_new = search (arith, patched-append)

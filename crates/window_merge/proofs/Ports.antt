@@ -1,5 +1,5 @@
 -- Where no two accesses to SRAM name one port, and no access lasts, each of them is done.
-use Rattle.std.proofs.Common.{◌≡◌, ◌≢◌, ℕ, ◌<◌, Bool, true, false, nat_eq, List, [], ◌∷◌, Option, Some, None, refl, ap, sym, ◌∙◌}
+use Rattle.std.proofs.Common.{◌≡◌, ◌≢◌, ℕ, ◌<◌, Bool, true, false, nat_eq, List, [], ◌∷◌, Option, Some, None, refl, ap, ◌∙◌}
 use Rattle.window_merge.proofs.Shared.{Core0, Core1, DmaRead, DmaWrite, Master, arith, eqb-false, is_port_of, is_some, ne_eqb}
 use Rattle.bus_fabric.specs.declared.Hold.{Hold}
 use Rattle.bus_fabric.specs.Masters.{Access, access_of, is_on, asks_on}
@@ -23,10 +23,7 @@ pub record Apart (a0 a1 a2 a3 : Option Access) : Type 0 where
   pub apart23 : is_port_of a2 a3 ≡ false
 
 turned : (a b : Option Access) → is_port_of a b ≡ false → is_port_of b a ≡ false
-turned None None e = refl
-turned None (Some b) e = refl
-turned (Some a) None e = refl
-turned (Some a) (Some b) e = ne_eqb a.0 b.0 (λ same. eqb-false b.0 a.0 e (sym same))
+turned a b h1 = search (arith, ne_eqb, eqb-false)
 
 -- a bank of SRAM is not APB
 not_apb : (port : ℕ) → port < 6 → nat_eq port apb ≡ false
@@ -75,8 +72,7 @@ free_done a0 a1 a2 a3 s h b0 b1 b2 b3 =
 -- ---- and none lasts
 
 off_apb : (a : Option Access) → InBank a → is_on apb a ≡ false
-off_apb None bank = refl
-off_apb (Some access) bank = not_apb access.0 bank
+off_apb a h1 = search (arith, not_apb)
 
 no_winner : (asked : List (Option Access)) (high : Master → Bool) (last : Master) → ((m : Master) → asks_on asked apb m ≡ false) → winner_of high last (asks_on asked apb) ≡ None
 no_winner asked high last h = rw (h Core0) (rw (h Core1) (rw (h DmaRead) (rw (h DmaWrite) refl)))
@@ -90,9 +86,4 @@ holds_none asked s free h = hold_none asked s s.hold refl free h
 
 pub free_after : (a0 a1 a2 a3 : Option Access) (s : Crossbar) → has_hold s ≡ false → InBank a0 → InBank a1 → InBank a2 → InBank a3 →
     has_hold (after_grant (four a0 a1 a2 a3) s) ≡ false
-free_after a0 a1 a2 a3 s free b0 b1 b2 b3 = holds_none (four a0 a1 a2 a3) s free elim [
-  | Core0 ↦ off_apb a0 b0
-  | Core1 ↦ off_apb a1 b1
-  | DmaRead ↦ off_apb a2 b2
-  | DmaWrite ↦ off_apb a3 b3
-]
+free_after a0 a1 a2 a3 s free b0 b1 b2 b3 = search (arith, holds_none, off_apb)

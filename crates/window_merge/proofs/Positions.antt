@@ -1,6 +1,6 @@
 -- The positions of a run: each step goes along the states of the run, and there are enough of them.
-use Rattle.std.proofs.Common.{◌≡◌, ℕ, zero, suc, ◌+◌, ◌-◌, ◌*◌, ◌<◌, ◌≤◌, ◌&&◌, Bool, true, false, not, nat_eq, if◌then◌else◌, inl, inr, Option, Some, None, refl, sym, ◌∙◌, arith}
-use Rattle.window_merge.proofs.Shared.{Position, Setting, Why, by_cycle, by_window, eqb_tells, first_position, has_hold, is_tried, last_position, last_state, next_position, positions, states, unless_stopped, window_length}
+use Rattle.std.proofs.Common.{◌≡◌, ℕ, zero, suc, ◌+◌, ◌-◌, ◌*◌, ◌<◌, ◌≤◌, ◌&&◌, Bool, true, false, not, nat_eq, if◌then◌else◌, Option, Some, None, refl, sym, arith}
+use Rattle.window_merge.proofs.Shared.{Position, Setting, Why, by_cycle, by_window, eqb_tells, first_position, is_tried, last_position, last_state, next_position, positions, states, unless_stopped, window_length}
 use Rattle.rp_machine.specs.State.{State}
 use Rattle.rp_machine.specs.Cycle.{stop, next}
 use Rattle.rp_machine.proofs.Runs.{states_on, last_here, last_on, below_limit, next_cycle}
@@ -17,22 +17,12 @@ along_here : (w : Setting) (s : State) → s.cycle ≤ w.limit → Along w s s
 along_here w s le = record { within = le; later = omega arith; last = refl }
 
 along_next : (w : Setting) (s : State) → stop w s ≡ None → s.cycle ≤ w.limit → Along w s (next w s)
-along_next w s runs le =
-    let below = below_limit w s runs le in
-    let cycle = next_cycle w s in
-    record { within = omega arith; later = omega arith; last = sym (last_on w s runs below) }
-
-then_along : (w : Setting) (s t u : State) → Along w s t → Along w t u → Along w s u
-then_along w s t u a b =
-    let one = a.later in
-    let two = b.later in
-    record { within = b.within; later = omega arith; last = b.last ∙ a.last }
+along_next w s runs le = grind (arith, below_limit, next_cycle, last_on)
 
 along_by : (w : Setting) (s : State) (n : ℕ) (cause : Option Why) → stop w s ≡ cause → s.cycle ≤ w.limit
     → ((runs : stop w s ≡ None) → Along w (next w s) (states w (next w s) n))
     → Along w s (unless_stopped cause s (states w (next w s) n))
-along_by w s n None e le rest = then_along w s (next w s) (states w (next w s) n) (along_next w s e le) (rest e)
-along_by w s n (Some why) e le rest = along_here w s le
+along_by w s n cause h1 h2 h3 = search (arith, along_next, along_here)
 
 pub along_states : (w : Setting) (s : State) (n : ℕ) → s.cycle ≤ w.limit → Along w s (states w s n)
 unfolding states
@@ -41,12 +31,7 @@ along_states w s (suc n) le = along_by w s n (stop w s) refl le (λ runs. along_
 
 -- a window with a cycle moves on
 pub moves_on : (w : Setting) (s : State) (n : ℕ) → stop w s ≡ None → s.cycle ≤ w.limit → s.cycle < (states w s (suc n)).cycle
-moves_on w s n runs le =
-    let a = along_next w s runs le in
-    let b = along_states w (next w s) n a.within in
-    let cycle = next_cycle w s in
-    let later = b.later in
-    rw (states_on w s n runs) (omega arith)
+moves_on w s n runs le = grind (arith, along_next, along_states, next_cycle, states_on)
 
 -- ---- the steps
 
@@ -64,43 +49,21 @@ unfolding states
 nearer_none w p here = rw here (omega arith)
 
 fewer_cycle : (b : Bool) (x y : ℕ) → y + 1 ≡ x → 2 * y + 1 < 2 * x + (if b then 0 else 1)
-fewer_cycle true x y e = omega arith
-fewer_cycle false x y e = omega arith
+fewer_cycle b x y h1 = grind arith
 
 pub not_empty : (a b : Bool) → (not a && b) ≡ true → a ≡ false
-not_empty true b e = absurd (cc e)
-not_empty false b e = refl
+not_empty a b h1 = grind arith
 
 nearer_by : (w : Setting) (p : Position) (n : ℕ) (empty : Bool) → nat_eq n 0 ≡ empty → p.after_empty ≡ false → stop w p.state ≡ None → p.state.cycle ≤ w.limit
     → left_of w (by_window w n p) < left_of w p
 nearer_by w p zero true e here runs le = nearer_none w p here
 nearer_by w p zero false e here runs le = absurd (cc e)
-nearer_by w p (suc n) true e here runs le = elim (eqb_tells (suc n) 0) [
-  | inl h ↦ absurd (let none : suc n ≡ 0 = h.1 in omega arith)
-  | inr h ↦ absurd (let other = h.0 in cc (e, other))
-]
-nearer_by w p (suc n) false e here runs le =
-    let on = moves_on w p.state n runs le in
-    let within = (along_states w p.state (suc n) le).within in
-    rw (here, e) (omega arith)
-
-nearer_window : (w : Setting) (p : Position) (n : ℕ) → p.after_empty ≡ false → stop w p.state ≡ None → p.state.cycle ≤ w.limit → Nearer w p (by_window w n p)
-nearer_window w p n here runs le = record {
-  along = along_states w p.state n le;
-  fewer = nearer_by w p n (nat_eq n 0) refl here runs le;
-}
-
-nearer_cycle : (w : Setting) (p : Position) → stop w p.state ≡ None → p.state.cycle ≤ w.limit → Nearer w p (by_cycle w p)
-nearer_cycle w p runs le =
-    let a = along_next w p.state runs le in
-    let cycle = next_cycle w p.state in
-    let below = below_limit w p.state runs le in
-    record { along = a; fewer = fewer_cycle p.after_empty (w.limit - p.state.cycle) (w.limit - (next w p.state).cycle) (omega arith) }
+nearer_by w p (suc n) true e here runs le = grind (arith, eqb_tells)
+nearer_by w p (suc n) false e here runs le = grind (arith, moves_on, along_states)
 
 nearer_step : (w : Setting) (p : Position) (tried : Bool) → is_tried p.after_empty p.state ≡ tried → stop w p.state ≡ None → p.state.cycle ≤ w.limit
     → Nearer w p (if tried then by_window w (window_length w p.state) p else by_cycle w p)
-nearer_step w p true e runs le = nearer_window w p (window_length w p.state) (not_empty p.after_empty (not (has_hold p.state.fabric)) e) runs le
-nearer_step w p false e runs le = nearer_cycle w p runs le
+nearer_step w p tried h1 h2 h3 = search (arith, not_empty, along_states, nearer_by, along_next, next_cycle, below_limit, fewer_cycle)
 
 pub nearer : (w : Setting) (p : Position) → stop w p.state ≡ None → p.state.cycle ≤ w.limit → Nearer w p (next_position w p)
 unfolding next_position
@@ -111,8 +74,7 @@ nearer w p runs le = nearer_step w p (is_tried p.after_empty p.state) refl runs 
 ends_by : (w : Setting) (p : Position) (n : ℕ) (cause : Option Why) → stop w p.state ≡ cause → p.state.cycle ≤ w.limit → left_of w p ≤ suc n
     → ((runs : stop w p.state ≡ None) → (positions w (next_position w p) n).state ≡ last_state w (next_position w p).state)
     → (unless_stopped cause p (positions w (next_position w p) n)).state ≡ last_state w p.state
-ends_by w p n None e le few rest = rest e ∙ (nearer w p e le).along.last
-ends_by w p n (Some why) e le few rest = sym (last_here w p.state why e)
+ends_by w p n cause h1 h2 h3 h4 = grind (arith, nearer, last_here)
 
 -- where nothing is left the run stands at its limit
 none_left : (w : Setting) (p : Position) (cause : Option Why) → stop w p.state ≡ cause → p.state.cycle ≤ w.limit → left_of w p ≤ 0 → p.state ≡ last_state w p.state

@@ -1,33 +1,18 @@
 -- The same lane in two environments: what is true of its replays and runs in the one is true in the other.
-use Rattle.window_merge.proofs.Shared.{Alone, Asking, Copies, IsTrue, List, RanIn, Report, ap, copied, refl, suc, sym, zero, ℕ, ◌+◌, ◌∙◌, ◌≡◌}
-use Rattle.lane_look.specs.Replay.{Meaning, Entry, Replay, told, after_begun, marks_with, replay_by, replay_cycle, replayed}
+use Rattle.window_merge.proofs.Shared.{Alone, Asking, Copies, IsTrue, List, RanIn, Report, ap, copied, refl, suc, zero, ℕ, ◌∙◌, ◌≡◌, arith}
+use Rattle.lane_look.specs.Replay.{Meaning, Entry, Replay, replay_by, replayed}
 use Rattle.window_merge.proofs.Copying.{Copied, SameLane, alone_same, length_same}
 
 by_same : {E F S B : Type 0} (m : Meaning E S B) (env : E) (n : Meaning F S B) (env' : F) → SameLane m env n env' → (tree : Asking B) (r : Replay S) → replay_by m env tree r ≡ replay_by n env' tree r
-by_same m env n env' same tree r =
-    let state : after_begun m env r.state (told r.rest tree) ≡ after_begun n env' r.state (told r.rest tree) = same.next r.state (told r.rest tree) in
-    let marks : marks_with m env r.state (told r.rest tree) r.marks ≡ marks_with n env' r.state (told r.rest tree) r.marks = same.marked r.state (told r.rest tree) r.marks in
-    rw (state, marks) refl
+by_same m env n env' same tree r = grind arith
 
 replayed_same : {E F S B : Type 0} (m : Meaning E S B) (env : E) (n : Meaning F S B) (env' : F) → SameLane m env n env' → (before : S) (start : ℕ) (log : List Entry) (k : ℕ) → replayed m env before start log k ≡ replayed n env' before start log k
 unfolding replayed
 replayed_same m env n env' same before start log zero = refl
-replayed_same {E} {F} {S} {B} m env n env' same before start log (suc k) =
-    let r = replayed n env' before start log k in
-    ap (replay_cycle m env (start + k)) (replayed_same m env n env' same before start log k)
-    ∙ ap (λ (tree : Asking B). replay_by m env tree r) (same.asks r.state (start + k))
-    ∙ by_same m env n env' same (n.asks env' r.state (start + k)) r
+replayed_same {E} {F} {S} {B} m env n env' same before start log (suc k) = search (arith, by_same, (replayed_same m env n env' same before start log k))
 
 pub true_same : {E F S B : Type 0} (m : Meaning E S B) (env : E) (n : Meaning F S B) (env' : F) → SameLane m env n env' → (report : Report S) → IsTrue m env report → IsTrue n env' report
-true_same {E} {F} {S} m env n env' same report h =
-    let e = replayed_same m env n env' same report.before report.start report.log report.length in
-    record {
-      short = h.short;
-      number = h.number;
-      whole = ap (λ (r : Replay S). r.talk) (sym e) ∙ h.whole;
-      lane_after = h.lane_after ∙ ap (λ (r : Replay S). r.state) e;
-      marks_left = h.marks_left ∙ ap (λ (r : Replay S). r.marks) e;
-    }
+true_same {E} {F} {S} m env n env' same report h = search (arith, replayed_same)
 
 itself : {E S B : Type 0} (m : Meaning E S B) (env : E) → Copied copied copied (λ (copies : Copies). copies) m env
 itself m env = record { answers = λ w s cycle. record { begun = refl; talk = refl }; stores = λ w v. refl }

@@ -1,18 +1,16 @@
 -- A core that wants nothing, whatever it is answered beside its interrupt lines, asks for these alone.
-use Rattle.window_merge.proofs.Shared.{Act, Ask, Asking, Beat, Bool, Half, Lines, None, Option, Question, Ready, Request, Some, Spot, Work, answered, ap, false, if◌then◌else◌, place_of, refl, sym, true, ℕ, ◌%◌, ◌&&◌, ◌+◌, ◌<◌, ◌==◌, ◌^◌, ◌∙◌, ◌≡◌}
+use Rattle.window_merge.proofs.Shared.{Act, Ask, Asking, Beat, Bool, Half, Lines, None, Option, Question, Ready, Request, Some, Spot, Work, answered, ap, false, if◌then◌else◌, place_of, refl, sym, ℕ, ◌%◌, ◌+◌, ◌<◌, ◌^◌, ◌∙◌, ◌≡◌, arith}
 use Rattle.rp_base.specs.declared.Why.TheVariants as why
 use Rattle.rp_base.specs.declared.map.Spot.TheVariants as spot
-use Rattle.rp_base.specs.Access.{master_of, word_written}
+use Rattle.rp_base.specs.Access.{master_of}
 use Rattle.lane_look.specs.declared.lane.Want.TheVariants as want
 use Rattle.lane_look.specs.Times.{times}
 use Rattle.m0_beats.specs.declared.timing.Beat.TheVariants as beat
-use Rattle.m0_nvic.specs.Words.{is_allowed}
 use Rattle.m0_core.specs.declared.doing.Act.TheVariants as act
 use Rattle.m0_core.specs.declared.doing.Work.TheVariants as works
 use Rattle.m0_core.specs.State.{State as Core}
 use Rattle.m0_core.specs.Cycle as core
-use Rattle.m0_core.specs.Fetch.{stopped, is_ram, is_locked, asks_fault, beat_of_work, in_ram, at_spot, in_beat, asks_beat, locks_last, asks_return, asks_second, asks_first, taken_of, asks_taken, asks_boundary, asks_work, asks_next, asks_awake, ends_with, carried, asks}
-use Rattle.m0_core.specs.Return.{is_bad}
+use Rattle.m0_core.specs.Fetch.{stopped, is_ram, beat_of_work, in_ram, at_spot, in_beat, asks_beat, asks_return, asks_second, asks_first, taken_of, asks_taken, asks_boundary, asks_work, asks_next, asks_awake, ends_with, carried, asks}
 use Rattle.m0_core.specs.Quiet.{rested, IsQuiet}
 use Rattle.quiet_run.proofs.NoWork.{breaks, stops_second}
 
@@ -26,12 +24,10 @@ WantsNothing lines tree = (answer : Ask → ℕ) → answer Lines ≡ lines → 
 
 ready_if : (lines : ℕ) (c : Bool) (one other : Asking Act) → (WantsNothing lines one → IsReady one) → (WantsNothing lines other → IsReady other)
     → WantsNothing lines (if c then one else other) → IsReady (if c then one else other)
-ready_if lines true one other f g h = f h
-ready_if lines false one other f g h = g h
+ready_if lines c one other h1 h2 h3 = grind arith
 
 ready_either : (c : Bool) (one other : Act) → IsReady (if c then Ready one else Ready other)
-ready_either true one other = tt
-ready_either false one other = tt
+ready_either c one other = grind arith
 
 -- ---- beats
 
@@ -41,8 +37,7 @@ ready_ram lines work request (Some value) h = tt
 
 ready_at : (lines : ℕ) (work : Work) (request : Request) (s : Core) (at : Spot) → WantsNothing lines (at_spot work request s at) → IsReady (at_spot work request s at)
 ready_at lines work request s (spot.Ram index bank) h = ready_ram lines work request request.write h
-ready_at lines work request s (spot.Ppb offset) h =
-    ready_either (is_allowed offset (word_written request.size request.write)) (act.Private work request offset) (act.Stopped (why.Outside (master_of s.number) request.address))
+ready_at lines work request s (spot.Ppb offset) h = search (arith, ready_either)
 ready_at lines work request s (spot.Reg block offset alias) h = tt
 ready_at lines work request s _ h = tt
 
@@ -53,13 +48,6 @@ ready_in lines work s (beat.Access request) h = ready_at lines work request s (p
 ready_beat : (lines : ℕ) (work : Work) (s : Core) → WantsNothing lines (asks_beat work s) → IsReady (asks_beat work s)
 unfolding asks_beat
 ready_beat lines work s h = ready_in lines work s (beat_of_work work s) h
-
-ready_return : (lines value : ℕ) (s : Core) → WantsNothing lines (asks_return value s) → IsReady (asks_return value s)
-unfolding asks_return
-ready_return lines value s h =
-    ready_if lines ((s.beats_done == 0) && is_bad value s) (asks_fault s) (if locks_last value s then stopped (why.Lockup s.number) else asks_beat (works.Return value) s)
-    (λ fault. ready_either (is_locked s) (act.Stopped (why.Lockup s.number)) act.Fault)
-    (ready_if lines (locks_last value s) (stopped (why.Lockup s.number)) (asks_beat (works.Return value) s) (λ stop. tt) (ready_beat lines (works.Return value) s)) h
 
 -- ---- the cycle
 
@@ -80,9 +68,10 @@ ready_taken lines None s h = ready_first lines s h
 ready_taken lines (Some n) s h = ready_beat lines (works.Entry n) s h
 
 ready_work : (lines : ℕ) (work : Work) (s : Core) → WantsNothing lines (asks_work work s) → IsReady (asks_work work s)
+unfolding asks_return
 ready_work lines (works.Instruction op) s h = ready_beat lines (works.Instruction op) s h
 ready_work lines (works.Entry n) s h = ready_beat lines (works.Entry n) s h
-ready_work lines (works.Return value) s h = ready_return lines value s h
+ready_work lines (works.Return value) s h = search (arith, ready_if, ready_either, ready_beat)
 
 ready_next : (lines : ℕ) (work : Option Work) (s : Core) → WantsNothing lines (asks_next work s) → IsReady (asks_next work s)
 unfolding asks_boundary

@@ -1,10 +1,7 @@
 -- A separate cycle, in which every want is nothing or an access to SRAM, no two accesses name one port and none lasts: each lane
 -- steps as if it ran alone.
-use Rattle.window_merge.proofs.Shared.{Begun, Bool, Deed, KnowsSio, List, Master, None, Option, Request, SeenOutputs, Setting, Some, Spot, Turn, Want, [], ap, asked_at, asked_of, deed_of, ends_want, false, has_hold, if◌then◌else◌, is_some, map, offers_of, place_of, port_at, refl, sram_after, stored_at, subst, sym, true, turn_alone, turn_of, ℕ, ◌&&◌, ◌+◌, ◌∙◌, ◌∷◌, ◌≡◌}
+use Rattle.window_merge.proofs.Shared.{Begun, Bool, Deed, KnowsSio, List, Master, Option, Request, SeenOutputs, Setting, Spot, Turn, Want, [], ap, asked_at, asked_of, deed_of, ends_want, false, has_hold, if◌then◌else◌, is_some, map, offers_of, port_at, refl, sram_after, stored_at, subst, sym, true, turn_alone, turn_of, ℕ, ◌&&◌, ◌+◌, ◌∙◌, ◌∷◌, ◌≡◌, arith}
 use Rattle.rp_base.specs.declared.Master.TheVariants as master
-use Rattle.rp_base.specs.declared.map.Spot.TheVariants as spot
-use Rattle.lane_look.specs.declared.lane.Want.TheVariants as want
-use Rattle.lane_look.specs.declared.lane.Turn.TheVariants as turn
 use Rattle.m0_core.specs.Fetch.{is_ram_spot}
 use Rattle.m0_core.specs.State.{State as Core}
 use Rattle.m0_core.specs.Cycle as core
@@ -13,10 +10,9 @@ use Rattle.pio_block.specs.Cycle as pio
 use Rattle.outer_lane.specs.State.{State as OuterState}
 use Rattle.outer_lane.specs.Step as outer
 use Rattle.sio_block.specs.State.{State as SioState}
-use Rattle.sio_block.specs.Cycle.{after_cycle}
 use Rattle.rp_machine.specs.declared.deed.Deed.TheVariants as deed
 use Rattle.rp_machine.specs.State.{State}
-use Rattle.rp_machine.specs.Cycle.{wanted, asked, granted, turns, with_turns, deeds, with_sio, with_offer, with_pins, pins_of, found_by, after_deed, launched_where, after_masters, stored, all_stored, with_stores, ended, after_deeds, with_grants, stepped, next_by}
+use Rattle.rp_machine.specs.Cycle.{wanted, asked, granted, turns, with_turns, deeds, with_sio, with_offer, with_pins, after_deed, launched_where, after_masters, stored, all_stored, with_stores, ended, after_deeds, with_grants, stepped, next_by}
 use Rattle.window_merge.proofs.Banks.{HasBank, has_bank}
 use Rattle.window_merge.proofs.InSram.{IsPlaced}
 use Rattle.window_merge.proofs.Keeping.{core_keeps, outer_keeps}
@@ -25,26 +21,19 @@ use Rattle.window_merge.proofs.Ports.{InBank, Apart, free_done, free_after}
 -- ---- one want
 
 in_bank_at : (request : Request) (spot : Spot) → is_ram_spot spot ≡ true → HasBank spot → InBank (asked_at request (port_at spot))
-in_bank_at request (spot.Ram index bank) e h = h.1
-in_bank_at request _ e h = absurd (cc e)
+in_bank_at request spot h1 h2 = grind arith
 
 asks_at : (request : Request) (spot : Spot) → is_ram_spot spot ≡ true → is_some (asked_at request (port_at spot)) ≡ true
-asks_at request (spot.Ram index bank) e = refl
-asks_at request _ e = absurd (cc e)
+asks_at request spot h1 = grind arith
 
 pub in_bank : (v : Want) → ends_want v ≡ false → IsPlaced v → InBank (asked_of v)
 unfolding asked_of
-in_bank want.Nothing goes placed = tt
-in_bank (want.Ram request) goes placed = in_bank_at request (place_of request.address) placed (has_bank request.address)
-in_bank (want.Outward request) goes placed = absurd (cc goes)
-in_bank _ goes placed = tt
+in_bank v h1 h2 = grind (arith, in_bank_at, has_bank)
 
 -- its turn is that of a lane that runs alone, where each access is done
 turn_goes : (w : Setting) (seen : SeenOutputs) (rival : Want) (m : Master) (v : Want) (s : State) → ends_want v ≡ false → IsPlaced v → turn_of w seen rival (is_some (asked_of v)) m v s ≡ turn_alone v
 unfolding turn_of asked_of
-turn_goes w seen rival m want.Nothing s goes placed = refl
-turn_goes w seen rival m (want.Ram request) s goes placed = rw (asks_at request (place_of request.address) placed) refl
-turn_goes w seen rival m _ s goes placed = absurd (cc goes)
+turn_goes w seen rival m v s h1 h2 = grind (arith, asks_at)
 
 -- nothing is to be done but to store
 abbrev pub IsStore : Deed → Type 0
@@ -53,36 +42,24 @@ IsStore (deed.Store index lanes value) = Unit {0}
 IsStore _ = ⊥
 
 stored_stores : (request : Request) (write : Option ℕ) (spot : Spot) → IsStore (stored_at request write spot)
-stored_stores request None spot = tt
-stored_stores request (Some value) (spot.Ram index bank) = tt
-stored_stores request (Some value) (spot.Reg block offset alias) = tt
-stored_stores request (Some value) (spot.Sio offset) = tt
-stored_stores request (Some value) (spot.Ppb offset) = tt
-stored_stores request (Some value) spot.Outside = tt
+stored_stores request write spot = grind arith
 
 either_stores : (c : Bool) (d : Deed) → IsStore d → IsStore (if c then d else deed.Nothing)
-either_stores true d h = h
-either_stores false d h = tt
+either_stores c d h1 = grind arith
 
 deed_stores : (w : Setting) (seen : SeenOutputs) (grant : Bool) (v : Want) (s : State) → ends_want v ≡ false → IsStore (deed_of w seen grant v s)
 unfolding deed_of
-deed_stores w seen grant want.Nothing s goes = tt
-deed_stores w seen grant (want.Ram request) s goes = either_stores grant _ (stored_stores request request.write (place_of request.address))
-deed_stores w seen grant _ s goes = absurd (cc goes)
+deed_stores w seen grant v s h1 = grind (arith, either_stores, stored_stores)
 
 nothing_done : (w : Setting) (found : Bool) (m : Master) (d : Deed) (s : State) → IsStore d → after_deed w found m d s ≡ s
 unfolding after_deed
-nothing_done w found m deed.Nothing s h = refl
-nothing_done w found m (deed.Store index lanes value) s h = refl
-nothing_done w found m _ s h = absurd h
+nothing_done w found m d s h1 = grind arith
 
 -- ---- SIO and what is known of it
 
 -- the launcher has nothing to do
 core1_rests_by : (asleep offered : Bool) (s : State) → (asleep && offered) ≡ false → (if asleep then launched_where offered s else s) ≡ s
-core1_rests_by true true s none = absurd (cc none)
-core1_rests_by true false s none = refl
-core1_rests_by false offered s none = refl
+core1_rests_by asleep offered s h1 = grind arith
 
 -- ---- the cycle
 
@@ -122,44 +99,24 @@ pub record IsStepped (w : Setting) (b : Begun) (s t : State) : Type 0 where
 granted_separate : (b : Begun) (s : State) → IsSeparate b s → granted (wanted b) s ≡
     is_some (asked_of (core.want_of b.core0)) ∷ is_some (asked_of (core.want_of b.core1)) ∷ is_some (asked_of (dma.want_of b.dma.read)) ∷ is_some (asked_of (dma.want_of b.dma.write)) ∷ []
 unfolding granted asked wanted
-granted_separate b s h = free_done _ _ _ _ s.fabric h.apart
-    (in_bank (core.want_of b.core0) h.goes.goes0 h.placed0) (in_bank (core.want_of b.core1) h.goes.goes1 h.placed1)
-    (in_bank (dma.want_of b.dma.read) h.goes.goes_read h.placed_read)
-    (in_bank (dma.want_of b.dma.write) h.goes.goes_write h.placed_write)
+granted_separate b s h = grind (arith, free_done, in_bank)
 
 still_free : (b : Begun) (s : State) → IsSeparate b s → has_hold (with_grants (wanted b) s).fabric ≡ false
 unfolding asked wanted
-still_free b s h = free_after (asked_of (core.want_of b.core0)) (asked_of (core.want_of b.core1)) (asked_of (dma.want_of b.dma.read)) (asked_of (dma.want_of b.dma.write)) s.fabric h.free
-    (in_bank (core.want_of b.core0) h.goes.goes0 h.placed0) (in_bank (core.want_of b.core1) h.goes.goes1 h.placed1)
-    (in_bank (dma.want_of b.dma.read) h.goes.goes_read h.placed_read)
-    (in_bank (dma.want_of b.dma.write) h.goes.goes_write h.placed_write)
+still_free b s h = grind (arith, free_after, in_bank)
 
 abbrev separate_turns : Begun → List Turn
 separate_turns b = turn_alone (core.want_of b.core0) ∷ turn_alone (core.want_of b.core1) ∷ turn_alone (dma.want_of b.dma.read) ∷ turn_alone (dma.want_of b.dma.write) ∷ []
 
 turns_separate : (w : Setting) (b : Begun) (s : State) → IsSeparate b s → turns w b (wanted b) s (granted (wanted b) s) ≡ separate_turns b
 unfolding turns wanted
-turns_separate w b s h =
-    ap (turns w b (wanted b) s) (granted_separate b s h)
-    ∙ rw (
-      turn_goes w b.outer (core.want_of b.core0) master.Core0 (core.want_of b.core0) s h.goes.goes0 h.placed0,
-      turn_goes w b.outer (core.want_of b.core0) master.Core1 (core.want_of b.core1) s h.goes.goes1 h.placed1,
-      turn_goes w b.outer (core.want_of b.core0) master.DmaRead (dma.want_of b.dma.read) s h.goes.goes_read h.placed_read,
-      turn_goes w b.outer (core.want_of b.core0) master.DmaWrite (dma.want_of b.dma.write) s h.goes.goes_write h.placed_write,
-    ) refl
+turns_separate w b s h = grind (arith, granted_separate, turn_goes)
 
 -- the deeds of the masters but for what they store
 masters_separate : (w : Setting) (start : SioState) (d0 d1 d2 d3 : Deed) (t : State) → IsStore d0 → IsStore d1 → IsStore d2 → IsStore d3
     → (if t.core1.asleep then launched_where (offers_of start) t else t) ≡ t
     → after_masters w start (master.Core0 ∷ master.Core1 ∷ master.DmaRead ∷ master.DmaWrite ∷ []) (d0 ∷ d1 ∷ d2 ∷ d3 ∷ []) t ≡ t
-masters_separate w start d0 d1 d2 d3 t h0 h1 h2 h3 rests =
-    rw (
-      nothing_done w (found_by master.Core0 d0 start) master.Core0 d0 t h0,
-      nothing_done w (found_by master.Core1 d1 start) master.Core1 d1 t h1,
-      rests,
-      nothing_done w (found_by master.DmaRead d2 start) master.DmaRead d2 t h2,
-      nothing_done w (found_by master.DmaWrite d3 start) master.DmaWrite d3 t h3,
-    ) refl
+masters_separate w start d0 d1 d2 d3 t h0 h1 h2 h3 rests = grind (arith, nothing_done)
 
 same_offer : (offer : Bool) (c : Core) → offer ≡ c.offer → with_offer offer c ≡ c
 same_offer offer c e = rw e refl
@@ -180,16 +137,11 @@ record KnowsOn (w : Setting) (b : Begun) (s t : State) : Type 0 where
 
 knows_on : (w : Setting) (b : Begun) (s : State) → KnowsOn w b s (after_lanes w b s)
 unfolding with_turns
-knows_on w b s =
-    let k = core_keeps s.core1 b.core1 (turn_alone (core.want_of b.core1) ∷ turn.Nothing ∷ []) in
-    record { asleep = k.asleep; offer = k.offer; pins = outer_keeps w s.outer b.outer; sio = refl }
+knows_on w b s = grind (arith, core_keeps, outer_keeps)
 
 rests_on : (w : Setting) (b : Begun) (s : State) → IsSeparate b s
     → (if (after_lanes w b s).core1.asleep then launched_where (offers_of (after_lanes w b s).sio) (after_lanes w b s) else after_lanes w b s) ≡ after_lanes w b s
-rests_on w b s h =
-    let k = knows_on w b s in
-    let offered : offers_of (after_lanes w b s).sio ≡ s.core1.offer = ap offers_of k.sio ∙ sym h.knows.offer in
-    core1_rests_by (after_lanes w b s).core1.asleep (offers_of (after_lanes w b s).sio) (after_lanes w b s) (rw (k.asleep, offered) h.launcher)
+rests_on w b s h = grind (arith, knows_on, core1_rests_by)
 
 abbrev separate_deeds : Setting → Begun → State → List Deed
 separate_deeds w b s =
@@ -205,13 +157,7 @@ deeds_separate w b s h = ap (deeds w b (wanted b) s) (granted_separate b s h)
 
 done_separate : (w : Setting) (b : Begun) (s : State) → IsSeparate b s → after_deeds w (separate_deeds w b s) (after_lanes w b s) ≡ ended (with_stores (separate_deeds w b s) (after_lanes w b s))
 unfolding after_deeds
-done_separate w b s h =
-    ap (λ t. ended (with_stores (separate_deeds w b s) t))
-    (masters_separate w (after_lanes w b s).sio _ _ _ _ (after_lanes w b s)
-    (deed_stores w b.outer _ (core.want_of b.core0) s h.goes.goes0) (deed_stores w b.outer _ (core.want_of b.core1) s h.goes.goes1)
-    (deed_stores w b.outer _ (dma.want_of b.dma.read) s h.goes.goes_read)
-    (deed_stores w b.outer _ (dma.want_of b.dma.write) s h.goes.goes_write)
-    (rests_on w b s h))
+done_separate w b s h = grind (arith, masters_separate, deed_stores, rests_on)
 
 -- the state after the cycle
 abbrev after_separate : Setting → Begun → State → State
@@ -219,23 +165,15 @@ after_separate w b s = record (ended (with_stores (separate_deeds w b s) (after_
 
 stepped_separate : (w : Setting) (b : Begun) (s : State) → IsSeparate b s → next_by w b (wanted b) s ≡ after_separate w b s
 unfolding next_by stepped
-stepped_separate w b s h =
-    ap (λ ts. record (after_deeds w (deeds w b (wanted b) s (granted (wanted b) s)) (with_turns w b ts (with_grants (wanted b) s))) { cycle = s.cycle + 1 }) (turns_separate w b s h)
-    ∙ ap (λ ds. record (after_deeds w ds (after_lanes w b s)) { cycle = s.cycle + 1 }) (deeds_separate w b s h)
-    ∙ ap (λ (t : State). record t { cycle = s.cycle + 1 }) (done_separate w b s h)
+stepped_separate w b s h = grind (arith, turns_separate, deeds_separate, done_separate)
 
 core1_separate : (w : Setting) (b : Begun) (s : State) → IsSeparate b s → (after_separate w b s).core1 ≡ (after_lanes w b s).core1
 unfolding ended with_sio
-core1_separate w b s h =
-    let k = knows_on w b s in
-    same_offer (offers_of (after_cycle (after_lanes w b s).sio)) (after_lanes w b s).core1
-    (ap (λ sio. offers_of (after_cycle sio)) k.sio ∙ sym h.knows.offer ∙ sym k.offer)
+core1_separate w b s h = grind (arith, knows_on, same_offer)
 
 same_pins : (w : Setting) (b : Begun) (s : State) → IsSeparate b s → (after_separate w b s).outer ≡ (after_lanes w b s).outer
 unfolding ended with_sio
-same_pins w b s h =
-    let k = knows_on w b s in
-    pins_same (pins_of (after_lanes w b s).sio) (after_lanes w b s).outer (ap pins_of k.sio ∙ sym h.knows.pins ∙ sym k.pins)
+same_pins w b s h = grind (arith, knows_on, pins_same)
 
 knows_separate : (w : Setting) (b : Begun) (s : State) → KnowsSio (after_separate w b s)
 unfolding ended with_sio
@@ -272,9 +210,7 @@ separate_next w b s h = subst (IsStepped w b s) (sym (stepped_separate w b s h))
 stored_goes : (w : Setting) (seen : SeenOutputs) (v : Want) (s : State) (sram : List ℕ) → ends_want v ≡ false → IsPlaced v
     → stored (deed_of w seen (is_some (asked_of v)) v s) sram ≡ sram_after v sram
 unfolding deed_of asked_of
-stored_goes w seen want.Nothing s sram goes placed = refl
-stored_goes w seen (want.Ram request) s sram goes placed = rw (asks_at request (place_of request.address) placed) refl
-stored_goes w seen _ s sram goes placed = absurd (cc goes)
+stored_goes w seen v s sram h1 h2 = grind (arith, asks_at)
 
 -- what the masters leave of SRAM, one after the other
 abbrev pub sram_left : Begun → List ℕ → List ℕ
@@ -286,14 +222,4 @@ unfolding ended with_sio with_turns
 after_sram w b s = refl
 
 pub separate_sram : (w : Setting) (b : Begun) (s : State) → IsSeparate b s → (next_by w b (wanted b) s).sram ≡ sram_left b s.sram
-separate_sram w b s h =
-    ap (λ (t : State). t.sram) (stepped_separate w b s h) ∙ after_sram w b s
-    ∙ rw (
-      stored_goes w b.outer (core.want_of b.core0) s s.sram h.goes.goes0 h.placed0,
-      stored_goes w b.outer (core.want_of b.core1) s (sram_after (core.want_of b.core0) s.sram) h.goes.goes1 h.placed1,
-      stored_goes w b.outer (dma.want_of b.dma.read) s
-          (sram_after (core.want_of b.core1) (sram_after (core.want_of b.core0) s.sram)) h.goes.goes_read h.placed_read,
-      stored_goes w b.outer (dma.want_of b.dma.write) s
-          (sram_after (dma.want_of b.dma.read) (sram_after (core.want_of b.core1) (sram_after (core.want_of b.core0) s.sram)))
-          h.goes.goes_write h.placed_write,
-    ) refl
+separate_sram w b s h = grind (arith, stepped_separate, after_sram, stored_goes)

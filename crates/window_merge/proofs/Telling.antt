@@ -1,42 +1,19 @@
 -- The first entry in which a true report differs from its lane's run alone has the same question, and another answer.
-use Rattle.std.proofs.Common.{◌≡◌, ◌⊎◌, ℕ, zero, suc, ◌+◌, ◌<◌, inl, inr, List, [], ◌∷◌, ◌++◌, take, Option, Some, None, refl, ap}
-use Rattle.window_merge.proofs.Shared.{Ask, Asking, DifferAt, IsTrue, OtherAnswerAt, Question, Ready, Report, alone, answer_of, answered, arith, around, cases_lt, eqb_tells, replay_of, slice_get_within, subst, sym, take-append-le, talk_alone, ◌∙◌}
-use Rattle.std.specs.List.{slice_get}
-use Rattle.lane_look.specs.Replay.{Meaning, Entry, first_answer, others, told, talk, asked, after_begun, replayed}
+use Rattle.std.proofs.Common.{◌≡◌, ◌⊎◌, ℕ, zero, suc, ◌+◌, inl, inr, List, [], ◌∷◌, ◌++◌, Option, Some, None, refl}
+use Rattle.window_merge.proofs.Shared.{Ask, Asking, DifferAt, IsTrue, OtherAnswerAt, Question, Ready, Report, alone, answer_of, answered, arith, around, cases_lt, eqb_tells, replay_of, slice_get_within, subst, take-append-le, talk_alone}
+use Rattle.lane_look.specs.Replay.{Meaning, Entry, first_answer, others, told, talk, asked, replayed}
 use Rattle.rp_machine.specs.State.{State}
 use Rattle.window_merge.proofs.Logs.{get-append, get-take}
 
 -- ---- another answer in longer lists
 
 behind_one : (entry : Entry) (xs ys : List Entry) (p : ℕ) → OtherAnswerAt xs ys p → OtherAnswerAt (entry ∷ xs) (entry ∷ ys) (suc p)
-behind_one entry xs ys p h = record {
-  same_before = ap (λ (l : List Entry). entry ∷ l) h.same_before;
-  question = h.question;
-  told = h.told;
-  answer = h.answer;
-  in_log = h.in_log;
-  in_run = h.in_run;
-  other = h.other;
-}
+behind_one entry xs ys p h = grind arith
 
 behind : (before xs ys : List Entry) (p : ℕ) → OtherAnswerAt xs ys p → (q : ℕ) × OtherAnswerAt (before ++ xs) (before ++ ys) q
 behind [] xs ys p h = (p, h)
 behind (entry ∷ before) xs ys p h =
     let rest = behind before xs ys p h in (suc rest.0, behind_one entry (before ++ xs) (before ++ ys) rest.0 rest.1)
-
-longer : (xs ys more more' : List Entry) (p : ℕ) → OtherAnswerAt xs ys p → OtherAnswerAt (xs ++ more) (ys ++ more') p
-longer xs ys more more' p h =
-    let lt = slice_get_within xs p (h.question, h.told) h.in_log in
-    let lt' = slice_get_within ys p (h.question, h.answer) h.in_run in
-    record {
-      same_before = take-append-le p xs more (omega (arith, lt)) ∙ h.same_before ∙ sym (take-append-le p ys more' (omega (arith, lt')));
-      question = h.question;
-      told = h.told;
-      answer = h.answer;
-      in_log = get-append xs more p lt ∙ h.in_log;
-      in_run = get-append ys more' p lt' ∙ h.in_run;
-      other = h.other;
-    }
 
 -- ---- one cycle
 
@@ -49,10 +26,7 @@ Tells f log tree = TellsSame f log tree ⊎ ((p : ℕ) × OtherAnswerAt (talk lo
 
 tells_more : {B : Type 0} (f : Ask → ℕ) (log : List Entry) (ask : Ask) (next : ℕ → Asking B) → first_answer log ≡ f ask
     → Tells f (others log) (next (first_answer log)) → Tells f log (Question ask next)
-tells_more {B} f log ask next e (inl rest) = inl (record {
-  begun = rest.begun ∙ ap (λ (x : ℕ). answered f (next x)) e;
-  talked = ap (λ (es : List Entry). (ask, first_answer log) ∷ es) rest.talked ∙ ap (λ (x : ℕ). (ask, x) ∷ asked f (next x)) e;
-})
+tells_more {B} f log ask next e (inl rest) = grind arith
 tells_more {B} f log ask next e (inr rest) = inr (
   suc rest.0,
   subst (λ (x : ℕ). OtherAnswerAt ((ask, first_answer log) ∷ talk (others log) (next (first_answer log))) ((ask, x) ∷ asked f (next x)) (suc rest.0)) e
@@ -82,18 +56,7 @@ level_next : {S B : Type 0} (m : Meaning (Unit {0}) S B) (lane : ℕ) (s : State
     → Tells (answer_of lane (alone m (around lane) tt report.before report.start s k).around) (replay_of m tt report k).rest (m.asks tt (replay_of m tt report k).state (report.start + k))
     → Stands m lane s report (suc k)
 unfolding replayed alone
-level_next {S} {B} m lane s report k h (inl same) =
-    let r = replay_of m tt report k in
-    let a = alone m (around lane) tt report.before report.start s k in
-    let f = answer_of lane a.around in
-    let cycle = report.start + k in
-    inl (record {
-      same_state = ap (λ (b : B). after_begun m tt r.state b) same.begun
-          ∙ ap (λ (x : S). after_begun m tt x (answered f (m.asks tt x cycle))) h.same_state;
-      same_talk = ap (λ (es : List Entry). r.talk ++ es) same.talked
-          ∙ ap (λ (x : S). r.talk ++ asked f (m.asks tt x cycle)) h.same_state
-          ∙ ap (λ (es : List Entry). es ++ asked f (m.asks tt a.state cycle)) h.same_talk;
-    })
+level_next {S} {B} m lane s report k h (inl same) = grind arith
 level_next {S} {B} m lane s report k h (inr other) =
     let r = replay_of m tt report k in
     let a = alone m (around lane) tt report.before report.start s k in
@@ -106,10 +69,7 @@ level_next {S} {B} m lane s report k h (inr other) =
 stands_next : {S B : Type 0} (m : Meaning (Unit {0}) S B) (lane : ℕ) (s : State) (report : Report S) (k : ℕ) → Stands m lane s report k → Stands m lane s report (suc k)
 unfolding replayed alone
 stands_next m lane s report k (inl h) = level_next m lane s report k h (tells _ _ _)
-stands_next m lane s report k (inr h) =
-    let r = replay_of m tt report k in
-    let a = alone m (around lane) tt report.before report.start s k in
-    inr (h.0, longer r.talk a.talk (talk r.rest (m.asks tt r.state (report.start + k))) (asked (answer_of lane a.around) (m.asks tt a.state (report.start + k))) h.0 h.1)
+stands_next m lane s report k (inr h) = search (arith, slice_get_within, take-append-le, get-append)
 
 stands : {S B : Type 0} (m : Meaning (Unit {0}) S B) (lane : ℕ) (s : State) (report : Report S) (k : ℕ) → Stands m lane s report k
 unfolding replayed alone
@@ -118,40 +78,14 @@ stands m lane s report (suc k) = stands_next m lane s report k (stands m lane s 
 
 -- ---- the first entry that differs
 
-below : (log run : List Entry) (n p : ℕ) → n < p → take p log ≡ take p run → slice_get log n ≡ slice_get run n
-below log run n p lt e = sym (get-take log n p lt) ∙ ap (λ (l : List Entry). slice_get l n) e ∙ get-take run n p lt
-
 abbrev answer_in : Option Entry → ℕ
 answer_in None = 0
 answer_in (Some entry) = entry.1
 
 same_index : (log run : List Entry) (n p : ℕ) → DifferAt log run n → OtherAnswerAt log run p → p ≡ n
-same_index log run n p d o = elim (cases_lt n p) [
-  | inl lt ↦ absurd (d.other_there (below log run n p lt o.same_before))
-  | inr le ↦ elim (cases_lt p n) [
-    | inl lt ↦
-        let e : Some (o.question, o.told) ≡ Some (o.question, o.answer) = sym o.in_log ∙ below log run p n lt d.same_before ∙ o.in_run in
-        absurd (o.other (ap answer_in e))
-    | inr le' ↦ omega (arith, le, le')
-  ]
-]
-
-other_at_end : {S B : Type 0} (m : Meaning (Unit {0}) S B) (lane : ℕ) (s : State) (report : Report S) (n : ℕ) → IsTrue m tt report
-    → DifferAt report.log (alone m (around lane) tt report.before report.start s report.length).talk n → Stands m lane s report report.length
-    → OtherAnswerAt report.log (alone m (around lane) tt report.before report.start s report.length).talk n
-other_at_end m lane s report n h d (inl level) =
-    absurd (d.other_there (ap (λ (l : List Entry). slice_get l n) (sym h.whole ∙ level.same_talk)))
-other_at_end m lane s report n h d (inr other) =
-    let run = (alone m (around lane) tt report.before report.start s report.length).talk in
-    let o : OtherAnswerAt report.log run other.0 = subst (λ (l : List Entry). OtherAnswerAt l run other.0) h.whole other.1 in
-    subst (λ p. OtherAnswerAt report.log run p) (same_index report.log run n other.0 d o) o
+same_index log run n p d o = search (arith, cases_lt, get-take)
 
 pub other_answer : {S B : Type 0} (m : Meaning (Unit {0}) S B) (lane : ℕ) (before : S) (s : State) (report : Report S) (n : ℕ) → IsTrue m tt report
     → report.start ≡ s.cycle → report.before ≡ before → DifferAt report.log (talk_alone m lane before s report.length) n
     → OtherAnswerAt report.log (talk_alone m lane before s report.length) n
-other_answer {S} m lane before s report n h e_start e_before d =
-    let e : (alone m (around lane) tt report.before report.start s report.length).talk ≡ talk_alone m lane before s report.length =
-    ap (λ c. (alone m (around lane) tt report.before c s report.length).talk) e_start
-    ∙ ap (λ (b : S). (alone m (around lane) tt b s.cycle s report.length).talk) e_before in
-    let here = subst (λ (l : List Entry). DifferAt report.log l n) (sym e) d in
-    subst (λ (l : List Entry). OtherAnswerAt report.log l n) e (other_at_end m lane s report n h here (stands m lane s report report.length))
+other_answer {S} m lane before s report n h e_start e_before d = search (arith, stands, same_index)

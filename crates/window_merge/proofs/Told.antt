@@ -1,5 +1,5 @@
 -- One lane in cycle k of a window: what the log of its run alone tells it.
-use Rattle.std.proofs.Common.{◌≡◌, ℕ, zero, suc, ◌+◌, ◌-◌, ◌<◌, List, [], ◌++◌, refl, ap, sym, ◌∙◌, append_assoc, append-nil, add-one, arith}
+use Rattle.std.proofs.Common.{◌≡◌, ℕ, zero, suc, ◌+◌, ◌-◌, ◌<◌, List, ◌++◌, refl, ap, sym, ◌∙◌, append_assoc, append-nil, add-one, arith}
 use Rattle.window_merge.proofs.Shared.{Surroundings, alone, answered, append_cancel_left, asked_in, begun_alone, wanted_in}
 use Rattle.lane_look.specs.Replay.{Meaning, Entry, told, left, talk, asked, after_begun}
 use Rattle.lane_look.proofs.Trees.{told_asked, left_asked, talk_asked}
@@ -9,9 +9,7 @@ use Rattle.lane_look.proofs.Trees.{told_asked, left_asked, talk_asked}
 -- the talk of more cycles begins with that of fewer
 alone_more : {E S B W : Type 0} (m : Meaning E S B) (a : Surroundings W) (env : E) (before : S) (start : ℕ) (first : W) (n more all : ℕ) → n + more ≡ all → (rest : List Entry) × ((alone m a env before start first all).talk ≡ (alone m a env before start first n).talk ++ rest)
 unfolding alone
-alone_more m a env before start first n zero all e =
-    let same : n ≡ all = omega arith in
-    ([], rw (← same, append-nil) refl)
+alone_more m a env before start first n zero all e = search (arith, append-nil)
 alone_more m a env before start first n (suc more) zero e = absurd (omega arith)
 alone_more m a env before start first n (suc more) (suc all) e =
     let so_far = alone_more m a env before start first n more all (omega arith) in

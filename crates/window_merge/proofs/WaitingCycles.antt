@@ -1,5 +1,5 @@
 -- Cycles of a window in which nobody has anything to do: the start answers each lane as the machine does.
-use Rattle.std.proofs.Common.{◌≡◌, ℕ, zero, suc, ◌+◌, ◌-◌, ◌*◌, ◌<◌, ◌≤◌, inl, inr, ◌||◌, not, nat_le, if◌then◌else◌, Bool, true, false, List, [], ◌∷◌, ◌++◌, length, refl, sym, ap, subst, ◌∙◌, arith}
+use Rattle.std.proofs.Common.{◌≡◌, ℕ, zero, suc, ◌+◌, ◌-◌, ◌*◌, ◌<◌, ◌≤◌, ◌||◌, not, nat_le, if◌then◌else◌, Bool, true, false, List, [], ◌∷◌, ◌++◌, length, refl, sym, ap, subst, ◌∙◌, arith}
 use Rattle.window_merge.proofs.Shared.{ArePartsQuiet, Begun, CopiesAgree, GoesAsAlone, GoneOver, Mark, Notes, SeenOutputs, Setting, Start, Wanted, and-false, begun, beside, clash, has_hold, inputs_of, is_clean, is_first_alone, is_launching, leb_tells, lines_of, longest, mark, marks_in, no_notes, noted_by, noted_in, offers_of, outs_on, packed_pair, passed, pins_of, runs_follow, same_marks, seen_number, states, wanted, wants_of, window_length}
 use Rattle.lane_look.specs.declared.lane.Want.TheVariants as want
 use Rattle.io_bank.specs.State.{State as Bank}
@@ -92,8 +92,7 @@ pub has_waited : (w : Setting) (m : Notes) (s t : State) (n pads : ℕ) (marks m
     → marks' ≡ marks ++ same_marks n (mark_with pads)
     → GoneOver w (start_of s) s m marks n t m marks'
 unfolding states noted_in marks_in same_marks
-has_waited w m s t zero pads marks marks' sees agree parts e_state e_pads e =
-    record { state = e_state; goes = λ k lt. absurd (omega arith); noted = refl; marked = e }
+has_waited w m s t zero pads marks marks' sees agree parts e_state e_pads e = grind arith
 has_waited w m s t (suc n) pads marks marks' sees agree parts e_state e_pads e =
     let h : IsWaiting w m s (suc n) = record { sees = sees; agree = agree; parts = parts (omega arith) } in
     record {
@@ -109,10 +108,7 @@ has_waited w m s t (suc n) pads marks marks' sees agree parts e_state e_pads e =
 
 -- there is room for a whole window
 whole_by : (left : ℕ) → 256 ≤ left → (if nat_le left 256 then left else 256) ≡ 256
-whole_by left le = elim (leb_tells left 256) [
-  | inl h ↦ let few = h.1 in rw h.0 (omega (arith, few, le))
-  | inr h ↦ rw h.0 refl
-]
+whole_by left le = grind (arith, leb_tells)
 
 quiet_window : (w : Setting) (s : State) (n i : ℕ) → IsWaiting w no_notes s n → length s.sram ≡ 67584 → i + 256 ≤ n → window_length w (states w s i) ≡ 256
 quiet_window w s n i h long le =

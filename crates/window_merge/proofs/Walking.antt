@@ -1,5 +1,5 @@
 -- A lane that runs alone again beside a log.
-use Rattle.std.proofs.Common.{◌≡◌, ◌≢◌, ℕ, suc, ◌+◌, ◌<◌, ◌≤◌, Bool, true, false, inl, inr, if◌then◌else◌, List, [], ◌∷◌, ◌++◌, length, take, Option, Some, refl, ap, sym, ◌∙◌, subst, add-one, append-nil, append_assoc, length-append, arith}
+use Rattle.std.proofs.Common.{◌≡◌, ◌≢◌, ℕ, suc, ◌+◌, ◌<◌, ◌≤◌, Bool, true, false, if◌then◌else◌, List, [], ◌∷◌, ◌++◌, length, Option, Some, refl, ap, sym, ◌∙◌, subst, add-one, append-nil, append_assoc, length-append, arith}
 use Rattle.window_merge.proofs.Shared.{Decides, IsFirstOther, Question, Ready, Walker, Want, answer_of, around, block_lines, eqb_tells, inputs_of, is_least, lines_of, outs_of, pacing_of, patched, take-append-le, take-append_seam, talk_alone}
 use Rattle.std.specs.List.{slice_get}
 use Rattle.lane_look.specs.Asking.{Asking, Runs, answered}
@@ -15,14 +15,7 @@ use Rattle.window_merge.proofs.Logs.{take_more, get-append, get-seam}
 
 -- they differ where one more entry follows
 still : (log talk more : List Entry) (index : ℕ) → IsCompared log talk index false → IsCompared log (talk ++ more) index false
-still log talk more index h =
-    let lt : index < length talk = h.0 in (
-      omega (arith, lt, length-append talk more),
-      record {
-        same_before = h.1.same_before ∙ sym (take-append-le index talk more (omega (arith, lt)));
-        other_there = λ e. h.1.other_there (e ∙ get-append talk more index lt);
-      },
-    )
+still log talk more index h = grind (arith, length-append, take-append-le, get-append)
 
 pub still_other : (log : List Entry) (entry : Entry) (index : ℕ) (same : Bool) → same ≡ false → GoesOn log (entry ∷ []) index same index false
 still_other log entry index true e = absurd (cc e)
@@ -31,22 +24,11 @@ still_other log entry index false e = λ talk h. still log talk (entry ∷ []) i
 -- the next entry is the same
 pub one_more : (log : List Entry) (entry next : Entry) (index : ℕ) (same : Bool) → same ≡ true → slice_get log index ≡ Some next → next ≡ entry
     → GoesOn log (entry ∷ []) index same (index + 1) true
-one_more log entry next index false e e_get e_next = absurd (cc e)
-one_more log entry next index true e e_get e_next = λ talk h. (
-  let one = length-append talk (entry ∷ []) in omega (arith, one, h.0),
-  ap (λ n. take n log) (add-one index) ∙ take_more log index next e_get ∙ ap (λ (l : List Entry). l ++ next ∷ []) h.1 ∙ ap (λ (x : Entry). talk ++ x ∷ []) e_next,
-)
+one_more log entry next index same h1 h2 h3 = grind (arith, length-append, add-one, take_more)
 
 -- the next entry is another one, or there is none
 pub now_other : (log : List Entry) (entry : Entry) (index : ℕ) (same : Bool) → slice_get log index ≢ Some entry → same ≡ true → GoesOn log (entry ∷ []) index same index false
-now_other log entry index false other e = absurd (cc e)
-now_other log entry index true other e = λ talk h. (
-  let one = length-append talk (entry ∷ []) in omega (arith, one, h.0),
-  record {
-    same_before = h.1 ∙ sym (ap (λ n. take n (talk ++ entry ∷ [])) h.0 ∙ take-append_seam talk (entry ∷ []));
-    other_there = λ eq. other (eq ∙ ap (slice_get (talk ++ entry ∷ [])) h.0 ∙ get-seam talk entry []);
-  },
-)
+now_other log entry index same h1 h2 = grind (arith, length-append, take-append_seam, get-seam)
 
 pub not_next : (log : List Entry) (index : ℕ) (next entry : Entry) → slice_get log index ≡ Some next → (next ≡ entry → ⊥) → slice_get log index ≢ Some entry
 not_next log index next entry e_get other e = other (cc (e_get, e))
@@ -80,12 +62,7 @@ pub record Found {B : Type 0} (old : Walker) (tree : Asking B) (result : B) (new
   pub goes_on : GoesOn old.log.now (asked (answer_of old.lane (seen_by old)) tree) old.index old.same new.index new.same
 
 found : {B : Type 0} (k : Walker) (index : ℕ) (same : Bool) (tree : Asking B) (result : B) (new : Walker) → Runs Answers (with_found k index same) tree result new → Found (with_found k index same) tree result new
-found k index same (Ready begun) result new r = record {
-  begun = r.1;
-  kept = r.0 ∙ ap (λ (x : Walker). with_found k x.index x.same) (sym r.0);
-  goes_on = λ talk h. subst (λ (x : Walker). IsCompared k.log.now (talk ++ []) x.index x.same) (sym r.0)
-      (subst (λ (l : List Entry). IsCompared k.log.now l index same) (sym (append-nil talk)) h);
-}
+found k index same (Ready begun) result new r = grind (arith, append-nil)
 found {B} k index same (Question ask next) result new r =
     let f = answer_of k.lane (seen_by k) in
     let here : Runs Answers (with_found k r.1.index r.1.same) (next r.0) result new = subst (λ (x : Walker). Runs Answers x (next r.0) result new) r.2.1 r.3 in
@@ -141,30 +118,15 @@ turned m number cycle lane round = record {
 
 turned_same : {S B : Type 0} (m : Meaning (Unit {0}) S B) (number number' cycle cycle' : ℕ) (lane lane' : S) (round round' : State)
     → number ≡ number' → cycle ≡ cycle' → lane ≡ lane' → round ≡ round' → turned m number cycle lane round ≡ turned m number' cycle' lane' round'
-turned_same {S} m number number' cycle cycle' lane lane' round round' e_number e_cycle e_lane e_round =
-    ap (λ n. turned m n cycle lane round) e_number ∙ ap (λ c. turned m number' c lane round) e_cycle
-    ∙ ap (λ (x : S). turned m number' cycle' x round) e_lane ∙ ap (λ (x : State). turned m number' cycle' lane' x) e_round
+turned_same {S} m number number' cycle cycle' lane lane' round round' e_number e_cycle e_lane e_round = search arith
 
 met_next : (test : ℕ → Bool) (k : ℕ) (ended ends : Bool) → IsMet test k ended → ends ≡ test k → IsMet test (suc k) (if ends then true else ended)
-met_next test k ended true h e = (k, omega arith, sym e)
-met_next test k true false h e = (h.0, omega (arith, h.1), h.2)
-met_next test k false false h e = λ j lt. elim (eqb_tells j k) [
-  | inl is ↦ ap test is.1 ∙ sym e
-  | inr is ↦ h j (omega (arith, lt, is.1))
-]
+met_next test k ended ends h1 h2 = grind (arith, eqb_tells)
 
 pub walk_first : {S B : Type 0} (m : Meaning (Unit {0}) S B) (before : S) (start : ℕ) (first : Walker) → first.words ≡ [] → first.index ≡ 0 → first.same ≡ true
     → IsWalked m before start first 0 before first false
 unfolding alone
-walk_first m before start first e_words e_index e_same = record {
-  is_state = refl;
-  is_around = refl;
-  is_compared = subst (λ (b : Bool). IsCompared first.log.now [] first.index b) (sym e_same) (e_index, ap (λ n. take n first.log.now) e_index);
-  is_ended = λ j lt. absurd (omega (arith, lt));
-  same_lane = refl;
-  same_log = refl;
-  few = rw e_words (omega arith);
-}
+walk_first m before start first e_words e_index e_same = grind arith
 
 walk_on : {S B : Type 0} (m : Meaning (Unit {0}) S B) (before : S) (start : ℕ) (first : Walker) (n : ℕ) (lane lane' : S) (k k' : Walker) (cycle : ℕ) (ended ends : Bool)
     → IsWalked m before start first n lane k ended → IsStepped m cycle lane lane' k k' ends → cycle ≡ start + n
@@ -201,12 +163,6 @@ pub ended_early : (test : ℕ → Bool) (cycles bound : ℕ) → IsMet test cycl
 ended_early test cycles bound h =
     (λ e. absurd (cc e), λ e. let no : test h.0 ≡ false = below_least test bound h.0 (omega (arith, e, h.1)) in absurd (cc (no, h.2)))
 
-pub too_long : (test : ℕ → Bool) (cycles bound : ℕ) → bound < cycles → Decides false (cycles ≡ least test bound)
-too_long test cycles bound lt = (λ e. absurd (cc e), λ e. let le = (least_meets test bound).within in absurd (omega (arith, lt, e, le)))
-
-pub full_length : (test : ℕ → Bool) (cycles bound : ℕ) → IsMet test cycles false → cycles ≡ bound → Decides true (cycles ≡ least test bound)
-full_length test cycles bound h e = (λ _. sym (is_least test bound cycles (omega (arith, e)) h (λ lt. absurd (omega (arith, lt, e)))), λ _. refl)
-
 pub ends_there : (test : ℕ → Bool) (cycles bound : ℕ) (last : Bool) → IsMet test cycles false → cycles < bound → last ≡ test cycles → Decides last (cycles ≡ least test bound)
 ends_there test cycles bound last h lt e = (
   λ is. sym (is_least test bound cycles (omega (arith, lt)) h (λ below. sym e ∙ is)),
@@ -223,14 +179,12 @@ length_ended m before start first cycles lane k ended bound h e =
 pub length_long : {S B : Type 0} (m : Meaning (Unit {0}) S B) (before : S) (start : ℕ) (first : Walker) (cycles bound : ℕ)
     → bound < cycles → Decides false (cycles ≡ alone_length m (around first.lane) tt before start (seen_by first) bound)
 unfolding alone_length
-length_long m before start first cycles bound lt = too_long (ends_at m (around first.lane) tt before start (seen_by first)) cycles bound lt
+length_long m before start first cycles bound lt = search (arith, least_meets)
 
 pub length_full : {S B : Type 0} (m : Meaning (Unit {0}) S B) (before : S) (start : ℕ) (first : Walker) (cycles : ℕ) (lane : S) (k : Walker) (ended : Bool) (bound : ℕ)
     → IsWalked m before start first cycles lane k ended → ended ≡ false → cycles ≡ bound → Decides true (cycles ≡ alone_length m (around first.lane) tt before start (seen_by first) bound)
 unfolding alone_length
-length_full m before start first cycles lane k ended bound h e e_bound =
-    let test = ends_at m (around first.lane) tt before start (seen_by first) in
-    full_length test cycles bound (subst (λ (b : Bool). IsMet test cycles b) e h.is_ended) e_bound
+length_full m before start first cycles lane k ended bound h e e_bound = search (arith, is_least)
 
 pub length_ends : {S B : Type 0} (m : Meaning (Unit {0}) S B) (before : S) (start : ℕ) (first : Walker) (cycles : ℕ) (lane : S) (k : Walker) (ended : Bool) (bound cycle : ℕ) (last : Bool)
     → IsWalked m before start first cycles lane k ended → ended ≡ false → cycles < bound → cycle ≡ start + cycles → last ≡ ends_now m (around k.lane) tt cycle lane (seen_by k)
@@ -252,22 +206,10 @@ unwritten k s e_words e_machine = ap (λ w. record k.machine.now { sram = patche
 pub walked_other : {S B : Type 0} (m : Meaning (Unit {0}) S B) (before : S) (start : ℕ) (first : Walker) (cycles : ℕ) (lane : S) (k : Walker) (ended : Bool) (s : State) (number : ℕ) (log : List Entry) (result : Option ℕ)
     → IsWalked m before start first cycles lane k ended → first.lane ≡ number → first.words ≡ [] → first.machine.now ≡ s → start ≡ s.cycle → first.log.now ≡ log
     → ((talk : List Entry) → IsCompared log talk k.index k.same → IsFirstOther log talk result) → IsFirstOther log (talk_alone m number before s cycles) result
-walked_other m before start first cycles lane k ended s number log result h e_lane e_words e_machine e_start e_log tells =
-    let e_seen = unwritten first s e_words e_machine in
-    let e : (alone m (around first.lane) tt before start (seen_by first) cycles).talk ≡ talk_alone m number before s cycles =
-    ap (λ n. (alone m (around n) tt before start (seen_by first) cycles).talk) e_lane
-    ∙ ap (λ (x : State). (alone m (around number) tt before start x cycles).talk) e_seen
-    ∙ ap (λ c. (alone m (around number) tt before c s cycles).talk) e_start in
-    tells (talk_alone m number before s cycles)
-    (subst (λ (l : List Entry). IsCompared l (talk_alone m number before s cycles) k.index k.same) e_log
-    (subst (λ (l : List Entry). IsCompared first.log.now l k.index k.same) e h.is_compared))
+walked_other m before start first cycles lane k ended s number log result h e_lane e_words e_machine e_start e_log tells = grind (arith, unwritten)
 
 pub walked_length : {S B : Type 0} (m : Meaning (Unit {0}) S B) (before : S) (start : ℕ) (first : Walker) (cycles : ℕ) (lane : S) (k : Walker) (ended : Bool) (s : State) (number bound : ℕ) (result : Bool)
     → IsWalked m before start first cycles lane k ended → first.lane ≡ number → first.words ≡ [] → first.machine.now ≡ s → start ≡ s.cycle
     → ((b : S) (f : Walker) → IsWalked m b start f cycles lane k ended → Decides result (cycles ≡ alone_length m (around f.lane) tt b start (seen_by f) bound))
     → Decides result (cycles ≡ alone_length m (around number) tt before s.cycle s bound)
-walked_length m before start first cycles lane k ended s number bound result h e_lane e_words e_machine e_start tells =
-    let e_seen = unwritten first s e_words e_machine in
-    subst (λ c. Decides result (cycles ≡ alone_length m (around number) tt before c s bound)) e_start
-    (subst (λ (x : State). Decides result (cycles ≡ alone_length m (around number) tt before start x bound)) e_seen
-    (subst (λ n. Decides result (cycles ≡ alone_length m (around n) tt before start (seen_by first) bound)) e_lane (tells before first h)))
+walked_length m before start first cycles lane k ended s number bound result h e_lane e_words e_machine e_start tells = grind (arith, unwritten)

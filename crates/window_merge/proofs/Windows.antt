@@ -1,11 +1,10 @@
 -- A window, cycle by cycle: where the machine, the six lanes and their logs stand.
-use Rattle.std.proofs.Common.{◌≡◌, ◌≢◌, ℕ, ◌+◌, ◌-◌, ◌<◌, ◌≤◌, Bool, true, false, not, ◌||◌, ◌&&◌, nat_eq, if◌then◌else◌, inl, inr, List, [], ◌∷◌, ◌++◌, length, length-append, None, refl, ap, sym, ◌∙◌, subst, add-one, below_more, arith}
-use Rattle.window_merge.proofs.Shared.{AreRunsAlone, Begun, IsWindow, KnowsSio, Mark, Master, SeenOutputs, Setting, Want, alone_length, answer_of, answered, around, asked_of, begun_by, cause_by, cause_of, clash, clash_in, closes, core_lane, differs, differs_by, differs_in, dma_lane, end_at, ends_in, ends_want, ends_wants, eqb-false, fits, has_hold, is_launching, is_least, leb_tells, left_by, logs_of, longest, marks_in, ne_eqb, not-true, or-true, or_parts, peripheral_lane, pio_lane, runs_follow, runs_of, share_port, states, wanted_in, wants_of, window_length}
+use Rattle.std.proofs.Common.{◌≡◌, ◌≢◌, ℕ, ◌+◌, ◌-◌, ◌<◌, ◌≤◌, Bool, true, false, not, ◌||◌, ◌&&◌, if◌then◌else◌, List, [], ◌∷◌, ◌++◌, length, length-append, None, refl, ap, sym, ◌∙◌, subst, add-one, below_more, arith}
+use Rattle.window_merge.proofs.Shared.{AreRunsAlone, Begun, IsWindow, KnowsSio, Mark, Master, SeenOutputs, Setting, Want, alone_length, answer_of, answered, around, asked_of, begun_by, cause_by, cause_of, clash, clash_in, closes, core_lane, differs, differs_by, differs_in, end_at, ends_in, ends_want, ends_wants, eqb-false, fits, has_hold, is_launching, is_least, leb_tells, left_by, logs_of, longest, marks_in, ne_eqb, not-true, or-true, or_parts, runs_follow, runs_of, states, wants_of, window_length}
 use Rattle.lane_look.specs.declared.lane.Want.TheVariants as want
 use Rattle.lane_look.specs.Replay.{told, left, talk, after_begun}
 use Rattle.m0_core.specs.Cycle as core
 use Rattle.dma_engine.specs.Cycle as dma
-use Rattle.pio_block.specs.Cycle as pio
 use Rattle.outer_lane.specs.Step as outer
 use Rattle.rp_machine.specs.State.{State}
 use Rattle.rp_machine.specs.Cycle.{begun, wanted, cause_in, stop, next_by, next, mark}
@@ -48,8 +47,7 @@ pub record Tries (w : Setting) (s : State) (k : ℕ) (now : State) (rests : Rest
 
 pub all_told : (w : Setting) (s : State) (k : ℕ) (now : State) (rests : Rests) (marks : List Mark) → Tries w s k now rests marks
     → AreTold w s k now rests
-all_told w s k now rests marks t =
-    on_each t.on (on_each t.stands.lanes (every (λ S B l h on. lane_told l w s k now rests h on t.stands.at)))
+all_told w s k now rests marks t = search (arith, on_each, every, lane_told)
 
 -- ---- whether the window goes on
 
@@ -62,50 +60,31 @@ joined_same v0 v1 v2 v3 v4 v5 u0 u1 u2 u3 u4 u5 e0 e1 e2 e3 e4 e5 = rw (e0, e1, 
 
 clash_here : (w : Setting) (s : State) (k : ℕ) (now : State) (rests : Rests) → AreTold w s k now rests
     → clash (wants_of (begun_by rests now)) ≡ clash_in (runs_of w s (longest w s)) k
-clash_here w s k now rests t = joined_same
-    (core.wanted (begun_by rests now).core0) (core.wanted (begun_by rests now).core1) (dma.wanted (begun_by rests now).dma) pio.wanted pio.wanted (outer.wanted (begun_by rests now).outer)
-    (wanted_in core_lane (around 0) tt s.core0 s.cycle s k) (wanted_in core_lane (around 1) tt s.core1 s.cycle s k) (wanted_in dma_lane (around 2) tt s.dma.block s.cycle s k)
-    (wanted_in pio_lane (around 3) tt s.pio0.block s.cycle s k) (wanted_in pio_lane (around 4) tt s.pio1.block s.cycle s k) (wanted_in (peripheral_lane w) (around 5) tt s.outer s.cycle s k)
-    t.core0.wanted_here t.core1.wanted_here t.dma.wanted_here t.pio0.wanted_here t.pio1.wanted_here t.outer.wanted_here
+clash_here w s k now rests t = grind (arith, joined_same)
 
 differs_here : (w : Setting) (s : State) (k : ℕ) (now : State) (rests : Rests) → AreTold w s k now rests
     → differs_by rests now ≡ differs_in (runs_of w s (longest w s)) now k
-differs_here w s k now rests t =
-    rw (t.core0.talk_here, t.core1.talk_here, t.dma.talk_here, t.pio0.talk_here, t.pio1.talk_here, t.outer.talk_here) refl
+differs_here w s k now rests t = grind arith
 
 -- whether the cycle fits is whether nothing differs and nothing clashes in it
 fits_here : (w : Setting) (s : State) (k : ℕ) (now : State) (rests : Rests) → now ≡ states w s k → AreTold w s k now rests
     → fits rests now ≡ not (differs_in (runs_of w s (longest w s)) (states w s k) k || clash_in (runs_of w s (longest w s)) k)
-fits_here w s k now rests e t =
-    ap (λ d. not (d || clash (wants_of (begun_by rests now))))
-    (differs_here w s k now rests t ∙ ap (λ x. differs_in (runs_of w s (longest w s)) x k) e)
-    ∙ ap (λ c. not (differs_in (runs_of w s (longest w s)) (states w s k) k || c)) (clash_here w s k now rests t)
+fits_here w s k now rests e t = cc
 
 -- a run ends at its length alone
 none_ends : (w : Setting) (s : State) (k : ℕ) → AreOn w s k → ends_in (runs_of w s (longest w s)) k ≡ false
-none_ends w s k on =
-    let e : Each w (λ S B l. nat_eq k (cycles_of l w s) ≡ false) = on_each on (every (λ S B l on. ne_eqb k _ on)) in
-    rw (e.core0, e.core1, e.dma, e.pio0, e.pio1, e.outer) refl
+none_ends w s k on = grind (arith, cycles_of, on_each, every, ne_eqb)
 
 pub on_of : (w : Setting) (s : State) (k : ℕ) → ends_in (runs_of w s (longest w s)) k ≡ false → AreOn w s k
-on_of w s k e =
-    let h = six_false _ _ _ _ _ _ e in
-    let off : Each w (λ S B l. nat_eq k (cycles_of l w s) ≡ false) =
-    record { core0 = h.0; core1 = h.1; dma = h.2; pio0 = h.3; pio1 = h.4; outer = h.5 } in
-    on_each off (every (λ S B l off. eqb-false k _ off))
+on_of w s k e = grind (arith, six_false, cycles_of, on_each, every, eqb-false)
 
 twice_not : (a b : Bool) → a ≡ not b → b ≡ not a
-twice_not a true e = ap not (sym e)
-twice_not a false e = ap not (sym e)
+twice_not a b h1 = grind arith
 
 closes_tried : (w : Setting) (s : State) (k : ℕ) (now : State) (rests : Rests) (marks : List Mark) → Tries w s k now rests marks
     → closes w s k ≡ not (fits rests now)
 unfolding closes
-closes_tried w s k now rests marks t =
-    let runs = runs_of w s (longest w s) in
-    rw (none_ends w s k t.on)
-    (twice_not (fits rests now) (differs_in runs (states w s k) k || clash_in runs k)
-    (fits_here w s k now rests t.stands.is_states (all_told w s k now rests marks t)))
+closes_tried w s k now rests marks t = search (arith, none_ends, twice_not, fits_here, all_told)
 
 -- ---- a cycle that fits
 
@@ -113,22 +92,14 @@ closes_tried w s k now rests marks t =
 apart_by : (c0 c1 r v : Want)
     → clash (c0 ∷ want.Nothing ∷ c1 ∷ want.Nothing ∷ r ∷ v ∷ want.Nothing ∷ want.Nothing ∷ want.Nothing ∷ want.Nothing ∷ want.Nothing ∷ want.Nothing ∷ []) ≡ false
     → Apart (asked_of c0) (asked_of c1) (asked_of r) (asked_of v)
-apart_by c0 c1 r v e =
-    let a = or_parts (share_port c0 c1) _ (sym (clash_four c0 c1 r v) ∙ e) in
-    let b = or_parts (share_port c0 r) _ a.1 in
-    let c = or_parts (share_port c0 v) _ b.1 in
-    let d = or_parts (share_port c1 r) _ c.1 in
-    let f = or_parts (share_port c1 v) (share_port r v) d.1 in
-    record { apart01 = a.0; apart02 = b.0; apart03 = c.0; apart12 = d.0; apart13 = f.0; apart23 = f.1 }
+apart_by c0 c1 r v e = grind (arith, or_parts, clash_four)
 
 -- no answer of a lane differs
 abbrev Same : Setting → Rests → State → Type 0
 Same w rests now = Each w (λ S B l. differs (answer_of l.number now) (talk (l.log rests) (tree l now)) ≡ false)
 
 all_same : (w : Setting) (rests : Rests) (now : State) → differs_by rests now ≡ false → Same w rests now
-all_same w rests now e =
-    let h = six_false _ _ _ _ _ _ e in
-    record { core0 = h.0; core1 = h.1; dma = h.2; pio0 = h.3; pio1 = h.4; outer = h.5 }
+all_same w rests now e = grind (arith, six_false)
 
 -- the lanes begin what the machine begins
 begins_same : (w : Setting) (s : State) (k : ℕ) (now : State) (rests : Rests) → AreTold w s k now rests → Same w rests now
@@ -140,10 +111,7 @@ begins_same w s k now rests t same =
     rw (e.core0, e.core1, e.dma, e.pio0, e.pio1, e.outer) refl
 
 pub first_ends : (v u : Want) → ends_wants (v ∷ u ∷ []) ≡ false → (ends_want v ≡ false) × (ends_want u ≡ false)
-first_ends v u e =
-    let a = or_parts (ends_want v) _ e in
-    let b = or_parts (ends_want u) _ a.1 in
-    (a.0, b.0)
+first_ends v u e = grind (arith, or_parts)
 
 all_go_on : (w : Setting) (s : State) (k : ℕ) (now : State) (rests : Rests) (marks : List Mark) → Tries w s k now rests marks
     → AllGoOn (begun_by rests now)
@@ -163,8 +131,7 @@ all_go_on w s k now rests marks t =
 launching_by : (c : Bool) (s : State) (bound k : ℕ)
     → k ≤ alone_length core_lane (around 1) tt s.core1 s.cycle s (if c then 0 else bound)
     → k ≢ alone_length core_lane (around 1) tt s.core1 s.cycle s (if c then 0 else bound) → c ≡ false
-launching_by true s bound k le on = let none = no_cycles core_lane 1 s.core1 s in absurd (on (omega (arith, none, le)))
-launching_by false s bound k le on = refl
+launching_by c s bound k h1 h2 = grind (arith, no_cycles)
 
 not_launching : (w : Setting) (s : State) (k : ℕ) (now : State) (rests : Rests) (marks : List Mark) → Tries w s k now rests marks
     → (now.core1.asleep && now.core1.offer) ≡ false
@@ -193,35 +160,21 @@ separate_here w s k now rests marks t same none =
 -- ---- such a cycle does not stop
 
 no_cause : (w : Setting) (seen : SeenOutputs) (m : Master) (v : Want) (s : State) → ends_want v ≡ false → cause_by w seen m v s ≡ None
-no_cause w seen m want.Nothing s e = refl
-no_cause w seen m (want.Ram request) s e = refl
-no_cause w seen m _ s e = absurd (cc e)
+no_cause w seen m v s h1 = grind arith
 
 pub none_stops : (w : Setting) (b : Begun) (s : State) → AllGoOn b → cause_in w b (wanted b) s ≡ None
 unfolding cause_in cause_of wanted
-none_stops w b s h =
-    rw (
-      no_cause w b.outer _ (core.want_of b.core0) s h.goes0,
-      no_cause w b.outer _ (core.want_of b.core1) s h.goes1,
-      no_cause w b.outer _ (dma.want_of b.dma.read) s h.goes_read,
-      no_cause w b.outer _ (dma.want_of b.dma.write) s h.goes_write,
-    ) refl
+none_stops w b s h = grind (arith, no_cause)
 
 pub runs_on : (w : Setting) (s : State) → s.cycle ≢ w.limit → AllGoOn (begun s) → stop w s ≡ None
 unfolding stop
 runs_on w s ne h = rw (ne_eqb s.cycle w.limit ne) (none_stops w (begun s) s h)
 
 pub short : (w : Setting) (s : State) → longest w s ≤ w.limit - s.cycle
-short w s = elim (leb_tells (w.limit - s.cycle) 256) [
-  | inl h ↦ rw h.0 (omega arith)
-  | inr h ↦ let more = h.1 in rw h.0 (omega arith)
-]
+short w s = grind (arith, leb_tells)
 
 pub at_most : (w : Setting) (s : State) → longest w s ≤ 256
-at_most w s = elim (leb_tells (w.limit - s.cycle) 256) [
-  | inl h ↦ let few = h.1 in rw h.0 (omega arith)
-  | inr h ↦ rw h.0 (omega arith)
-]
+at_most w s = grind (arith, leb_tells)
 
 -- ---- the next cycle
 
@@ -337,8 +290,7 @@ ends_run w s k now rests marks t below here =
 pub ends_full : (w : Setting) (s : State) (k : ℕ) (now : State) (rests : Rests) (marks : List Mark) → Stands w s k now rests marks
     → k ≡ longest w s → k ≡ window_length w s
 unfolding window_length
-ends_full w s k now rests marks t e =
-    sym (is_least (closes w s) (longest w s) k (omega (arith, e)) t.goes (λ lt. absurd (omega (arith, e, lt))))
+ends_full w s k now rests marks t e = grind (arith, is_least)
 
 -- where it ends it is the window
 pub is_window : {w : Setting} {s : State} {k : ℕ} {now : State} {rests : Rests} {marks : List Mark} → Stands w s k now rests marks
@@ -350,19 +302,11 @@ is_window h e = record { length = e; state = h.is_states; number = h.at; marked 
 -- the loop begins with all of their logs
 pub stands_at_first : (w : Setting) (s : State) (runs : Runs) (marks : List Mark) → has_hold s.fabric ≡ false → KnowsSio s
     → AreRunsAlone w s runs → marks ≡ [] → Stands w s 0 s (logs_of runs) marks
-stands_at_first w s runs marks free knows h e = stands_first w s _ marks free knows (record {
-  core0 = log_alone h.core0;
-  core1 = log_alone h.core1;
-  dma = log_alone h.dma;
-  pio0 = log_alone h.pio0;
-  pio1 = log_alone h.pio1;
-  outer = log_alone h.outer;
-}) e
+stands_at_first w s runs marks free knows h e = search (arith, stands_first, log_alone)
 
 -- some report has this length exactly where some run alone ends
 ends_as : (w : Setting) (s : State) (runs : Runs) (k : ℕ) → AreRunsAlone w s runs → ends_in (runs_of w s (longest w s)) k ≡ end_at runs k
-ends_as w s runs k h =
-    rw (← h.core0.same_length, ← h.core1.same_length, ← h.dma.same_length, ← h.pio0.same_length, ← h.pio1.same_length, ← h.outer.same_length) refl
+ends_as w s runs k h = grind arith
 
 pub ends_at_run : (w : Setting) (s : State) (runs : Runs) (k : ℕ) (now : State) (rests : Rests) (marks : List Mark)
     → AreRunsAlone w s runs → Stands w s k now rests marks → k < longest w s → end_at runs k ≡ true → k ≡ window_length w s
@@ -370,17 +314,9 @@ ends_at_run w s runs k now rests marks h t below e = ends_run w s k now rests ma
 
 pub tries_at : (w : Setting) (s : State) (runs : Runs) (k : ℕ) (now : State) (rests : Rests) (marks : List Mark)
     → AreRunsAlone w s runs → Stands w s k now rests marks → k < longest w s → end_at runs k ≡ false → Tries w s k now rests marks
-tries_at w s runs k now rests marks h t below e =
-    record { stands = t; on = on_of w s k (ends_as w s runs k h ∙ e); below = below }
+tries_at w s runs k now rests marks h t below e = grind (arith, on_of, ends_as)
 
 -- ---- at the length of each run alone a run ends
 
 pub they_end : (w : Setting) (s : State) → Each w (λ S B l. ends_in (runs_of w s (longest w s)) (cycles_of l w s) ≡ true)
-they_end w s = record {
-  core0 = rw itself refl;
-  core1 = rw (itself, or-true) refl;
-  dma = rw (itself, or-true, or-true) refl;
-  pio0 = rw (itself, or-true, or-true, or-true) refl;
-  pio1 = rw (itself, or-true, or-true, or-true, or-true) refl;
-  outer = rw (itself, or-true, or-true, or-true, or-true, or-true) refl;
-}
+they_end w s = grind (arith, itself, or-true)

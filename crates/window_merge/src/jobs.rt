@@ -64,6 +64,7 @@ pub fn job(machine: &Machine, job: &mut LaneJob)
 }
 
 /// Runs a lane alone, in the room of a report that has its state. Gives what is left of its copies.
+#[tactic(auto, using(crate::proofs::Copying::sram_kept))]
 fn run_lane<E, S: Lane<E>>(
     room: &mut Report<S>,
     env: &E,

@@ -49,6 +49,7 @@ fn any_shared(
 }
 
 /// Two of the masters' wants ask for one port.
+#[tactic(auto, using(crate::proofs::Comparing::clash_four), unfolding(rp_machine::specs::Cycle::wanted))]
 pub(crate) fn clash(begun: &Begun, wants: &[Wanted; 4]) -> bool
     requires { wants.now ≡ wanted begun.now }
     ensures { result ≡ clash (wants_of begun.now) }

@@ -40,6 +40,7 @@ fn ends_wanted(wants: &[Wanted; 4]) -> bool
 
 /// No run alone ends before a cycle in which the lanes have begun this and want that, and no two of its accesses name one port.
 #[inline(always)]
+#[tactic(auto, using(crate::proofs::InwardCycles::goes_first_alone))]
 pub(crate) fn goes_by(lanes: &Begun, wants: &[Wanted; 4]) -> bool
     requires { wants.now ≡ wanted lanes.now }
     ensures { result ≡ goes_by lanes.now }

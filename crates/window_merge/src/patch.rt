@@ -54,6 +54,7 @@ pub(crate) fn with_lanes(lanes: u8, value: u32, word: u32) -> u32
 }
 
 /// The last word of an index, looked for from the newest back; else this word.
+#[tactic(auto, using(crate::proofs::Patching::found_back, crate::proofs::Patching::passed_back))]
 pub(crate) fn last_of(words: &[(u32, u32)], index: u32, word: u32) -> u32
     ensures { result ≡ last_of words.now index word }
 {
@@ -92,6 +93,7 @@ impl WordLog {
     }
 
     /// The word of an index: the one that was written last, or else that of SRAM.
+    #[tactic(auto, using(crate::proofs::Patching::read_last))]
     pub(crate) fn read(&self, ram: &Ram, index: u32) -> u32
         requires { index < 67584 }
         ensures { result ≡ slice_index (patched self.now ram.now) index }
@@ -100,6 +102,7 @@ impl WordLog {
     }
 
     /// Writes some byte lanes of a word.
+    #[tactic(auto, using(crate::proofs::Patching::write_more))]
     fn write(&mut self, ram: &Ram, index: u32, lanes: u8, value: u32)
         requires index { index < 67584 }
         requires room { length self.old < ROOM }

@@ -17,6 +17,7 @@ use std::sync::ledger::Ledger;
 /// Goes over as many windows of 256 cycles as nobody has anything to do in, and counts their cycles as steps. Gives how many windows they
 /// are. `lanes` has what the lanes begin in the next cycle, before and after.
 #[inline(never)]
+#[tactic(auto, using(crate::proofs::WaitingCycles::no_window, quiet_run::proofs::Passing::no_states))]
 pub fn pass_windows<X: Device, L: Ledger>(
     machine: &mut Machine,
     world: &World<'_, X>,

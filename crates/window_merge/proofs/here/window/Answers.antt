@@ -32,8 +32,3 @@ returns-then-not-goes_by-clause-length g c =
     closed_later w s 0 s _ _ _ (passes_none w s (record { free = c.requires.free; knows = known.knows; long = known.sram })
     (sym (subst family c.machine.view_is c.is_launching.ensures) ∙ c.if-is_launching.false)) (omega (arith, some, most))
     (goes_first_on w s ∙ sym (c.goes_by.ensures ∙ ap goes_by c.requires.begun) ∙ c.if-not-goes_by.true)
-
-pub go-requires-clause-launching : goal.go-requires-clause-launching
-go-requires-clause-launching g c κs within =
-    let family : State → Type 0 = λ s. c.is_launching.result ≡ is_launching s.core1 in
-    sym (subst family c.machine.view_is c.is_launching.ensures) ∙ c.if-is_launching.false

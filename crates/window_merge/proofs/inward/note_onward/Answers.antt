@@ -10,11 +10,6 @@ loop-done-init g c = record {
   room = room_fewer c.args.notes.now (3 * c.args.most) (3 * (c.args.most - 0)) c.requires.room (omega arith);
 }
 
-pub keep_onward-requires-clause-room : goal.keep_onward-requires-clause-room
-keep_onward-requires-clause-room g c =
-    let below = c.loop-done-test.true in
-    room_fewer c.loop-done.notes (3 * (c.args.most - c.loop-done.done)) 3 c.loop-done.invariant.room (omega (arith, below))
-
 pub loop-done-preserved : goal.loop-done-preserved
 loop-done-preserved g c =
     let i = c.loop-done.invariant in

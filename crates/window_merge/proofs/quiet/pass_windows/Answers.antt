@@ -1,18 +1,6 @@
-use Rattle.window_merge.proofs.Shared.{CopiesAgree, arith, fewer_parts, no_states, refl, setting, subst, sym, ◌*◌, ◌/◌, ◌<◌}
-use Rattle.window_merge.proofs.WaitingCycles.{no_window, quiet_windows}
+use Rattle.window_merge.proofs.Shared.{CopiesAgree, arith, fewer_parts, setting, subst, ◌*◌, ◌/◌, ◌<◌}
+use Rattle.window_merge.proofs.WaitingCycles.{quiet_windows}
 use Rattle.window_merge.proofs.quiet.pass_windows.Goals as goal
-
-pub returns-then-not-is_waiting-clause-state : goal.returns-then-not-is_waiting-clause-state
-returns-then-not-is_waiting-clause-state g c = sym (no_states (setting g.X.Device.meaning c.args.world.now) c.args.machine.now 0 refl)
-
-pub returns-then-not-is_waiting-clause-quiet : goal.returns-then-not-is_waiting-clause-quiet
-returns-then-not-is_waiting-clause-quiet g c = no_window (setting g.X.Device.meaning c.args.world.now) c.args.machine.now
-
-pub returns-then-windows-eq0-clause-state : goal.returns-then-windows-eq0-clause-state
-returns-then-windows-eq0-clause-state g c = sym (no_states (setting g.X.Device.meaning c.args.world.now) c.args.machine.now 0 refl)
-
-pub returns-then-windows-eq0-clause-quiet : goal.returns-then-windows-eq0-clause-quiet
-returns-then-windows-eq0-clause-quiet g c = no_window (setting g.X.Device.meaning c.args.world.now) c.args.machine.now
 
 pub pass-requires-clause-quiet : goal.pass-requires-clause-quiet
 pass-requires-clause-quiet g c κs within =
