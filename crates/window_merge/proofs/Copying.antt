@@ -121,6 +121,3 @@ sram_kept m env before start c zero = refl
 sram_kept m env before start c (suc k) =
     let r = alone m copied env before start c k in
     wants_kept r.around (m.wanted (begun_alone m copied env (start + k) r.state r.around)) ∙ sram_kept m env before start c k
-
-pub same_sram : {S : Type 0} (r t : Alone S Copies) → r ≡ t → is_some r.around.ram ≡ is_some t.around.ram
-same_sram {S} r t e = ap (λ (x : Alone S Copies). is_some x.around.ram) e

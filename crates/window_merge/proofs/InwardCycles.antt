@@ -177,11 +177,6 @@ alike_by w notes s lines clean rests none =
 clash_none : (v : Want) → clash (v ∷ want.Nothing ∷ want.Nothing ∷ want.Nothing ∷ want.Nothing ∷ want.Nothing ∷ want.Nothing ∷ want.Nothing ∷ want.Nothing ∷ want.Nothing ∷ want.Nothing ∷ want.Nothing ∷ []) ≡ false
 clash_none v = clash_four v want.Nothing want.Nothing want.Nothing ∙ rw (shares_none v, shares_none want.Nothing) refl
 
--- those of core 0, core 1 and the DMA engine
-abbrev wants_with : Want → Want → Want → Want → List Want
-wants_with v v1 read write =
-    v ∷ want.Nothing ∷ v1 ∷ want.Nothing ∷ read ∷ write ∷ want.Nothing ∷ want.Nothing ∷ want.Nothing ∷ want.Nothing ∷ want.Nothing ∷ want.Nothing ∷ []
-
 -- no other master wants anything
 pub apart_alone : (b : Begun) → is_first_alone (wanted b) ≡ true → clash (wants_of b) ≡ false
 unfolding wanted

@@ -49,7 +49,7 @@ still_same : {B : Type 0} (same : Bool) (f g : Ask → ℕ) (question : Ask) (ne
 still_same {B} same f g question next = search (arith, eqb_tells, all_same, itself, ne_eqb)
 
 -- what was begun, and whether the start answers the same
-runs_match : {B : Type 0} (old : Matcher) (tree : Asking B) (result : B) (new : Matcher) → Runs matched old tree result new
+pub runs_match : {B : Type 0} (old : Matcher) (tree : Asking B) (result : B) (new : Matcher) → Runs matched old tree result new
     → IsBegun old.lane old.start.now old.notes.now old.machine.now tree old.same result new.same
 runs_match old (Ready begun) result new r = search (arith, and-true)
 runs_match old (Question question next) result new r =
@@ -61,9 +61,3 @@ runs_match old (Question question next) result new r =
     let there : Runs matched mid (next (f question)) result new = subst (λ (y : ℕ). Runs matched mid (next y) result new) r.2.0 here in
     let rest = runs_match mid (next (f question)) result new there in
     record { begun = rest.begun; same = rest.same ∙ still_same old.same f g question next }
-
--- where the lane asks by a state
-pub begins_in : {B : Type 0} (old : Matcher) (asks : State → Asking B) (s t : State) (result : B) (new : Matcher) → s ≡ t
-    → Runs matched old (asks s) result new
-    → IsBegun old.lane old.start.now old.notes.now old.machine.now (asks t) old.same result new.same
-begins_in old asks s t result new e r = search (arith, runs_match)

@@ -1,5 +1,5 @@
 -- The first entry in which a true report differs from its lane's run alone has the same question, and another answer.
-use Rattle.std.proofs.Common.{◌≡◌, ◌⊎◌, ℕ, zero, suc, ◌+◌, inl, inr, List, [], ◌∷◌, ◌++◌, Option, Some, None, refl}
+use Rattle.std.proofs.Common.{◌≡◌, ◌⊎◌, ℕ, zero, suc, ◌+◌, inl, inr, List, [], ◌∷◌, ◌++◌, refl}
 use Rattle.window_merge.proofs.Shared.{Ask, Asking, DifferAt, IsTrue, OtherAnswerAt, Question, Ready, Report, alone, answer_of, answered, arith, around, cases_lt, eqb_tells, replay_of, slice_get_within, subst, take-append-le, talk_alone}
 use Rattle.lane_look.specs.Replay.{Meaning, Entry, first_answer, others, told, talk, asked, replayed}
 use Rattle.rp_machine.specs.State.{State}
@@ -77,10 +77,6 @@ stands m lane s report zero = inl (record { same_state = refl; same_talk = refl 
 stands m lane s report (suc k) = stands_next m lane s report k (stands m lane s report k)
 
 -- ---- the first entry that differs
-
-abbrev answer_in : Option Entry → ℕ
-answer_in None = 0
-answer_in (Some entry) = entry.1
 
 same_index : (log run : List Entry) (n p : ℕ) → DifferAt log run n → OtherAnswerAt log run p → p ≡ n
 same_index log run n p d o = search (arith, cases_lt, get-take)

@@ -51,21 +51,6 @@ all_told w s k now rests marks t = search (arith, on_each, every, lane_told)
 
 -- ---- whether the window goes on
 
--- the wants of six lanes, one after another
-abbrev joined : List Want → List Want → List Want → List Want → List Want → List Want → List Want
-joined v0 v1 v2 v3 v4 v5 = v0 ++ (v1 ++ (v2 ++ (v3 ++ (v4 ++ (v5 ++ [])))))
-
-joined_same : (v0 v1 v2 v3 v4 v5 u0 u1 u2 u3 u4 u5 : List Want) → v0 ≡ u0 → v1 ≡ u1 → v2 ≡ u2 → v3 ≡ u3 → v4 ≡ u4 → v5 ≡ u5 → clash (joined v0 v1 v2 v3 v4 v5) ≡ clash (joined u0 u1 u2 u3 u4 u5)
-joined_same v0 v1 v2 v3 v4 v5 u0 u1 u2 u3 u4 u5 e0 e1 e2 e3 e4 e5 = rw (e0, e1, e2, e3, e4, e5) refl
-
-clash_here : (w : Setting) (s : State) (k : ℕ) (now : State) (rests : Rests) → AreTold w s k now rests
-    → clash (wants_of (begun_by rests now)) ≡ clash_in (runs_of w s (longest w s)) k
-clash_here w s k now rests t = grind (arith, joined_same)
-
-differs_here : (w : Setting) (s : State) (k : ℕ) (now : State) (rests : Rests) → AreTold w s k now rests
-    → differs_by rests now ≡ differs_in (runs_of w s (longest w s)) now k
-differs_here w s k now rests t = grind arith
-
 -- whether the cycle fits is whether nothing differs and nothing clashes in it
 fits_here : (w : Setting) (s : State) (k : ℕ) (now : State) (rests : Rests) → now ≡ states w s k → AreTold w s k now rests
     → fits rests now ≡ not (differs_in (runs_of w s (longest w s)) (states w s k) k || clash_in (runs_of w s (longest w s)) k)

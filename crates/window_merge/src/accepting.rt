@@ -191,6 +191,7 @@ fn stranger_at(report: &LaneReport, entry: Option<u16>) -> Stranger
 /// # Errors
 ///
 /// The report is a stranger, with the first entry of its log that tells, or the number of all its entries.
+#[tactic(auto, using(crate::proofs::Verdicts::by_limit, crate::proofs::Verdicts::is_stranger))]
 pub fn accept(machine: &Machine, report: &LaneReport) -> Result<(), Stranger>
     ensures alone { (w : Setting) → IsTrueIn w report.now
         → Decides (is_ok result) (IsAlone w machine.now report.now) }

@@ -15,6 +15,7 @@ use std::sync::ledger::Ledger;
 /// Moves the machine to a cycle, or to the cycle below it at which it stops. None where it then stands at that cycle, also where it
 /// would stop there, and else the stop. Each cycle counts as a step. It takes no memory, and leaves the crew, which one thread
 /// does not need.
+#[tactic(auto, using(rp_machine::proofs::Runs::next_cycle))]
 pub fn advance_alone<X: Device, L: Ledger>(
     machine: &mut Machine,
     world: &World<'_, X>,

@@ -26,6 +26,7 @@ use std::sync::ledger::Ledger;
 /// Moves the machine by a window of at most so many cycles. Gives how many it has. `lanes` has what the lanes begin in the next cycle, before
 /// and after.
 #[inline(never)]
+#[tactic(auto, using(crate::proofs::Passing::passes_none, crate::proofs::Passing::along))]
 fn go<X: Device, L: Ledger>(
     machine: &mut Machine,
     world: &World<'_, X>,
@@ -71,7 +72,7 @@ fn go<X: Device, L: Ledger>(
 /// Moves the machine by a window: as far as its lanes, each alone from its state, would go the machine's way. Gives the
 /// window's length. The marks of its cycles are left in `marks`, each counts as one of the steps, `notes` is room for what it
 /// writes to SRAM, `pace` is that of all windows of a run, and `lanes` has what the lanes begin in the next cycle, before and after.
-#[tactic(auto, unfolding(rp_machine::specs::Run::states, crate::specs::Merging::marks_in))]
+#[tactic(auto, using(crate::proofs::Passing::closed_at_once, crate::proofs::Passing::closed_launching), unfolding(rp_machine::specs::Run::states, crate::specs::Merging::marks_in))]
 pub fn window<X: Device, L: Ledger>(
     machine: &mut Machine,
     world: &World<'_, X>,

@@ -92,6 +92,7 @@ fn note_onward<L: Ledger>(
 }
 
 /// Marks so many cycles in which no frame ends and the pads have these levels.
+#[tactic(auto, using(crate::proofs::InwardCycles::same_none))]
 fn mark_each(marks: &mut Marks, pads: u32, n: u64)
     requires { length marks.old + n ≤ 256 }
     ensures { marks.new ≡ marks.old ++ same_marks n

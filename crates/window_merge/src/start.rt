@@ -152,6 +152,7 @@ impl Look for Matcher<'_> {
 
 /// Begins the cycle of a lane of that number, and compares each answer with that of the start: `same` stays where each is.
 #[inline(always)]
+#[tactic(auto, using(crate::proofs::Starting::runs_match))]
 fn begin_by<E, S: Lane<E>>(
     lane: &S,
     env: &E,
@@ -200,6 +201,7 @@ fn begin_matched(core: &Core, cycle: u64, lines: u32, look: &mut Matcher<'_>, be
 
 /// Begins the cycle of a core of that number so, in the place of what it began before.
 #[inline(always)]
+#[tactic(auto, using(crate::proofs::Starting::runs_match))]
 fn begin_core(
     core: &Core,
     number: u8,
@@ -225,6 +227,7 @@ fn begin_core(
 
 /// Begins the cycle of the DMA engine so, in the place of what it began before.
 #[inline(always)]
+#[tactic(auto, using(crate::proofs::Starting::runs_match))]
 fn begin_dma(
     machine: &Machine,
     start: &Start,
@@ -267,6 +270,7 @@ fn begin_core1(machine: &Machine, start: &Start, notes: &Notes, core1: &mut Doin
 
 /// Begins the cycle of the peripherals so.
 #[inline(always)]
+#[tactic(auto, using(crate::proofs::Starting::runs_match))]
 fn begin_outer<X: Device>(
     machine: &Machine,
     world: &World<'_, X>,

@@ -149,6 +149,7 @@ fn ends_wants(wants: &[Want; 2]) -> bool
 
 /// One cycle of a lane, as it is where it runs alone. Gives whether the run ends before this cycle. What was in `marks` is of no
 /// use, and what is left there too.
+#[tactic(auto, using(crate::proofs::Walking::runs_found))]
 fn step<S: Lane<()>>(
     lane: &mut S,
     cycle: u64,
@@ -168,6 +169,7 @@ fn step<S: Lane<()>>(
 }
 
 /// So many cycles of a lane. Gives whether the run ends before one of these cycles.
+#[tactic(auto, using(crate::proofs::Walking::walk_first))]
 fn walk<S: Lane<()>>(lane: &mut S, start: u64, cycles: u16, walker: &mut Walker<'_, '_>) -> bool
     requires cycles { cycles ≤ 256 }
     requires number { start + cycles < 2 ^ 64 }
@@ -197,6 +199,7 @@ fn ends_here<S: Lane<()>>(lane: &S, cycle: u64, walker: &mut Walker<'_, '_>) -> 
 }
 
 /// Whether the run alone has as many cycles as were walked, where it has at most so many.
+#[tactic(auto, using(crate::proofs::Walking::length_ended, crate::proofs::Walking::length_full))]
 fn is_length<S: Lane<()>>(
     lane: &S,
     start: u64,

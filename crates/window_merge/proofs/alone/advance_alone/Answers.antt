@@ -1,5 +1,4 @@
-use Rattle.window_merge.proofs.Shared.{ap, arith, next_cycle, setting_of, sym, ◌∙◌}
-use Rattle.rp_machine.specs.State.{State}
+use Rattle.window_merge.proofs.Shared.{arith, setting_of, sym, ◌∙◌}
 use Rattle.window_merge.proofs.Going.{way_first, way_cycle, way_stopped}
 use Rattle.window_merge.proofs.alone.advance_alone.Goals as goal
 
@@ -13,14 +12,6 @@ returns-in-Some-clause-state g c =
     let w = setting_of c.args.world.now.script.now (g.X.Device.meaning c.args.world.now.device.now) c.args.world.now.limit in
     c.in-Some.ensures.state
     ∙ way_stopped w c.args.machine.now c.args.to c.loop-marks.machine c.args.steps.now c.loop-marks.steps c.in-Some.why c.loop-marks.invariant (sym c.in-Some.ensures.cause)
-
-pub loop-marks-smaller : goal.loop-marks-smaller
-loop-marks-smaller g c =
-    let w = setting_of c.args.world.now.script.now (g.X.Device.meaning c.args.world.now.device.now) c.args.world.now.limit in
-    let at = ap (λ (t : State). t.cycle) c.in_default.ensures.state ∙ next_cycle w c.loop-marks.machine in
-    let below = c.loop-marks-test.true in
-    let number = c.number.ensures in
-    omega (arith, at, below, number)
 
 pub loop-marks-preserved : goal.loop-marks-preserved
 loop-marks-preserved g c =

@@ -2,38 +2,12 @@ use Rattle.window_merge.proofs.Shared.{IsWindow, ap, arith, begun, setting, subs
 use Rattle.std.proofs.lemmas.List.{append-nil}
 use Rattle.rp_machine.specs.State.{State}
 use Rattle.window_merge.proofs.Windows.{at_most}
-use Rattle.window_merge.proofs.Passing.{passes_none, along, along_none, closed_later, closed_full, passes_later, has_room}
+use Rattle.window_merge.proofs.Passing.{along_none, closed_later, closed_full, passes_later, has_room}
 use Rattle.window_merge.proofs.InwardCycles.{same_first, start_first}
 use Rattle.window_merge.proofs.here.go.Goals as goal
 
-pub cycles-init : goal.cycles-init
-cycles-init g c =
-    let known = c.fact_copies_are_known.ensures in
-    record {
-      passes = rw (c.of-start.ensures, c.clear.ensures, c.requires.marks)
-          (passes_none (setting g.X.Device.meaning c.args.world.now) c.args.machine.now
-          (record { free = c.requires.free; knows = known.knows; long = known.sram }) c.requires.launching);
-      within = omega arith;
-      first = λ zero. c.requires.begun;
-      counted = omega arith;
-    }
-
 pub go_paced-more-requires-clause-first : goal.go_paced-more-requires-clause-first
 go_paced-more-requires-clause-first g c κs within = λ zero. start_first c.cycles.invariant.passes zero
-
-pub cycles-preserved-then-more-gt0 : goal.cycles-preserved-then-more-gt0
-cycles-preserved-then-more-gt0 g c =
-    let m = c.go_paced-more.ensures in
-    let some = c.if-more-gt0.true in
-    let few = m.most in
-    let below = c.cycles-test.true in
-    let most = c.requires.most in
-    record {
-      passes = along c.cycles.invariant.passes m.gone (omega (arith, few, below, most));
-      within = omega (arith, few, below);
-      first = λ zero. absurd (omega (arith, zero, some));
-      counted = let before = c.cycles.invariant.counted in let more = m.steps in omega (arith, before, more);
-    }
 
 pub try_later-requires-clause-first : goal.try_later-requires-clause-first
 try_later-requires-clause-first g c κs within = λ zero.

@@ -1,25 +1,8 @@
 use Rattle.window_merge.proofs.Shared.{ap, arith, goes_by, is_launching, setting, subst, sym, ◌∙◌, ◌≡◌}
 use Rattle.rp_machine.specs.State.{State}
-use Rattle.window_merge.proofs.Passing.{passes_none, closed_at_once, closed_launching, closed_later}
+use Rattle.window_merge.proofs.Passing.{passes_none, closed_later}
 use Rattle.window_merge.proofs.InwardCycles.{goes_first_on}
 use Rattle.window_merge.proofs.here.window.Goals as goal
-
-pub returns-then-most-eq0-clause-length : goal.returns-then-most-eq0-clause-length
-returns-then-most-eq0-clause-length g c =
-    let known = c.fact_copies_are_known.ensures in
-    closed_at_once (setting g.X.Device.meaning c.args.world.now) c.args.machine.now
-    (record { free = c.requires.free; knows = known.knows; long = known.sram })
-    (sym c.longest-most.ensures.value ∙ c.if-most-eq0.true)
-
-pub returns-then-is_launching-clause-length : goal.returns-then-is_launching-clause-length
-returns-then-is_launching-clause-length g c =
-    let known = c.fact_copies_are_known.ensures in
-    let some = c.if-most-eq0.false in
-    let most = c.longest-most.ensures.value in
-    let family : State → Type 0 = λ s. c.is_launching.result ≡ is_launching s.core1 in
-    closed_launching (setting g.X.Device.meaning c.args.world.now) c.args.machine.now
-    (record { free = c.requires.free; knows = known.knows; long = known.sram }) (omega (arith, some, most))
-    (sym (subst family c.machine.view_is c.is_launching.ensures) ∙ c.if-is_launching.true)
 
 pub returns-then-not-goes_by-clause-length : goal.returns-then-not-goes_by-clause-length
 returns-then-not-goes_by-clause-length g c =

@@ -1,18 +1,10 @@
 use Rattle.window_merge.proofs.Shared.{ap, arith, meaning, ℕ, ◌+◌, ◌<◌, ◌≡◌}
-use Rattle.window_merge.proofs.Walking.{length_ended, length_long, length_full, length_ends}
+use Rattle.window_merge.proofs.Walking.{length_long, length_ends}
 use Rattle.window_merge.proofs.walk.is_length.Goals as goal
-
-pub returns-then-ended : goal.returns-then-ended
-returns-then-ended g c = λ before first h.
-    length_ended (meaning g.S.Lane.asks g.S.Lane.wanted g.S.Lane.next g.S.Lane.marked) before c.args.start first c.args.cycles c.args.lane.now c.args.walker.now c.args.ended c.args.at_most h c.if-ended.true
 
 pub returns-then-at_most-cycles : goal.returns-then-at_most-cycles
 returns-then-at_most-cycles g c = λ before first h.
     length_long (meaning g.S.Lane.asks g.S.Lane.wanted g.S.Lane.next g.S.Lane.marked) before c.args.start first c.args.cycles c.args.at_most c.if-at_most-cycles.true
-
-pub returns-then-cycles-at_most : goal.returns-then-cycles-at_most
-returns-then-cycles-at_most g c = λ before first h.
-    length_full (meaning g.S.Lane.asks g.S.Lane.wanted g.S.Lane.next g.S.Lane.marked) before c.args.start first c.args.cycles c.args.lane.now c.args.walker.now c.args.ended c.args.at_most h c.if-ended.false c.if-cycles-at_most.true
 
 pub returns : goal.returns
 returns g c = λ before first h.

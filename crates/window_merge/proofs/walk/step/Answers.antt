@@ -1,13 +1,6 @@
-use Rattle.std.proofs.Common.{length, ap, arith}
-use Rattle.window_merge.proofs.Shared.{Walker, meaning}
+use Rattle.window_merge.proofs.Shared.{meaning}
 use Rattle.window_merge.proofs.Walking.{runs_found, stepped}
 use Rattle.window_merge.proofs.walk.step.Goals as goal
-
-pub store-requires : goal.store-requires
-store-requires g c =
-    let found = runs_found c.args.walker.now (g.S.Lane.asks tt c.args.lane.now c.args.cycle) c.begin-begun.result c.begin-begun.new.look c.begin-begun.ensures in
-    let same = ap (λ (x : Walker). length x.words) found.kept in
-    let room = c.requires in omega (arith, same, room)
 
 pub returns : goal.returns
 returns g c =

@@ -1,10 +1,7 @@
 use Rattle.window_merge.proofs.Shared.{ap, meaning, ℕ, ◌+◌, ◌≡◌}
-use Rattle.window_merge.proofs.Walking.{walk_first, walk_next}
+use Rattle.window_merge.proofs.Walking.{walk_next}
 use Rattle.window_merge.proofs.walk.walk.Goals as goal
 use Rattle.window_merge.proofs.walk.walk.Goals.{then-step, else-step}
-
-pub loop-k-init : goal.loop-k-init
-loop-k-init g c = walk_first (meaning g.S.Lane.asks g.S.Lane.wanted g.S.Lane.next g.S.Lane.marked) c.args.lane.now c.args.start c.args.walker.now c.requires.words c.requires.index c.requires.same
 
 pub loop-k-preserved : goal.loop-k-preserved
 loop-k-preserved g c =
