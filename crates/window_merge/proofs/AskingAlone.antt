@@ -4,7 +4,6 @@ use Rattle.lane_look.specs.Replay.{Entry, asked}
 use Rattle.outer_lane.specs.State.{State as OuterState}
 use Rattle.outer_lane.specs.Step.{next_by, next, pads_by, asks_second, asks}
 use Rattle.rp_machine.specs.State.{State}
-use Rattle.window_merge.proofs.Copying.{first_same}
 
 -- a cycle changes no function of a pin
 uses_same : (w : Setting) (s : OuterState) (seen : SeenOutputs) → questions_of (next w s seen) ≡ questions_of s
@@ -54,4 +53,4 @@ talk_same w lane before start s k = sym (asks_same w lane before start s k).same
 pub length_asking : (w : Setting) (lane : ℕ) (before : OuterState) (start : ℕ) (s : State) (bound : ℕ)
     → alone_length asking_lane (around lane) tt (questions_of before) start s bound ≡ alone_length (peripheral_lane w) (around lane) tt before start s bound
 unfolding alone_length least ends_at
-length_asking w lane before start s bound = search (arith, first_same)
+length_asking w lane before start s bound = search arith

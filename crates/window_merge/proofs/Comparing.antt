@@ -3,7 +3,6 @@ use Rattle.window_merge.proofs.Shared.{Ask, Bool, Question, Ready, Want, [], and
 use Rattle.lane_look.specs.Asking.{Asking, Runs}
 use Rattle.lane_look.specs.declared.lane.Want.TheVariants as want
 use Rattle.lane_look.specs.Replay.{first_answer, others, told, left, talk}
-use Rattle.rp_machine.specs.State.{State}
 use Rattle.window_merge.specs.declared.compare.Comparer.{Comparer}
 use Rattle.window_merge.proofs.Agree.{all_same}
 
@@ -16,7 +15,7 @@ pub record Both {B : Type 0} (old : Comparer) (tree : Asking B) (result : B) (ne
 abbrev ByBoth : Comparer → Ask → ℕ → Comparer → Type 0
 ByBoth old ask answer new = (answer ≡ first_answer old.rest) × (new ≡ record old { rest = others old.rest; same = old.same && nat_eq (answer_of old.lane old.machine.now ask) answer })
 
-runs_both : {B : Type 0} (old : Comparer) (tree : Asking B) (result : B) (new : Comparer) → Runs ByBoth old tree result new → Both old tree result new
+pub runs_both : {B : Type 0} (old : Comparer) (tree : Asking B) (result : B) (new : Comparer) → Runs ByBoth old tree result new → Both old tree result new
 runs_both old (Ready begun) result new r = search (arith, and-true)
 runs_both old (Question ask next) result new r =
     let f = answer_of old.lane old.machine.now in
@@ -31,11 +30,6 @@ runs_both old (Question ask next) result new r =
       left_over = rest.left_over;
       is_same = rest.is_same ∙ all_same old.same (nat_eq (f ask) x) (differs f (talk (others old.rest) (next x)));
     }
-
--- where the lane asks by a state
-pub both_in : {B : Type 0} (old : Comparer) (asks : State → Asking B) (s t : State) (result : B) (new : Comparer) → s ≡ t
-    → Runs ByBoth old (asks s) result new → Both old (asks t) result new
-both_in old asks s t result new e r = subst (λ (x : State). Both old (asks x) result new) e (runs_both old (asks s) result new r)
 
 -- ---- four wants among twelve
 

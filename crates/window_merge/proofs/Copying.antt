@@ -1,5 +1,5 @@
 -- A lane that runs alone by copies goes the way of one that runs alone in the state that was copied.
-use Rattle.window_merge.proofs.Shared.{Ask, Asking, Bool, Copies, IsRunAlone, List, Mark, None, Question, RanIn, Ready, Report, Setting, Some, Want, [], answer_of, answered, answered_same, ap, around, asks_sram, block_lines, copied, copied_answer, copied_store, copies_of, if◌then◌else◌, inputs_of, is_some, lines_of, outs_of, pacing_of, peripheral_lane, pio_lane, refl, stored, stored_by, suc, true, zero, ℕ, ◌+◌, ◌==◌, ◌∙◌, ◌∷◌, ◌≡◌, arith}
+use Rattle.window_merge.proofs.Shared.{Ask, Asking, Bool, Copies, IsRunAlone, List, Mark, None, Question, RanIn, Ready, Report, Setting, Some, Want, [], answer_of, answered, answered_same, ap, around, asks_sram, block_lines, copied, copied_answer, copied_store, copies_of, if◌then◌else◌, inputs_of, is_some, lines_of, outs_of, pacing_of, peripheral_lane, pio_lane, refl, stored_by, suc, true, zero, ℕ, ◌+◌, ◌==◌, ◌∙◌, ◌∷◌, ◌≡◌, arith}
 use Rattle.lane_look.specs.declared.lane.Ask.TheVariants as ask
 use Rattle.lane_look.specs.Replay.{Meaning, Entry, asked, after_begun, marks_with}
 use Rattle.lane_look.specs.Alone.{Surroundings, Alone, all_stored, begun_alone, alone, ends_at, first_from, least, alone_length}

@@ -45,6 +45,7 @@ impl<'a, 'b> Look for Comparer<'a, 'b> {
 /// Begins a lane's cycle by what is left of a log, and compares the answers with the machine's: `same` stays where each is the same. Gives
 /// also what is left then.
 #[inline(always)]
+#[tactic(auto, using(crate::proofs::Comparing::runs_both))]
 fn begin_compared<'a, E, S: Lane<E>>(
     lane: &S,
     env: &E,

@@ -83,6 +83,7 @@ pub(crate) fn fact_copies_are_known(machine: &Machine)
 
 /// Moves the machine by the window of six runs alone from its state, and gives the window's length. The marks of its cycles are
 /// left in `marks`, and each counts as one of the steps.
+#[tactic(auto, using(crate::proofs::Windows::ends_at_run, crate::proofs::Windows::tries_at, crate::proofs::Windows::ends_tried, crate::proofs::Windows::ends_full))]
 pub fn merge_runs<X: Device, L: Ledger>(
     machine: &mut Machine,
     world: &World<'_, X>,

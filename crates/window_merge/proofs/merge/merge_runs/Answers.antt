@@ -1,5 +1,5 @@
-use Rattle.window_merge.proofs.Shared.{arith, longest, setting_of, subst, sym, ◌<◌, ◌∙◌, ◌≡◌}
-use Rattle.window_merge.proofs.Windows.{stands_at_first, ends_at_run, tries_at, ends_tried, stands_next, ends_full}
+use Rattle.window_merge.proofs.Shared.{arith, longest, setting_of, subst, sym, ◌<◌, ◌∙◌}
+use Rattle.window_merge.proofs.Windows.{stands_at_first, tries_at, stands_next}
 use Rattle.window_merge.proofs.merge.merge_runs.Goals as goal
 
 pub loop-k-init : goal.loop-k-init
@@ -10,22 +10,6 @@ loop-k-init g c =
           c.fact_copies_are_known.ensures.knows c.requires.runs c.clear.ensures);
       counted = omega arith;
     }
-
-pub returns-then-end_at-clause-length : goal.returns-then-end_at-clause-length
-returns-then-end_at-clause-length g c =
-    let w = setting_of c.args.world.now.script.now (g.X.Device.meaning c.args.world.now.device.now) c.args.world.now.limit in
-    let below : c.loop-k.k < longest w c.args.machine.now = subst (λ n. c.loop-k.k < n) c.longest-longest.ensures.value c.loop-k-test.true in
-    ends_at_run w c.args.machine.now c.args.runs.now c.loop-k.k c.loop-k.machine c.loop-k.rests
-    c.loop-k.marks c.requires.runs c.loop-k.invariant.stands below (sym c.end_at.ensures ∙ c.if-end_at.true)
-
-pub returns-then-not-fits-clause-length : goal.returns-then-not-fits-clause-length
-returns-then-not-fits-clause-length g c =
-    let w = setting_of c.args.world.now.script.now (g.X.Device.meaning c.args.world.now.device.now) c.args.world.now.limit in
-    let below : c.loop-k.k < longest w c.args.machine.now = subst (λ n. c.loop-k.k < n) c.longest-longest.ensures.value c.loop-k-test.true in
-    let tries = tries_at w c.args.machine.now c.args.runs.now c.loop-k.k c.loop-k.machine c.loop-k.rests
-    c.loop-k.marks c.requires.runs c.loop-k.invariant.stands below (sym c.end_at.ensures ∙ c.if-end_at.false) in
-    ends_tried w c.args.machine.now c.loop-k.k c.loop-k.machine c.loop-k.rests c.loop-k.marks tries
-    (sym c.begin_logged-left.ensures.fits ∙ c.if-not-fits.true)
 
 pub loop-k-preserved : goal.loop-k-preserved
 loop-k-preserved g c =
@@ -40,10 +24,3 @@ loop-k-preserved g c =
           (rw b.begun at c.step.ensures.marks);
       counted = let before = c.loop-k.invariant.counted in let tick = c.tick.ensures in omega arith;
     }
-
-pub returns-clause-length : goal.returns-clause-length
-returns-clause-length g c =
-    let w = setting_of c.args.world.now.script.now (g.X.Device.meaning c.args.world.now.device.now) c.args.world.now.limit in
-    let full : c.loop-k.k ≡ c.longest-longest.result = let ended = c.loop-k-test.false in let end = c.loop-k.auto.k-end in omega arith in
-    sym full ∙ ends_full w c.args.machine.now c.loop-k.k c.loop-k.machine c.loop-k.rests
-    c.loop-k.marks c.loop-k.invariant.stands (full ∙ c.longest-longest.ensures.value)
