@@ -1,5 +1,5 @@
 -- The peripherals that run alone ask the same in each cycle, and their run never ends early.
-use Rattle.window_merge.proofs.Shared.{Ask, Bool, List, Questions, SeenOutputs, Setting, alone, alone_length, answer_of, ap, around, asking_lane, begun_alone, ends_at, is_used, least, peripheral_lane, questions, questions_of, refl, suc, sym, zero, ℕ, ◌++◌, ◌+◌, ◌∙◌, ◌≡◌, arith}
+use Rattle.window_merge.proofs.Shared.{Ask, List, Questions, SeenOutputs, Setting, alone, alone_length, answer_of, ap, around, asking_lane, begun_alone, ends_at, least, peripheral_lane, questions, questions_of, refl, suc, sym, zero, ℕ, ◌++◌, ◌+◌, ◌∙◌, ◌≡◌, arith}
 use Rattle.lane_look.specs.Replay.{Entry, asked}
 use Rattle.outer_lane.specs.State.{State as OuterState}
 use Rattle.outer_lane.specs.Step.{next_by, next, pads_by, asks_second, asks}
@@ -10,13 +10,9 @@ uses_same : (w : Setting) (s : OuterState) (seen : SeenOutputs) → questions_of
 unfolding next next_by pads_by
 uses_same w s seen = refl
 
-both_same : (f : Ask → ℕ) (s : OuterState) (cycle : ℕ) (a b : Bool) → is_used 6 s.pads ≡ a → is_used 7 s.pads ≡ b
-    → asked f (asks s cycle) ≡ asked f (questions (record { pio0 = a; pio1 = b }))
-unfolding asks asks_second
-both_same f s cycle a b h1 h2 = grind arith
-
 asked_same : (f : Ask → ℕ) (s : OuterState) (cycle : ℕ) → asked f (asks s cycle) ≡ asked f (questions (questions_of s))
-asked_same f s cycle = both_same f s cycle (is_used 6 s.pads) (is_used 7 s.pads) refl refl
+unfolding asks asks_second
+asked_same f s cycle = grind arith
 
 -- after so many cycles
 record AsksSame (w : Setting) (lane : ℕ) (before : OuterState) (start : ℕ) (s : State) (k : ℕ) : Type 0 where

@@ -1,10 +1,8 @@
 -- A lane that runs alone by copies goes the way of one that runs alone in the state that was copied.
-use Rattle.window_merge.proofs.Shared.{Ask, Asking, Bool, Copies, IsRunAlone, List, Mark, None, Question, RanIn, Ready, Report, Setting, Some, Want, [], answer_of, answered, answered_same, ap, around, asks_sram, block_lines, copied, copied_answer, copied_store, copies_of, if◌then◌else◌, inputs_of, is_some, lines_of, outs_of, pacing_of, peripheral_lane, pio_lane, refl, stored_by, suc, true, zero, ℕ, ◌+◌, ◌==◌, ◌∙◌, ◌∷◌, ◌≡◌, arith}
-use Rattle.lane_look.specs.declared.lane.Ask.TheVariants as ask
+use Rattle.window_merge.proofs.Shared.{Ask, Asking, Bool, Copies, IsRunAlone, List, Mark, Question, RanIn, Ready, Report, Setting, Want, [], answered, answered_same, ap, around, asks_sram, block_lines, copied, copied_store, copies_of, if◌then◌else◌, inputs_of, is_some, lines_of, outs_of, pacing_of, peripheral_lane, pio_lane, refl, stored_by, suc, true, zero, ℕ, ◌+◌, ◌==◌, ◌∙◌, ◌∷◌, ◌≡◌, arith}
 use Rattle.lane_look.specs.Replay.{Meaning, Entry, asked, after_begun, marks_with}
 use Rattle.lane_look.specs.Alone.{Surroundings, Alone, all_stored, begun_alone, alone, ends_at, first_from, least, alone_length}
 use Rattle.rp_machine.specs.State.{State}
-use Rattle.outer_lane.specs.State.{State as OuterState}
 use Rattle.outer_lane.specs.Step as outer
 use Rattle.pio_block.specs.Cycle as pio_cycle
 
@@ -78,20 +76,13 @@ stores_copied lane s v = grind arith
 pub with_sram : {S B : Type 0} (m : Meaning (Unit {0}) S B) (lane : ℕ) → asks_sram lane ≡ true → Copied copied (around lane) (copies_of lane) m tt
 with_sram m lane e = search (arith, same_by, stores_copied, outs_same)
 
--- a PIO block asks for inputs alone
-inputs_same : (lane : ℕ) (s : State) (c : Bool) → SameBy (copied_answer (copies_of lane s)) (answer_of lane s) (if c then Question ask.Inputs (λ x. Ready (Some (pio_cycle.inputs_of x))) else Ready None)
-inputs_same lane s c = grind arith
-
 pub pio_copied : (lane : ℕ) → Copied copied (around lane) (copies_of lane) pio_lane tt
 unfolding pio_cycle.asks
-pio_copied lane = search (arith, stores_copied, inputs_same)
-
-outer_same : (lane : ℕ) (s : State) (o : OuterState) (cycle : ℕ) → SameBy (copied_answer (copies_of lane s)) (answer_of lane s) (outer.asks o cycle)
-unfolding outer.asks outer.asks_second
-outer_same lane s o cycle = grind arith
+pio_copied lane = search (arith, stores_copied)
 
 pub outer_copied : (w : Setting) (lane : ℕ) → Copied copied (around lane) (copies_of lane) (peripheral_lane w) tt
-outer_copied w lane = record { answers = λ s o cycle. outer_same lane s o cycle; stores = stores_copied lane }
+unfolding outer.asks outer.asks_second
+outer_copied w lane = search (arith, stores_copied)
 
 -- a report of a run by copies of a state is the run alone
 pub as_run_alone : {S B : Type 0} (m : Meaning (Unit {0}) S B) (lane : ℕ) (before room : S) (s : State) (start : ℕ) (copies : Copies) (bound bound' : ℕ) (report : Report S)

@@ -5,7 +5,7 @@ use Rattle.lane_look.specs.declared.lane.Want.TheVariants as want
 use Rattle.m0_core.specs.declared.doing.Act.TheVariants as act
 use Rattle.m0_core.specs.declared.doing.Work.TheVariants as works
 use Rattle.m0_core.specs.State.{State}
-use Rattle.m0_core.specs.Fetch.{is_ram_spot, at_spot, in_beat, beat_of_work, asks_fault, asks_beat, asks_return, asks_decoded, asks_half, asks_second, asks_first, asks_boundary, asks_next, asks_awake, carried, asks}
+use Rattle.m0_core.specs.Fetch.{is_ram_spot, in_beat, beat_of_work, asks_fault, asks_beat, asks_return, asks_decoded, asks_half, asks_second, asks_first, asks_boundary, asks_next, asks_awake, carried, asks}
 use Rattle.m0_core.specs.Cycle as core
 use Rattle.dma_engine.specs.declared.begun.Access.{Access as DmaAccess}
 use Rattle.dma_engine.specs.declared.begun.BegunTransfer.{BegunTransfer as DmaDoing}
@@ -36,11 +36,8 @@ ready f a h = record { met = h }
 stop_placed : (cause : Why) → Placed (act.Stopped cause)
 stop_placed cause = record { placed = tt }
 
-at_spot_placed : (f : Ask → ℕ) (work : Work) (request : Request) (s : State) (spot : Spot) → place_of request.address ≡ spot → Begins Placed f (at_spot work request s spot)
-at_spot_placed f work request s spot h1 = search (arith, either, ready, stop_placed)
-
 in_beat_placed : (f : Ask → ℕ) (work : Work) (s : State) (beat : Beat) → Begins Placed f (in_beat work s beat)
-in_beat_placed f work s beat = search (arith, ready, at_spot_placed)
+in_beat_placed f work s beat = search (arith, ready, either, stop_placed)
 
 beat_placed : (f : Ask → ℕ) (work : Work) (s : State) → Begins Placed f (asks_beat work s)
 unfolding asks_beat
@@ -60,13 +57,9 @@ second_placed : (f : Ask → ℕ) (first : ℕ) (s : State) → Begins Placed f 
 unfolding asks_second asks_decoded
 second_placed f first s = search (arith, either, half_placed, ready, stop_placed, fault_placed, beat_placed)
 
-first_placed : (f : Ask → ℕ) (s : State) → Begins Placed f (asks_first s)
-unfolding asks_first
-first_placed f s = half_placed f _ s _ (λ first. second_placed f first s)
-
 next_placed : (f : Ask → ℕ) (work : Option Work) (s : State) → Begins Placed f (asks_next work s)
-unfolding asks_boundary
-next_placed f work s = search (arith, first_placed, beat_placed, return_placed)
+unfolding asks_boundary asks_first
+next_placed f work s = search (arith, beat_placed, return_placed, half_placed, second_placed)
 
 carried_same : (f : Ask → ℕ) (lines cycle : ℕ) (tree : Asking Act) → (answered f (carried lines cycle tree)).act ≡ answered f tree
 unfolding carried
@@ -95,16 +88,9 @@ write_for_placed request = search (arith, outside_placed)
 read_at_placed : (f : Ask → ℕ) (counts : ℕ) (write : DmaAccess) (request : Request) (spot : Spot) → place_of request.address ≡ spot → AccessIsPlaced write → Begins ArePlaced f (dma_asks.asks_at counts write request spot)
 read_at_placed f counts write request spot h1 h2 = search (arith, outside_placed)
 
-read_placed : (f : Ask → ℕ) (counts : ℕ) (s : Engine) → Begins ArePlaced f (dma_asks.asks_read counts s)
-unfolding dma_asks.asks_read dma_asks.write_begun
-read_placed f counts s = search (arith, write_for_placed, read_at_placed)
-
-counted_placed : (f : Ask → ℕ) (ask : Ask) (next : ℕ → Asking DmaDoing) → ((x : ℕ) → Begins ArePlaced f (next x)) → Begins ArePlaced f (Question ask next)
-counted_placed f ask next h = record { met = (h (f ask)).met }
-
 dma_begins : (f : Ask → ℕ) (s : Engine) → Begins ArePlaced f (dma_asks.asks s)
-unfolding dma_asks.asks
-dma_begins f s = search (arith, either, counted_placed, read_placed)
+unfolding dma_asks.asks dma_asks.asks_read dma_asks.write_begun
+dma_begins f s = search (arith, either, write_for_placed, read_at_placed)
 
 pub dma_placed : (f : Ask → ℕ) (s : Engine) → ArePlaced (answered f (dma_asks.asks s))
 dma_placed f s = (dma_begins f s).met

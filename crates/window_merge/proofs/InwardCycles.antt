@@ -1,23 +1,22 @@
 -- Cycles of a window as long as core 0 alone is at work in SRAM beside lanes that are quiet: the start answers each lane as the machine does.
-use Rattle.std.proofs.Common.{◌≡◌, ℕ, zero, suc, ◌+◌, ◌%◌, ◌^◌, ◌<◌, ◌≤◌, ◌==◌, ◌||◌, nat_eq, not, add-one, Bool, true, false, if◌then◌else◌, List, [], ◌∷◌, ◌++◌, length, length-append, Option, None, refl, sym, ap, subst, ◌∙◌, below_more, arith}
-use Rattle.window_merge.proofs.Shared.{Act, AreBlocksQuiet, Ask, Asking, Begun, Blocks, GoesAsAlone, HasRoom, IsCore0Alone, IsCore1Quiet, KeepsInward, Mark, MayGoAlone, Notes, Question, Ready, Request, SeenOutputs, Setting, Spot, Start, Want, Wanted, alone_by, and_parts, answer_of, answered, begun, begun_same, beside, beside_after, blocks_after, clash, core0_goes_on_alone, core1_after, differs, ends_want, fewer, inputs_of, is_clean, is_first_alone, lines_of, lines_on, lines_stay, list_any, mark, marks_in, no_notes, not-not, noted_by, noted_core0, noted_in, noted_inward, or-true, outs_on, pacing_on, packed_pair, same_marks, seen_later, seen_number, seen_of, slice_index, states, stayed, stays_after, tell_on, told_both, wanted, wants_of}
+use Rattle.std.proofs.Common.{◌≡◌, ℕ, zero, suc, ◌+◌, ◌<◌, ◌≤◌, ◌==◌, ◌||◌, nat_eq, not, add-one, Bool, true, false, if◌then◌else◌, List, [], ◌∷◌, ◌++◌, length, length-append, Option, None, refl, sym, ap, subst, ◌∙◌, below_more, arith}
+use Rattle.window_merge.proofs.Shared.{AreBlocksQuiet, Ask, Asking, Begun, Blocks, GoesAsAlone, HasRoom, IsCore0Alone, IsCore1Quiet, KeepsInward, Mark, MayGoAlone, Notes, Question, Ready, Request, SeenOutputs, Setting, Start, Want, Wanted, alone_by, and_parts, answer_of, answered, begun, begun_same, beside, beside_after, blocks_after, clash, core0_goes_on_alone, core1_after, differs, ends_want, fewer, inputs_of, is_clean, is_first_alone, lines_of, lines_on, lines_stay, mark, marks_in, no_notes, not-not, noted_by, noted_core0, noted_in, noted_inward, or-true, outs_on, pacing_on, packed_pair, same_marks, seen_later, seen_number, seen_of, slice_index, states, stayed, stays_after, tell_on, told_both, wanted, wants_of}
 use Rattle.std.proofs.lemmas.List.{append-nil, append_assoc}
 use Rattle.lane_look.specs.declared.lane.Ask.TheVariants as ask
 use Rattle.lane_look.specs.declared.lane.Want.TheVariants as want
 use Rattle.lane_look.specs.Replay.{asked}
 use Rattle.m0_core.specs.State.{State as Core}
-use Rattle.m0_core.specs.declared.doing.Act.TheVariants.{Asleep}
 use Rattle.m0_core.specs.Fetch as core_asks
 use Rattle.m0_core.specs.Cycle as core
 use Rattle.dma_engine.specs.State.{State as Engine}
 use Rattle.dma_engine.specs.declared.begun.Access.{Access}
 use Rattle.dma_engine.specs.Asks as dma_asks
-use Rattle.dma_engine.specs.Asks.{asks_at, asks_for, asks_read, next_request, write_begun, waits_for_counts}
+use Rattle.dma_engine.specs.Asks.{asks_for, asks_read, next_request}
 use Rattle.dma_engine.specs.Cycle as dma
 use Rattle.pio_block.specs.State.{State as Pio, is_busy}
 use Rattle.pio_block.specs.Cycle as pio
 use Rattle.io_bank.specs.State.{State as Bank}
-use Rattle.io_bank.specs.Levels.{is_used, inputs_of as inputs_of_pads}
+use Rattle.io_bank.specs.Levels.{inputs_of as inputs_of_pads}
 use Rattle.outer_lane.specs.State.{State as OuterState}
 use Rattle.outer_lane.specs.Step as outer
 use Rattle.outer_lane.specs.Quiet.{IsQuiet, seen_in, outer_after}
@@ -57,18 +56,10 @@ either_way f g c one other h1 h2 = grind arith
 
 -- ---- lanes that do not ask for SRAM
 
-ready_asks : (f g : Ask → ℕ) (lines cycle : ℕ) (tree : Asking Act) → IsReady tree → AsksAlike f g (core_asks.carried lines cycle tree)
-unfolding core_asks.carried
-ready_asks f g lines cycle tree h1 = grind arith
-
 -- a core that asks for its interrupt lines alone
 lines_asks : (f g : Ask → ℕ) (s : Core) (cycle : ℕ) → f ask.Lines ≡ g ask.Lines → (s.asleep ≡ false → IsReady (core_asks.asks_awake s)) → AsksAlike f g (core_asks.asks s cycle)
-unfolding core_asks.asks
-lines_asks f g s cycle e ready = by_sleep s.asleep refl
-  where
-    by_sleep : (b : Bool) → s.asleep ≡ b → AsksAlike f g (if b then Ready (core_asks.ends_with 0 cycle Asleep) else Question ask.Lines (λ l. core_asks.carried (l % 2 ^ 32) cycle (core_asks.asks_awake s)))
-    by_sleep true asleep = tt
-    by_sleep false awake = (e, λ l. ready_asks f g (l % 2 ^ 32) cycle (core_asks.asks_awake s) (ready awake))
+unfolding core_asks.asks core_asks.carried
+lines_asks f g s cycle e ready = search (arith, tree)
 
 rests_asks : (f g : Ask → ℕ) (lines : ℕ) (s : Core) (cycle : ℕ) → f ask.Lines ≡ g ask.Lines → Rests lines s cycle → AsksAlike f g (core_asks.asks s cycle)
 rests_asks f g lines s cycle e rests = lines_asks f g s cycle e (λ awake. ready_awake lines s cycle awake rests)
@@ -77,41 +68,24 @@ pio_asks : (f g : Ask → ℕ) (s : Pio) → f ask.Inputs ≡ g ask.Inputs → A
 unfolding pio.asks
 pio_asks f g s e = either_way f g (is_busy s) _ _ (e, λ x. tt) tt
 
-second_asks : (f g : Ask → ℕ) (s : OuterState) (cycle : ℕ) (first : List ℕ) → f (ask.Outs 1) ≡ g (ask.Outs 1) → AsksAlike f g (outer.asks_second s cycle first)
-unfolding outer.asks_second
-second_asks f g s cycle first e = either_way f g (is_used 7 s.pads) _ _ (e, λ x. tt) tt
-
 outer_asks : (f g : Ask → ℕ) (s : OuterState) (cycle : ℕ) → f (ask.Outs 0) ≡ g (ask.Outs 0) → f (ask.Outs 1) ≡ g (ask.Outs 1) → AsksAlike f g (outer.asks s cycle)
-unfolding outer.asks
-outer_asks f g s cycle e0 e1 =
-    either_way f g (is_used 6 s.pads) _ _ (e0, λ x. second_asks f g s cycle (outer.pins_in x) e1) (second_asks f g s cycle outer.no_pins e1)
-
--- an engine that wants no read asks for no word
-wants_a_read : (answer : Ask → ℕ) (counts : ℕ) (write : Access) (request : Request) (at : Spot) → dma.want_of (answered answer (asks_at counts write request at)).read ≡ want.Nothing → ⊥
-wants_a_read answer counts write request at h1 = grind arith
+unfolding outer.asks outer.asks_second
+outer_asks f g s cycle e0 e1 = search (arith, either_way)
 
 no_request : (answer : Ask → ℕ) (counts : ℕ) (write : Access) (next : Option Request) → dma.want_of (answered answer (asks_for counts write next)).read ≡ want.Nothing → next ≡ None
-no_request answer counts write next h1 = search (arith, wants_a_read)
-
-requests_by : (answer : Ask → ℕ) (c : Bool) (s : Engine) → dma.want_of (answered answer (if c then Question ask.Pacing (λ counts. asks_read counts s) else asks_read 0 s)).read ≡ want.Nothing → next_request s ≡ None
-unfolding asks_read
-requests_by answer c s h1 = search (arith, no_request)
+no_request answer counts write next h1 = grind arith
 
 requests_none : (answer : Ask → ℕ) (s : Engine) → dma.want_of (answered answer (dma_asks.asks s)).read ≡ want.Nothing → next_request s ≡ None
-unfolding dma_asks.asks
-requests_none answer s e = requests_by answer (list_any waits_for_counts s.channels) s e
+unfolding dma_asks.asks asks_read
+requests_none answer s e = search (arith, no_request)
 
 pub reads_none : (s : State) → dma.want_of (begun s).dma.read ≡ want.Nothing → next_request s.dma.block ≡ None
 unfolding begun
 reads_none s e = requests_none (answer_of 2 s) s.dma.block e
 
-read_asks : (f g : Ask → ℕ) (counts : ℕ) (s : Engine) → next_request s ≡ None → AsksAlike f g (asks_read counts s)
-unfolding asks_read
-read_asks f g counts s e = subst (λ (next : Option Request). AsksAlike f g (asks_for counts (write_begun s) next)) (sym e) tt
-
 dma_asks_alike : (f g : Ask → ℕ) (s : Engine) → next_request s ≡ None → f ask.Pacing ≡ g ask.Pacing → AsksAlike f g (dma_asks.asks s)
-unfolding dma_asks.asks
-dma_asks_alike f g s none e = either_way f g (list_any waits_for_counts s.channels) _ _ (e, λ x. read_asks f g x s none) (read_asks f g 0 s none)
+unfolding dma_asks.asks asks_read
+dma_asks_alike f g s none e = search (arith, either_way)
 
 -- ---- six lanes
 
@@ -174,13 +148,10 @@ alike_by w notes s lines clean rests none =
 
 -- ---- core 0 alone wants anything
 
-clash_none : (v : Want) → clash (v ∷ want.Nothing ∷ want.Nothing ∷ want.Nothing ∷ want.Nothing ∷ want.Nothing ∷ want.Nothing ∷ want.Nothing ∷ want.Nothing ∷ want.Nothing ∷ want.Nothing ∷ want.Nothing ∷ []) ≡ false
-clash_none v = clash_four v want.Nothing want.Nothing want.Nothing ∙ rw (shares_none v, shares_none want.Nothing) refl
-
 -- no other master wants anything
 pub apart_alone : (b : Begun) → is_first_alone (wanted b) ≡ true → clash (wants_of b) ≡ false
 unfolding wanted
-apart_alone b e = search (arith, and_parts, nothing, clash_none)
+apart_alone b e = search (arith, and_parts, nothing, clash_four, shares_none)
 
 pub goes_first_alone : (b : Begun) (xs : List Wanted) (ends alone : Bool) → xs ≡ wanted b → ends ≡ ends_wanted xs → ends ≡ false → alone ≡ is_first_alone (wanted b) → alone ≡ true → alone ≡ goes_by b
 goes_first_alone b xs ends alone e e_ends none e_alone first = search (arith, apart_alone)

@@ -1,10 +1,9 @@
 -- What a cycle of a lane leaves of the copies that it has of the rest of the machine.
-use Rattle.std.proofs.Common.{◌≡◌, ◌+◌, nat_lt, ℕ, Bool, if◌then◌else◌, List, Option, refl, ◌∙◌, arith}
-use Rattle.window_merge.proofs.Shared.{Act, Doing, Request, SeenOutputs, Setting, Turn, Work}
+use Rattle.std.proofs.Common.{◌≡◌, ℕ, Bool, if◌then◌else◌, List, Option, refl, ◌∙◌, arith}
+use Rattle.window_merge.proofs.Shared.{Act, Doing, SeenOutputs, Setting, Turn, Work}
 use Rattle.m0_core.specs.State.{State}
 use Rattle.m0_core.specs.Entry.{taken_first, entry_ended}
 use Rattle.m0_core.specs.Return.{return_ended}
-use Rattle.m0_core.specs.Private.{accessed}
 use Rattle.m0_core.specs.Cycle as core
 use Rattle.outer_lane.specs.State.{State as OuterState}
 use Rattle.outer_lane.specs.Step as outer
@@ -23,23 +22,13 @@ then_keeps s t u a b = record { asleep = b.asleep ∙ a.asleep; offer = b.offer 
 either : (c : Bool) (s t u : State) → Keeps s t → Keeps s u → Keeps s (if c then t else u)
 either c s t u h1 h2 = grind arith
 
-accessed_keeps : (request : Request) (offset : ℕ) (s : State) → Keeps s (accessed request offset s)
-accessed_keeps request offset s = record { asleep = refl; offer = refl }
-
-passed_keeps : (work : Work) (count : ℕ) (last s : State) → Keeps s last → Keeps s (core.passed_of work count last s)
-passed_keeps work count last s h = either (nat_lt (s.beats_done + 1) count) s (core.followed work s) last (record { asleep = refl; offer = refl }) h
-
 work_keeps : (work : Work) (s : State) → Keeps s (core.passed_work work s)
 unfolding core.passed_instruction core.passed_return core.ended return_ended core.passed_entry entry_ended taken_first
-work_keeps work s = search (arith, passed_keeps, then_keeps, either, same)
-
-passes : (work : Work) (value : Option ℕ) (s : State) → Keeps s (core.passed work value s)
-unfolding core.passed
-passes work value s = then_keeps s (core.with_read value s) _ (record { asleep = refl; offer = refl }) (work_keeps work (core.with_read value s))
+work_keeps work s = search (arith, then_keeps, either, same)
 
 act_keeps : (a : Act) (word : Option ℕ) (s : State) → Keeps s (core.after a word s)
-unfolding core.faulted core.after_inner core.after_private
-act_keeps a word s = search (arith, same, either, passes, then_keeps, accessed_keeps)
+unfolding core.faulted core.after_inner core.after_private core.passed
+act_keeps a word s = search (arith, same, either, then_keeps, work_keeps)
 
 pub core_keeps : (s : State) (begun : Doing) (turns : List Turn) → Keeps s (core.next s begun turns)
 unfolding core.next core.closed

@@ -71,9 +71,6 @@ free_done a0 a1 a2 a3 s h b0 b1 b2 b3 =
 
 -- ---- and none lasts
 
-off_apb : (a : Option Access) → InBank a → is_on apb a ≡ false
-off_apb a h1 = search (arith, not_apb)
-
 no_winner : (asked : List (Option Access)) (high : Master → Bool) (last : Master) → ((m : Master) → asks_on asked apb m ≡ false) → winner_of high last (asks_on asked apb) ≡ None
 no_winner asked high last h = rw (h Core0) (rw (h Core1) (rw (h DmaRead) (rw (h DmaWrite) refl)))
 
@@ -81,9 +78,6 @@ hold_none : (asked : List (Option Access)) (s : Crossbar) (hold : Option Hold) �
 hold_none asked s None e free h = rw (e, no_winner asked (is_high s.priority) (last_on apb s) h) refl
 hold_none asked s (Some hold) e free h = absurd (cc free)
 
-holds_none : (asked : List (Option Access)) (s : Crossbar) → has_hold s ≡ false → ((m : Master) → asks_on asked apb m ≡ false) → has_hold (after_grant asked s) ≡ false
-holds_none asked s free h = hold_none asked s s.hold refl free h
-
 pub free_after : (a0 a1 a2 a3 : Option Access) (s : Crossbar) → has_hold s ≡ false → InBank a0 → InBank a1 → InBank a2 → InBank a3 →
     has_hold (after_grant (four a0 a1 a2 a3) s) ≡ false
-free_after a0 a1 a2 a3 s free b0 b1 b2 b3 = search (arith, holds_none, off_apb)
+free_after a0 a1 a2 a3 s free b0 b1 b2 b3 = search (arith, not_apb, hold_none)

@@ -1,6 +1,6 @@
 -- The positions of a run: each step goes along the states of the run, and there are enough of them.
 use Rattle.std.proofs.Common.{◌≡◌, ℕ, zero, suc, ◌+◌, ◌-◌, ◌*◌, ◌<◌, ◌≤◌, ◌&&◌, Bool, true, false, not, nat_eq, if◌then◌else◌, Option, Some, None, refl, sym, arith}
-use Rattle.window_merge.proofs.Shared.{Position, Setting, Why, by_cycle, by_window, eqb_tells, first_position, is_tried, last_position, last_state, next_position, positions, states, unless_stopped, window_length}
+use Rattle.window_merge.proofs.Shared.{Position, Setting, Why, by_window, eqb_tells, first_position, last_position, last_state, next_position, positions, states, unless_stopped}
 use Rattle.rp_machine.specs.State.{State}
 use Rattle.rp_machine.specs.Cycle.{stop, next}
 use Rattle.rp_machine.proofs.Runs.{states_on, last_here, last_on, below_limit, next_cycle}
@@ -61,13 +61,9 @@ nearer_by w p zero false e here runs le = absurd (cc e)
 nearer_by w p (suc n) true e here runs le = grind (arith, eqb_tells)
 nearer_by w p (suc n) false e here runs le = grind (arith, moves_on, along_states)
 
-nearer_step : (w : Setting) (p : Position) (tried : Bool) → is_tried p.after_empty p.state ≡ tried → stop w p.state ≡ None → p.state.cycle ≤ w.limit
-    → Nearer w p (if tried then by_window w (window_length w p.state) p else by_cycle w p)
-nearer_step w p tried h1 h2 h3 = search (arith, not_empty, along_states, nearer_by, along_next, next_cycle, below_limit, fewer_cycle)
-
 pub nearer : (w : Setting) (p : Position) → stop w p.state ≡ None → p.state.cycle ≤ w.limit → Nearer w p (next_position w p)
 unfolding next_position
-nearer w p runs le = nearer_step w p (is_tried p.after_empty p.state) refl runs le
+nearer w p runs le = search (arith, not_empty, along_states, nearer_by, along_next, next_cycle, below_limit, fewer_cycle)
 
 -- ---- the last position
 

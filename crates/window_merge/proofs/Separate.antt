@@ -1,34 +1,30 @@
 -- A separate cycle, in which every want is nothing or an access to SRAM, no two accesses name one port and none lasts: each lane
 -- steps as if it ran alone.
-use Rattle.window_merge.proofs.Shared.{Begun, Bool, Deed, KnowsSio, List, Master, Option, Request, SeenOutputs, Setting, Spot, Turn, Want, [], ap, asked_at, asked_of, deed_of, ends_want, false, has_hold, if◌then◌else◌, is_some, map, offers_of, port_at, refl, sram_after, stored_at, subst, sym, true, turn_alone, turn_of, ℕ, ◌&&◌, ◌+◌, ◌∙◌, ◌∷◌, ◌≡◌, arith}
+use Rattle.window_merge.proofs.Shared.{Begun, Bool, Deed, KnowsSio, List, Master, Request, SeenOutputs, Setting, Spot, Turn, Want, [], ap, asked_at, asked_of, deed_of, ends_want, false, has_hold, if◌then◌else◌, is_some, map, offers_of, port_at, refl, sram_after, subst, sym, true, turn_alone, turn_of, ℕ, ◌&&◌, ◌+◌, ◌∙◌, ◌∷◌, ◌≡◌, arith}
 use Rattle.rp_base.specs.declared.Master.TheVariants as master
 use Rattle.m0_core.specs.Fetch.{is_ram_spot}
 use Rattle.m0_core.specs.State.{State as Core}
 use Rattle.m0_core.specs.Cycle as core
 use Rattle.dma_engine.specs.Cycle as dma
 use Rattle.pio_block.specs.Cycle as pio
-use Rattle.outer_lane.specs.State.{State as OuterState}
 use Rattle.outer_lane.specs.Step as outer
 use Rattle.sio_block.specs.State.{State as SioState}
 use Rattle.rp_machine.specs.declared.deed.Deed.TheVariants as deed
 use Rattle.rp_machine.specs.State.{State}
-use Rattle.rp_machine.specs.Cycle.{wanted, asked, granted, turns, with_turns, deeds, with_sio, with_offer, with_pins, after_deed, launched_where, after_masters, stored, all_stored, with_stores, ended, after_deeds, with_grants, stepped, next_by}
-use Rattle.window_merge.proofs.Banks.{HasBank, has_bank}
+use Rattle.rp_machine.specs.Cycle.{wanted, asked, granted, turns, with_turns, deeds, with_sio, after_deed, launched_where, after_masters, stored, with_stores, ended, after_deeds, with_grants, stepped, next_by}
+use Rattle.window_merge.proofs.Banks.{has_bank}
 use Rattle.window_merge.proofs.InSram.{IsPlaced}
 use Rattle.window_merge.proofs.Keeping.{core_keeps, outer_keeps}
 use Rattle.window_merge.proofs.Ports.{InBank, Apart, free_done, free_after}
 
 -- ---- one want
 
-in_bank_at : (request : Request) (spot : Spot) → is_ram_spot spot ≡ true → HasBank spot → InBank (asked_at request (port_at spot))
-in_bank_at request spot h1 h2 = grind arith
-
 asks_at : (request : Request) (spot : Spot) → is_ram_spot spot ≡ true → is_some (asked_at request (port_at spot)) ≡ true
 asks_at request spot h1 = grind arith
 
 pub in_bank : (v : Want) → ends_want v ≡ false → IsPlaced v → InBank (asked_of v)
 unfolding asked_of
-in_bank v h1 h2 = grind (arith, in_bank_at, has_bank)
+in_bank v h1 h2 = search (arith, has_bank)
 
 -- its turn is that of a lane that runs alone, where each access is done
 turn_goes : (w : Setting) (seen : SeenOutputs) (rival : Want) (m : Master) (v : Want) (s : State) → ends_want v ≡ false → IsPlaced v → turn_of w seen rival (is_some (asked_of v)) m v s ≡ turn_alone v
@@ -41,25 +37,11 @@ IsStore deed.Nothing = Unit {0}
 IsStore (deed.Store index lanes value) = Unit {0}
 IsStore _ = ⊥
 
-stored_stores : (request : Request) (write : Option ℕ) (spot : Spot) → IsStore (stored_at request write spot)
-stored_stores request write spot = grind arith
-
-either_stores : (c : Bool) (d : Deed) → IsStore d → IsStore (if c then d else deed.Nothing)
-either_stores c d h1 = grind arith
-
 deed_stores : (w : Setting) (seen : SeenOutputs) (grant : Bool) (v : Want) (s : State) → ends_want v ≡ false → IsStore (deed_of w seen grant v s)
 unfolding deed_of
-deed_stores w seen grant v s h1 = grind (arith, either_stores, stored_stores)
-
-nothing_done : (w : Setting) (found : Bool) (m : Master) (d : Deed) (s : State) → IsStore d → after_deed w found m d s ≡ s
-unfolding after_deed
-nothing_done w found m d s h1 = grind arith
+deed_stores w seen grant v s h1 = grind arith
 
 -- ---- SIO and what is known of it
-
--- the launcher has nothing to do
-core1_rests_by : (asleep offered : Bool) (s : State) → (asleep && offered) ≡ false → (if asleep then launched_where offered s else s) ≡ s
-core1_rests_by asleep offered s h1 = grind arith
 
 -- ---- the cycle
 
@@ -101,28 +83,15 @@ granted_separate : (b : Begun) (s : State) → IsSeparate b s → granted (wante
 unfolding granted asked wanted
 granted_separate b s h = grind (arith, free_done, in_bank)
 
-still_free : (b : Begun) (s : State) → IsSeparate b s → has_hold (with_grants (wanted b) s).fabric ≡ false
-unfolding asked wanted
-still_free b s h = grind (arith, free_after, in_bank)
-
 abbrev separate_turns : Begun → List Turn
 separate_turns b = turn_alone (core.want_of b.core0) ∷ turn_alone (core.want_of b.core1) ∷ turn_alone (dma.want_of b.dma.read) ∷ turn_alone (dma.want_of b.dma.write) ∷ []
-
-turns_separate : (w : Setting) (b : Begun) (s : State) → IsSeparate b s → turns w b (wanted b) s (granted (wanted b) s) ≡ separate_turns b
-unfolding turns wanted
-turns_separate w b s h = grind (arith, granted_separate, turn_goes)
 
 -- the deeds of the masters but for what they store
 masters_separate : (w : Setting) (start : SioState) (d0 d1 d2 d3 : Deed) (t : State) → IsStore d0 → IsStore d1 → IsStore d2 → IsStore d3
     → (if t.core1.asleep then launched_where (offers_of start) t else t) ≡ t
     → after_masters w start (master.Core0 ∷ master.Core1 ∷ master.DmaRead ∷ master.DmaWrite ∷ []) (d0 ∷ d1 ∷ d2 ∷ d3 ∷ []) t ≡ t
-masters_separate w start d0 d1 d2 d3 t h0 h1 h2 h3 rests = grind (arith, nothing_done)
-
-same_offer : (offer : Bool) (c : Core) → offer ≡ c.offer → with_offer offer c ≡ c
-same_offer offer c e = rw e refl
-
-pins_same : (pins : List ℕ) (o : OuterState) → pins ≡ o.sio → with_pins pins o ≡ o
-pins_same pins o e = rw e refl
+unfolding after_deed
+masters_separate w start d0 d1 d2 d3 t h0 h1 h2 h3 rests = grind arith
 
 -- the state in which the lanes have stepped
 abbrev after_lanes : Setting → Begun → State → State
@@ -141,7 +110,7 @@ knows_on w b s = grind (arith, core_keeps, outer_keeps)
 
 rests_on : (w : Setting) (b : Begun) (s : State) → IsSeparate b s
     → (if (after_lanes w b s).core1.asleep then launched_where (offers_of (after_lanes w b s).sio) (after_lanes w b s) else after_lanes w b s) ≡ after_lanes w b s
-rests_on w b s h = grind (arith, knows_on, core1_rests_by)
+rests_on w b s h = search (arith, knows_on)
 
 abbrev separate_deeds : Setting → Begun → State → List Deed
 separate_deeds w b s =
@@ -151,37 +120,29 @@ separate_deeds w b s =
     ∷ deed_of w b.outer (is_some (asked_of (dma.want_of b.dma.write))) (dma.want_of b.dma.write) s
     ∷ []
 
-deeds_separate : (w : Setting) (b : Begun) (s : State) → IsSeparate b s → deeds w b (wanted b) s (granted (wanted b) s) ≡ separate_deeds w b s
-unfolding deeds wanted
-deeds_separate w b s h = ap (deeds w b (wanted b) s) (granted_separate b s h)
-
-done_separate : (w : Setting) (b : Begun) (s : State) → IsSeparate b s → after_deeds w (separate_deeds w b s) (after_lanes w b s) ≡ ended (with_stores (separate_deeds w b s) (after_lanes w b s))
-unfolding after_deeds
-done_separate w b s h = grind (arith, masters_separate, deed_stores, rests_on)
-
 -- the state after the cycle
 abbrev after_separate : Setting → Begun → State → State
 after_separate w b s = record (ended (with_stores (separate_deeds w b s) (after_lanes w b s))) { cycle = s.cycle + 1 }
 
 stepped_separate : (w : Setting) (b : Begun) (s : State) → IsSeparate b s → next_by w b (wanted b) s ≡ after_separate w b s
-unfolding next_by stepped
-stepped_separate w b s h = grind (arith, turns_separate, deeds_separate, done_separate)
+unfolding next_by stepped turns wanted deeds after_deeds
+stepped_separate w b s h = search (arith, granted_separate, turn_goes, masters_separate, deed_stores, rests_on)
 
 core1_separate : (w : Setting) (b : Begun) (s : State) → IsSeparate b s → (after_separate w b s).core1 ≡ (after_lanes w b s).core1
 unfolding ended with_sio
-core1_separate w b s h = grind (arith, knows_on, same_offer)
+core1_separate w b s h = search (arith, knows_on)
 
 same_pins : (w : Setting) (b : Begun) (s : State) → IsSeparate b s → (after_separate w b s).outer ≡ (after_lanes w b s).outer
 unfolding ended with_sio
-same_pins w b s h = grind (arith, knows_on, pins_same)
+same_pins w b s h = search (arith, knows_on)
 
 knows_separate : (w : Setting) (b : Begun) (s : State) → KnowsSio (after_separate w b s)
 unfolding ended with_sio
 knows_separate w b s = record { pins = refl; offer = refl }
 
 free_separate : (w : Setting) (b : Begun) (s : State) → IsSeparate b s → has_hold (after_separate w b s).fabric ≡ false
-unfolding ended with_sio with_turns
-free_separate w b s h = still_free b s h
+unfolding ended with_sio with_turns asked wanted
+free_separate w b s h = search (arith, free_after, in_bank)
 
 lanes_separate : (w : Setting) (b : Begun) (s : State) → IsSeparate b s → IsStepped w b s (after_separate w b s)
 unfolding ended with_sio with_turns
@@ -217,9 +178,6 @@ abbrev pub sram_left : Begun → List ℕ → List ℕ
 sram_left b sram =
     sram_after (dma.want_of b.dma.write) (sram_after (dma.want_of b.dma.read) (sram_after (core.want_of b.core1) (sram_after (core.want_of b.core0) sram)))
 
-after_sram : (w : Setting) (b : Begun) (s : State) → (after_separate w b s).sram ≡ all_stored (separate_deeds w b s) s.sram
-unfolding ended with_sio with_turns
-after_sram w b s = refl
-
 pub separate_sram : (w : Setting) (b : Begun) (s : State) → IsSeparate b s → (next_by w b (wanted b) s).sram ≡ sram_left b s.sram
-separate_sram w b s h = grind (arith, stepped_separate, after_sram, stored_goes)
+unfolding ended with_sio with_turns
+separate_sram w b s h = search (arith, stepped_separate, stored_goes)

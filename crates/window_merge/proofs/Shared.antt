@@ -1,7 +1,6 @@
 -- What the proofs of this crate name of others and of the specifications.
 pub use Rattle.bus_fabric.specs.State.{has_hold}
 pub use Rattle.dma_engine.specs.declared.begun.BegunTransfer.{BegunTransfer}
-pub use Rattle.io_bank.specs.Levels.{is_used}
 pub use Rattle.lane_look.proofs.Least.{is_least}
 pub use Rattle.lane_look.specs.Alone.{Alone, Surroundings, begun_alone, differs, ends_want, ends_wants, first_from}
 unfoldable pub use Rattle.lane_look.specs.Alone.{alone, alone_length, asked_in, ends_at, least, wanted_in}
@@ -10,7 +9,7 @@ pub use Rattle.lane_look.specs.Asking.Asking.{Question, Ready}
 pub use Rattle.lane_look.specs.Replay.{Meaning, meaning, turn_alone}
 pub use Rattle.lane_look.specs.Truth.{IsTrue, replay_of}
 pub use Rattle.lane_look.specs.declared.lane.Ask.{Ask}
-pub use Rattle.lane_look.specs.declared.lane.Ask.TheVariants.{Half, Lines, Pacing}
+pub use Rattle.lane_look.specs.declared.lane.Ask.TheVariants.{Half, Lines}
 pub use Rattle.lane_look.specs.declared.lane.Turn.{Turn}
 pub use Rattle.lane_look.specs.declared.lane.Want.{Want}
 pub use Rattle.lane_look.specs.declared.marks.Mark.{Mark}
@@ -58,13 +57,12 @@ pub use Rattle.std.proofs.lemmas.Bool.Decides.{eqb_tells, leb_tells, not_from_De
 pub use Rattle.std.proofs.lemmas.List.{append_cancel_left, get_or-set_other, get_or-set_same, length-set, take-append-le}
 pub use Rattle.std.proofs.lemmas.Option.{slice_get_past, slice_get_within}
 pub use Rattle.std.specs.Bool.{Decides}
-pub use Rattle.std.specs.List.{list_any}
 pub use Rattle.std.specs.Prelude.{is_some, slice_index}
-pub use Rattle.window_merge.specs.Accept.{IsStrangeBy, IsStranger, OtherAnswerAt, log_of, talk_alone}
-pub use Rattle.window_merge.specs.Around.{copied, copied_answer, copied_store, copies_of}
+pub use Rattle.window_merge.specs.Accept.{IsStranger, OtherAnswerAt, log_of, talk_alone}
+pub use Rattle.window_merge.specs.Around.{copied, copied_store, copies_of}
 pub use Rattle.window_merge.specs.Inward.{GoesAsAlone, GoneOver, IsWindow, KeepsInward, noted_core0}
 unfoldable pub use Rattle.window_merge.specs.Inward.{noted_in, noted_inward, same_marks}
-pub use Rattle.window_merge.specs.Jobs.{IsAlone, IsAloneBy, IsJobOf, Ran, RanIn, core_bound, longest_by}
+pub use Rattle.window_merge.specs.Jobs.{IsAlone, IsAloneBy, IsJobOf, Ran, RanIn, longest_by}
 pub use Rattle.window_merge.specs.Judged.{DifferAt, IsFirstOther, IsUnlike, IsUnlikeBy, Judges}
 pub use Rattle.window_merge.specs.Kinds.{asks_sram}
 pub use Rattle.window_merge.specs.Lanes.{around, core1_bound, core_lane, dma_lane, is_launching, peripheral_lane, pio_lane, runs_of, stored_by}
@@ -75,7 +73,7 @@ pub use Rattle.window_merge.specs.Patch.{sram_after}
 unfoldable pub use Rattle.window_merge.specs.Patch.{patched}
 pub use Rattle.window_merge.specs.Questions.{asking_lane, questions, questions_of}
 pub use Rattle.window_merge.specs.Start.{begun_from, differs_from, goes_by, goes_on}
-pub use Rattle.window_merge.specs.Window.{Position, by_cycle, by_window, clash, clash_in, differs_in, ends_in, first_position, is_port_of, is_tried, last_position, longest, share_port}
+pub use Rattle.window_merge.specs.Window.{Position, by_window, clash, clash_in, differs_in, ends_in, first_position, is_port_of, last_position, longest, share_port}
 unfoldable pub use Rattle.window_merge.specs.Window.{closes, next_position, positions, window_length}
 pub use Rattle.window_merge.specs.declared.copies.Copies.{Copies}
 pub use Rattle.window_merge.specs.declared.lane_run.LaneRun.{LaneRun}

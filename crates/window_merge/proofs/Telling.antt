@@ -78,10 +78,7 @@ stands m lane s report (suc k) = stands_next m lane s report k (stands m lane s 
 
 -- ---- the first entry that differs
 
-same_index : (log run : List Entry) (n p : ℕ) → DifferAt log run n → OtherAnswerAt log run p → p ≡ n
-same_index log run n p d o = search (arith, cases_lt, get-take)
-
 pub other_answer : {S B : Type 0} (m : Meaning (Unit {0}) S B) (lane : ℕ) (before : S) (s : State) (report : Report S) (n : ℕ) → IsTrue m tt report
     → report.start ≡ s.cycle → report.before ≡ before → DifferAt report.log (talk_alone m lane before s report.length) n
     → OtherAnswerAt report.log (talk_alone m lane before s report.length) n
-other_answer {S} m lane before s report n h e_start e_before d = search (arith, stands, same_index)
+other_answer {S} m lane before s report n h e_start e_before d = search (arith, stands, cases_lt, get-take)

@@ -1,12 +1,12 @@
 -- What a comparison of logs and lengths says of a report.
 use Rattle.std.proofs.Common.{◌≡◌, ℕ, Bool, true, false, ◌&&◌, length, Option, subst, arith}
 use Rattle.std.specs.Prelude.{Result, Ok, Err, is_ok, is_none, unwrap_or, IfErr}
-use Rattle.window_merge.proofs.Shared.{Decides, IsFirstOther, IsRunAlone, IsStrangeBy, IsStranger, IsUnlike, IsUnlikeBy, Judges, LaneRun, Meaning, Questions, Report, Setting, alone_length, and_from, and_parts, around, asking_lane, log_of, peripheral_lane, questions_of, talk_alone}
+use Rattle.window_merge.proofs.Shared.{Decides, IsFirstOther, IsRunAlone, IsStranger, IsUnlike, IsUnlikeBy, Judges, Meaning, Questions, Report, Setting, alone_length, and_from, and_parts, around, asking_lane, log_of, peripheral_lane, questions_of, talk_alone}
 use Rattle.outer_lane.specs.State.{State as OuterState}
 use Rattle.rp_machine.specs.State.{State}
 use Rattle.window_merge.specs.declared.lane_job.LaneReport.{LaneReport}
 use Rattle.window_merge.specs.declared.accepting.Stranger.{Stranger}
-use Rattle.window_merge.specs.Jobs.{IsTrueRun, IsTrueIn, IsAloneBy, IsAlone, start_of, longest_by}
+use Rattle.window_merge.specs.Jobs.{IsTrueIn, IsAloneBy, IsAlone, start_of, longest_by}
 use Rattle.window_merge.proofs.AskingAlone.{talk_same, length_asking}
 use Rattle.window_merge.proofs.Reported.{longest_same}
 use Rattle.window_merge.proofs.Telling.{other_answer}
@@ -17,14 +17,6 @@ unlike : {S B : Type 0} (m : Meaning (Unit {0}) S B) (lane : ℕ) (before : S) (
     → report.before ≡ before → IsFirstOther report.log (talk_alone m lane before s report.length) other → IsUnlike m lane before s report other
 unlike m lane before s report other h1 h2 = grind arith
 
-pub judged : {S B : Type 0} (m : Meaning (Unit {0}) S B) (lane : ℕ) (before : S) (s : State) (bound : ℕ) (report : Report S) (same_length : Bool) (other : Option ℕ) (result : Result (Unit {0}) (Option ℕ))
-    → report.start ≡ s.cycle → report.before ≡ before
-    → Decides same_length (report.length ≡ alone_length m (around lane) tt before s.cycle s bound)
-    → IsFirstOther report.log (talk_alone m lane before s report.length) other
-    → is_ok result ≡ same_length && is_none other → IfErr result (λ entry. entry ≡ other)
-    → Judges (IsRunAlone m lane before s bound report) (IsUnlike m lane before s report) result
-judged m lane before s bound report same_length other result e_start e_before e_length h e_ok e_err = search (arith, and_parts, and_from, unlike)
-
 -- ---- the peripherals
 
 pub judged_asking : (w : Setting) (lane : ℕ) (before : OuterState) (q : Questions) (s : State) (bound : ℕ) (report : Report OuterState) (same_length : Bool) (other : Option ℕ) (result : Result (Unit {0}) (Option ℕ))
@@ -33,7 +25,7 @@ pub judged_asking : (w : Setting) (lane : ℕ) (before : OuterState) (q : Questi
     → IsFirstOther report.log (talk_alone asking_lane lane q s report.length) other
     → is_ok result ≡ same_length && is_none other → IfErr result (λ entry. entry ≡ other)
     → Judges (IsRunAlone (peripheral_lane w) lane before s bound report) (IsUnlike (peripheral_lane w) lane before s report) result
-judged_asking w lane before q s bound report same_length other result e_start e_before e_q e_length h e_ok e_err = search (arith, judged, length_asking, talk_same)
+judged_asking w lane before q s bound report same_length other result e_start e_before e_q e_length h e_ok e_err = search (arith, length_asking, talk_same, and_parts, and_from, unlike)
 
 -- ---- any report
 
@@ -42,13 +34,10 @@ pub by_limit : (w : Setting) (s : State) (report : LaneReport) (n start : ℕ) (
     → Judges (IsAloneBy w s n report.lane report.run) (IsUnlikeBy w s report.lane report.run) result → Judges (IsAlone w s report) (IsUnlikeBy w s report.lane report.run) result
 by_limit w s report n start result h e_start e_n j = search (arith, longest_same)
 
-strange_by : (w : Setting) (s : State) (lane : ℕ) (r : LaneRun) (entry : Option ℕ) → IsTrueRun w r → start_of r ≡ s.cycle → IsUnlikeBy w s lane r entry → IsStrangeBy w s lane r entry
-strange_by w s lane r entry h1 h2 h3 = search (arith, other_answer)
-
 pub is_stranger : (w : Setting) (s : State) (report : LaneReport) (entry : Option ℕ) (stranger : Stranger)
     → stranger ≡ record { lane = report.lane; entry = unwrap_or entry (length (log_of report.run)) }
     → IsTrueIn w report → start_of report.run ≡ s.cycle → IsUnlikeBy w s report.lane report.run entry → IsStranger w s report stranger
-is_stranger w s report entry stranger e h e_start u = search (arith, strange_by)
+is_stranger w s report entry stranger e h e_start u = search (arith, other_answer)
 
 -- ---- what comes of it
 

@@ -13,13 +13,9 @@ use Rattle.window_merge.proofs.Logs.{take_more, get-append, get-seam}
 
 -- ---- two logs
 
--- they differ where one more entry follows
-still : (log talk more : List Entry) (index : ℕ) → IsCompared log talk index false → IsCompared log (talk ++ more) index false
-still log talk more index h = grind (arith, length-append, take-append-le, get-append)
-
 pub still_other : (log : List Entry) (entry : Entry) (index : ℕ) (same : Bool) → same ≡ false → GoesOn log (entry ∷ []) index same index false
 still_other log entry index true e = absurd (cc e)
-still_other log entry index false e = λ talk h. still log talk (entry ∷ []) index h
+still_other log entry index false e = search (arith, length-append, take-append-le, get-append)
 
 -- the next entry is the same
 pub one_more : (log : List Entry) (entry next : Entry) (index : ℕ) (same : Bool) → same ≡ true → slice_get log index ≡ Some next → next ≡ entry

@@ -1,6 +1,6 @@
 -- A window, cycle by cycle: where the machine, the six lanes and their logs stand.
-use Rattle.std.proofs.Common.{◌≡◌, ◌≢◌, ℕ, ◌+◌, ◌-◌, ◌<◌, ◌≤◌, Bool, true, false, not, ◌||◌, ◌&&◌, if◌then◌else◌, List, [], ◌∷◌, ◌++◌, length, length-append, None, refl, ap, sym, ◌∙◌, subst, add-one, below_more, arith}
-use Rattle.window_merge.proofs.Shared.{AreRunsAlone, Begun, IsWindow, KnowsSio, Mark, Master, SeenOutputs, Setting, Want, alone_length, answer_of, answered, around, asked_of, begun_by, cause_by, cause_of, clash, clash_in, closes, core_lane, differs, differs_by, differs_in, end_at, ends_in, ends_want, ends_wants, eqb-false, fits, has_hold, is_launching, is_least, leb_tells, left_by, logs_of, longest, marks_in, ne_eqb, not-true, or-true, or_parts, runs_follow, runs_of, states, wants_of, window_length}
+use Rattle.std.proofs.Common.{◌≡◌, ◌≢◌, ℕ, ◌+◌, ◌-◌, ◌<◌, ◌≤◌, Bool, true, false, not, ◌||◌, ◌&&◌, List, [], ◌∷◌, ◌++◌, length, length-append, None, refl, ap, sym, ◌∙◌, subst, add-one, below_more, arith}
+use Rattle.window_merge.proofs.Shared.{AreRunsAlone, IsWindow, KnowsSio, Mark, Master, SeenOutputs, Setting, Want, answer_of, answered, asked_of, begun_by, cause_by, cause_of, clash, clash_in, closes, differs, differs_by, differs_in, end_at, ends_in, ends_want, ends_wants, eqb-false, fits, has_hold, is_least, leb_tells, left_by, logs_of, longest, marks_in, ne_eqb, not-true, or-true, or_parts, runs_follow, runs_of, states, wants_of, window_length}
 use Rattle.lane_look.specs.declared.lane.Want.TheVariants as want
 use Rattle.lane_look.specs.Replay.{told, left, talk, after_begun}
 use Rattle.m0_core.specs.Cycle as core
@@ -56,10 +56,6 @@ fits_here : (w : Setting) (s : State) (k : ℕ) (now : State) (rests : Rests) �
     → fits rests now ≡ not (differs_in (runs_of w s (longest w s)) (states w s k) k || clash_in (runs_of w s (longest w s)) k)
 fits_here w s k now rests e t = cc
 
--- a run ends at its length alone
-none_ends : (w : Setting) (s : State) (k : ℕ) → AreOn w s k → ends_in (runs_of w s (longest w s)) k ≡ false
-none_ends w s k on = grind (arith, cycles_of, on_each, every, ne_eqb)
-
 pub on_of : (w : Setting) (s : State) (k : ℕ) → ends_in (runs_of w s (longest w s)) k ≡ false → AreOn w s k
 on_of w s k e = grind (arith, six_false, cycles_of, on_each, every, eqb-false)
 
@@ -69,7 +65,7 @@ twice_not a b h1 = grind arith
 closes_tried : (w : Setting) (s : State) (k : ℕ) (now : State) (rests : Rests) (marks : List Mark) → Tries w s k now rests marks
     → closes w s k ≡ not (fits rests now)
 unfolding closes
-closes_tried w s k now rests marks t = search (arith, none_ends, twice_not, fits_here, all_told)
+closes_tried w s k now rests marks t = search (arith, twice_not, fits_here, all_told, ne_eqb)
 
 -- ---- a cycle that fits
 
@@ -112,17 +108,9 @@ all_go_on w s k now rests marks t =
       goes_write = d.1;
     }
 
--- core 1 has no word of its launcher to take
-launching_by : (c : Bool) (s : State) (bound k : ℕ)
-    → k ≤ alone_length core_lane (around 1) tt s.core1 s.cycle s (if c then 0 else bound)
-    → k ≢ alone_length core_lane (around 1) tt s.core1 s.cycle s (if c then 0 else bound) → c ≡ false
-launching_by c s bound k h1 h2 = grind (arith, no_cycles)
-
 not_launching : (w : Setting) (s : State) (k : ℕ) (now : State) (rests : Rests) (marks : List Mark) → Tries w s k now rests marks
     → (now.core1.asleep && now.core1.offer) ≡ false
-not_launching w s k now rests marks t =
-    rw (t.stands.asleep, t.stands.offer)
-    (launching_by (is_launching s.core1) s (longest w s) k t.stands.lanes.core1.within t.on.core1)
+not_launching w s k now rests marks t = search (arith, no_cycles)
 
 -- such a cycle is separate
 separate_here : (w : Setting) (s : State) (k : ℕ) (now : State) (rests : Rests) (marks : List Mark) → Tries w s k now rests marks
@@ -147,13 +135,9 @@ separate_here w s k now rests marks t same none =
 no_cause : (w : Setting) (seen : SeenOutputs) (m : Master) (v : Want) (s : State) → ends_want v ≡ false → cause_by w seen m v s ≡ None
 no_cause w seen m v s h1 = grind arith
 
-pub none_stops : (w : Setting) (b : Begun) (s : State) → AllGoOn b → cause_in w b (wanted b) s ≡ None
-unfolding cause_in cause_of wanted
-none_stops w b s h = grind (arith, no_cause)
-
 pub runs_on : (w : Setting) (s : State) → s.cycle ≢ w.limit → AllGoOn (begun s) → stop w s ≡ None
-unfolding stop
-runs_on w s ne h = rw (ne_eqb s.cycle w.limit ne) (none_stops w (begun s) s h)
+unfolding stop cause_in cause_of wanted
+runs_on w s ne h = search (arith, ne_eqb, no_cause)
 
 pub short : (w : Setting) (s : State) → longest w s ≤ w.limit - s.cycle
 short w s = grind (arith, leb_tells)
