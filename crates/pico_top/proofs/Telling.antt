@@ -173,9 +173,8 @@ pub ran_for : (stats : Bool) (w : Setting) (s : State) (ran : Ran) → stats ≡
 ran_for stats w s ran asked is = record { why = is.why; counts = λ e. is; none = λ none. absurd (cc (none, asked)) }
 
 -- where they are not asked for, no run has to find them
-pub uncounted_for : (stats : Bool) (w : Setting) (s : State) (why : Why) → stats ≡ false → stop w (last_state w s) ≡ Some why
-    → IsRanFor stats w s (record { why = why; windows = 0; cycles = 0 })
-uncounted_for stats w s why none stops = record { why = stops; counts = λ asked. absurd (cc (none, asked)); none = λ e. (refl, refl) }
+pub uncounted_for : (stats : Bool) (w : Setting) (s : State) (ran : Ran) → stats ≡ false → IsRanFor false w s ran → IsRanFor stats w s ran
+uncounted_for stats w s ran none is = subst (λ (asked : Bool). IsRanFor asked w s ran) (sym none) is
 
 -- what was counted at a state of the run, and at its last one
 run_counted : (w : Setting) (s t : State) (steps steps' status : ℕ) → IsOnRun w s t → steps' + s.cycle ≡ steps + t.cycle → (status ≡ 0 → t ≡ last_state w s)

@@ -166,11 +166,7 @@ pub fn run_by_one<X: Device, T: Tape, L: Ledger>(
         }
     } else {
         match run_cycles(machine, world, tape, steps) {
-            Ok(why) => Ok(Ran {
-                why,
-                windows: 0,
-                cycles: 0,
-            }),
+            Ok(ran) => Ok(ran),
             Err(_) => Err(RunFault::Sink),
         }
     }

@@ -9,4 +9,4 @@ pub returns-in-Ok-run_alone-clause-ran : goal.returns-in-Ok-run_alone-clause-ran
 returns-in-Ok-run_alone-clause-ran g c = ran_for _ _ _ c.in-Ok-run_alone.ran c.if-stats.true c.in-Ok-run_alone.ensures.ran
 
 pub returns-in-Ok-run_cycles-clause-ran : goal.returns-in-Ok-run_cycles-clause-ran
-returns-in-Ok-run_cycles-clause-ran g c = uncounted_for _ _ _ _ c.if-stats.false c.in-Ok-run_cycles.ensures.why
+returns-in-Ok-run_cycles-clause-ran g c = uncounted_for _ _ _ c.in-Ok-run_cycles.ran c.if-stats.false c.in-Ok-run_cycles.ensures.ran
