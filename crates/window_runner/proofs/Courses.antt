@@ -1,9 +1,9 @@
 -- What takes a run on, from cycles of which nothing is told to those whose marks are left; and how a run by it goes on its way.
-use Rattle.window_runner.proofs.Shared.{Err, FailsWithin, IfNone, IsOnRun, IsQuiet, List, Mark, None, Ok, Option, Setting, SinkFault, Some, State, Tells, Why, [], all_shown, along_states, ap, arith, events_by, events_in, if◌then◌else◌, is_some, last_state, length, mark, marks_in, next, next_cycle, no_window, one_more, refl, run_shown, states, stop, subst, sym, ℕ, ◌+◌, ◌<◌, ◌∙◌, ◌∷◌, ◌≡◌, ◌≤◌}
+use Rattle.window_runner.proofs.Shared.{Err, FailsWithin, IfNone, IsOnRun, IsQuiet, List, Mark, None, Ok, OnItsWay, Option, Setting, Some, State, Tells, Why, [], all_shown, along_states, ap, arith, events_by, events_in, if◌then◌else◌, is_some, length, mark, marks_in, next, next_cycle, no_window, one_more, refl, run_shown, states, stop, subst, sym, ℕ, ◌+◌, ◌<◌, ◌∙◌, ◌∷◌, ◌≡◌, ◌≤◌}
 use Rattle.trace_text.specs.declared.event.Event.{Event as Shown}
 use Rattle.window_runner.specs.Course.{Goes, HasLeft, IsOver}
 use Rattle.window_runner.proofs.Along.{no_cycles}
-use Rattle.window_runner.proofs.Cycling.{OnItsWay, way_on, way_fails, way_stops}
+use Rattle.window_runner.proofs.Cycling.{way_on, way_fails}
 use Rattle.window_runner.proofs.Marks.{marks_count, marks_tell}
 use Rattle.window_runner.proofs.Over.{number_over, way_over}
 use Rattle.window_runner.proofs.Telling.{TakesInTurn, tells_same}
@@ -143,14 +143,9 @@ goes_fails {T} {A} {B} {E} {took} {missed} {a} {b} {c} {f} {g} {h} {w} {most} {f
     (tells_same took missed b c g h (all_shown (events_by cycle levels marks)) (all_shown (events_in w (states w s k.over) k.told)) (Err e) (ap all_shown (tells_them k cycle levels at pads)) told)
 
 -- there is a stop
-pub goes_stops : {T : Type 0} {took : T → List Shown → T → Type 0} (missed : T → Shown → T → Type 0) {a b : T} {f g : ℕ} {w : Setting} {most : ℕ} {first s t : State} {before now after : ℕ} {marks : List Mark} {A : Type 0} (x : A) (why : Why)
-    → OnItsWay took a b f g w first s before now → Goes w most s t marks now after (Some why)
-    → Tells {E = SinkFault} took missed a b f g (run_shown w first) (Ok x) × (stop w (last_state w first) ≡ Some why) × (t ≡ last_state w first) × IsOnRun w first t × (after + first.cycle ≡ before + t.cycle)
-goes_stops {T} {took} missed {a} {b} {f} {g} {w} {most} {first} {s} {t} {before} {now} {after} {marks} {A} x why r k =
-    let here : t ≡ states w s k.over = k.state ∙ ap (states w (states w s k.over)) k.left.0 ∙ no_cycles w (states w s k.over) in
-    let way = way_over t (now + k.over) k.over r here k.quiet refl in
-    let h = way_stops missed x why way k.left.1 in
-    let so_far = way.steps in
-    let steps = k.steps in
+pub goes_to_stop : {T : Type 0} {took : T → List Shown → T → Type 0} {a b : T} {f g : ℕ} {w : Setting} {most : ℕ} {first s t : State} {before now after : ℕ} {marks : List Mark} {why : Why}
+    → OnItsWay took a b f g w first s before now → Goes w most s t marks now after (Some why) → OnItsWay took a b f g w first t before after × (stop w t ≡ Some why)
+goes_to_stop {T} {took} {a} {b} {f} {g} {w} {most} {first} {s} {t} {before} {now} {after} r k =
     let none = k.left.0 in
-    (h.0, h.1, h.2, h.3, omega (arith, so_far, steps, none))
+    let steps = k.steps in
+    (way_over t after k.over r (k.state ∙ ap (states w (states w s k.over)) none ∙ no_cycles w (states w s k.over)) k.quiet (omega (arith, steps, none)), k.left.1)

@@ -1,20 +1,11 @@
 -- A run on its way, up to its stop: what its tape took and what was counted of cycles.
-use Rattle.window_runner.proofs.Shared.{Err, FailsWithin, IsOnRun, List, Ok, Setting, SinkFault, Some, State, Tells, Why, all_events, all_shown, along_states, ap, arith, events_in, last_here, last_state, refl, run_shown, states, stop, subst, sym, ℕ, ◌++◌, ◌+◌, ◌∙◌, ◌≡◌, ◌≤◌}
+use Rattle.window_runner.proofs.Shared.{Err, FailsWithin, GoesOn, IsOnRun, List, Ok, OnItsWay, Setting, SinkFault, Some, State, TakenBefore, Tells, Why, all_events, all_shown, along_states, ap, arith, events_in, last_here, last_state, refl, run_shown, states, stop, subst, sym, ℕ, ◌++◌, ◌+◌, ◌∙◌, ◌≡◌, ◌≤◌}
 use Rattle.trace_text.specs.declared.event.Event.{Event as Shown}
 use Rattle.window_runner.proofs.Along.{events_split}
 use Rattle.window_runner.proofs.CycleEvents.{shown_none, shown_both}
 use Rattle.window_runner.proofs.Failing.{fails_within}
-use Rattle.window_runner.proofs.Reaching.{GoesOn, then_on, on_run_by, shown_here}
-use Rattle.window_runner.proofs.Telling.{TakesNone, TakesInTurn, TakenBefore, taken_nothing, taken_same, taken_more, taken_part, taken_all}
-
--- a run from a first state has come to this one, its cycles were counted, and a tape took their events
-pub record OnItsWay {T : Type 0} (took : T → List Shown → T → Type 0) (a b : T) (f g : ℕ) (w : Setting) (first s : State) (before now : ℕ) : Type 0 where
-  pub within : s.cycle ≤ w.limit
-  pub forward : first.cycle ≤ s.cycle
-  pub way : GoesOn w first s
-  pub last : last_state w s ≡ last_state w first
-  pub steps : now + first.cycle ≡ before + s.cycle
-  pub taken : TakenBefore took a b f g (run_shown w first) (run_shown w s)
+use Rattle.window_runner.proofs.Reaching.{then_on, on_run_by, shown_here}
+use Rattle.window_runner.proofs.Telling.{TakesNone, TakesInTurn, taken_nothing, taken_same, taken_more, taken_part, taken_all}
 
 pub way_first : {T : Type 0} (took : T → List Shown → T → Type 0) (a : T) (f : ℕ) (w : Setting) (s : State) (steps : ℕ) → TakesNone took → s.cycle ≤ w.limit
     → OnItsWay took a a f f w s s steps steps

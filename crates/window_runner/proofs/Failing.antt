@@ -1,15 +1,14 @@
 -- Where a machine stands whose tape has failed.
-use Rattle.window_runner.proofs.Shared.{Bool, FailsAmong, FailsWithin, List, None, Setting, State, all_events, all_shown, ap, append-nil, append_cancel_right, arith, at_most, events_in, events_more, false, if◌then◌else◌, least_meets, one_more, refl, run_shown, states, step_events, stop, subst, sym, true, zero, ℕ, ◌++◌, ◌∙◌, ◌≡◌, ◌≤◌}
+use Rattle.window_runner.proofs.Shared.{Bool, FailsAmong, FailsWithin, GoesOn, List, None, Setting, State, TakenBefore, all_events, all_shown, ap, append-nil, append_cancel_right, arith, at_most, events_in, events_more, false, if◌then◌else◌, least_meets, one_more, refl, run_shown, states, step_events, stop, subst, sym, true, zero, ℕ, ◌++◌, ◌∙◌, ◌≡◌, ◌≤◌}
 use Rattle.trace_text.specs.declared.event.Event.{Event as Shown}
 use Rattle.rp_machine.specs.Events.{Event, events}
 use Rattle.window_merge.specs.Window.{Position, longest, closes, is_tried, by_window, by_cycle, next_position, window_length}
 use Rattle.window_runner.proofs.Along.{events_split}
 use Rattle.window_runner.proofs.CycleEvents.{shown_both}
-use Rattle.window_runner.proofs.Reaching.{GoesOn, Reached}
-use Rattle.window_runner.proofs.Telling.{TakenBefore}
+use Rattle.window_runner.proofs.Reaching.{Reached}
 
 -- what was taken are the events of the cycles so far
-taken_are : {T : Type 0} (took : T → List Shown → T → Type 0) (a b : T) (f g : ℕ) (w : Setting) (first s : State) (n : ℕ) → first.cycle ≤ w.limit → s ≡ states w first n
+pub taken_are : {T : Type 0} (took : T → List Shown → T → Type 0) (a b : T) (f g : ℕ) (w : Setting) (first s : State) (n : ℕ) → first.cycle ≤ w.limit → s ≡ states w first n
     → TakenBefore took a b f g (run_shown w first) (run_shown w s) → took a (all_shown (events_in w first n)) b
 taken_are took a b f g w first s n le here t =
     let same : all_shown (events_in w first n) ++ run_shown w s ≡ t.part ++ run_shown w s =

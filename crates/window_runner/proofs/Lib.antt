@@ -8,6 +8,7 @@ pub mod Failing
 pub mod Finishing
 pub mod Marks
 pub mod Merges
+pub mod Onward
 pub mod Ordering
 pub mod Over
 pub mod Pads

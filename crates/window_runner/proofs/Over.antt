@@ -1,9 +1,8 @@
 -- Cycles in which nobody has anything to do, gone over at once on the way of a run.
-use Rattle.window_runner.proofs.Shared.{IsQuiet, List, None, Setting, State, [], all_events, all_shown, along_states, ap, arith, events_in, events_more, join, last_state, next, refl, run_shown, states, states_on, stop, subst, suc, sym, zero, ℕ, ◌++◌, ◌+◌, ◌-◌, ◌<◌, ◌∙◌, ◌≡◌, ◌≤◌}
+use Rattle.window_runner.proofs.Shared.{IsQuiet, List, None, OnItsWay, Setting, State, [], all_events, all_shown, along_states, ap, arith, events_in, events_more, join, last_state, next, refl, run_shown, states, states_on, stop, subst, suc, sym, zero, ℕ, ◌++◌, ◌+◌, ◌-◌, ◌<◌, ◌∙◌, ◌≡◌, ◌≤◌}
 use Rattle.trace_text.specs.declared.event.Event.{Event as Shown}
 use Rattle.rp_machine.specs.Events.{Event, events}
 use Rattle.window_runner.proofs.Along.{no_cycles}
-use Rattle.window_runner.proofs.Cycling.{OnItsWay}
 use Rattle.window_runner.proofs.Reaching.{then_on}
 use Rattle.window_runner.proofs.Telling.{taken_same}
 

@@ -1,16 +1,11 @@
 -- A run on its way, from one of its positions to the next, up to its stop.
-use Rattle.window_runner.proofs.Shared.{Bool, IsOnRun, List, None, Ok, Option, Setting, Some, State, Tells, Why, [], all_events, all_shown, ap, arith, events_here, false, if◌then◌else◌, join, last_state, left_of, nearer, next, next_cycle, one_more, refl, run_shown, states, states_here, states_on, step_events, stop, subst, suc, sym, true, unless_stopped, zero, ℕ, ◌*◌, ◌++◌, ◌+◌, ◌-◌, ◌<◌, ◌∙◌, ◌≡◌, ◌≤◌}
+use Rattle.window_runner.proofs.Shared.{Bool, GoesOn, IsOnRun, List, None, Ok, Option, Setting, Some, State, TakenBefore, Tells, Why, [], all_events, all_shown, ap, arith, events_here, false, if◌then◌else◌, join, last_state, left_of, nearer, next, next_cycle, one_more, refl, run_shown, states, states_here, states_on, step_events, stop, subst, suc, sym, true, unless_stopped, zero, ℕ, ◌*◌, ◌++◌, ◌+◌, ◌-◌, ◌<◌, ◌∙◌, ◌≡◌, ◌≤◌}
 use Rattle.trace_text.specs.declared.event.Event.{Event as Shown}
 use Rattle.window_merge.specs.Window.{Position, first_position, is_tried, by_window, by_cycle, next_position, positions, last_position, window_length}
 use Rattle.window_runner.proofs.Along.{IsCounted, counted_first, counted_next, no_cycles, step_then}
 use Rattle.window_runner.proofs.CycleEvents.{shown_both}
 use Rattle.window_runner.proofs.Standing.{at_step, step_here, stays}
-use Rattle.window_runner.proofs.Telling.{TakesInTurn, TakenBefore, taken_same, taken_last}
-
--- so many cycles on
-pub record GoesOn (w : Setting) (s t : State) : Type 0 where
-  pub count : ℕ
-  pub state : t ≡ states w s count
+use Rattle.window_runner.proofs.Telling.{TakesInTurn, taken_same, taken_last}
 
 -- a run from a first state has come to this position
 pub record Reached (w : Setting) (first : State) (p : Position) : Type 0 where
@@ -110,7 +105,7 @@ by_number w s zero =
     ap (states w s) (sym none)
 by_number w s (suc n) = number_by w s n (stop w s) refl (by_number w (next w s) n)
 
-own_number : (w : Setting) (s t : State) → GoesOn w s t → t ≡ states w s (t.cycle - s.cycle)
+pub own_number : (w : Setting) (s t : State) → GoesOn w s t → t ≡ states w s (t.cycle - s.cycle)
 own_number w s t on = subst (λ (x : State). x ≡ states w s (x.cycle - s.cycle)) (sym on.state) (by_number w s on.count)
 
 last_later : (w : Setting) (s : State) → s.cycle ≤ (last_state w s).cycle

@@ -41,6 +41,7 @@ unfoldable pub use Rattle.window_merge.specs.Merging.{marks_in}
 pub use Rattle.window_merge.specs.Window.{Position, by_window, ends_in, first_position, is_tried, last_position, longest}
 unfoldable pub use Rattle.window_merge.specs.Window.{next_position, window_length}
 pub use Rattle.window_runner.specs.Alone.{FailsWithin, IsOnRun, PassesTo, StepsTo, position_at, stop_in}
+pub use Rattle.window_runner.specs.Course.{GoesOn, OnItsWay, TakenBefore}
 pub use Rattle.window_runner.specs.Orders.Event.{Close, Commit, Draw, Finish, Open, Pass, SeeDone, SeeOpen}
 pub use Rattle.window_runner.specs.Reports.{AllCame, AreRunsAlone, AreTaken, CameAccepted, IsAccepted, IsTaken, IsTrueOrNone, OneReport, SixReports, bound_under, core0_in, core1_in, dma_in, outer_in, pio0_in, pio1_in, talk_in}
 unfoldable pub use Rattle.window_runner.specs.Reports.{overlaid}

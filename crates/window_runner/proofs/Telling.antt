@@ -1,5 +1,5 @@
 -- Events that are told to a tape one after another.
-use Rattle.window_runner.proofs.Shared.{Err, FailsAmong, List, Ok, OnErr, OnOk, Result, Tells, [], ap, append-nil, append_assoc, arith, refl, subst, sym, ℕ, ◌++◌, ◌∙◌, ◌∷◌, ◌≡◌, ◌≤◌}
+use Rattle.window_runner.proofs.Shared.{Err, FailsAmong, List, Ok, OnErr, OnOk, Result, TakenBefore, Tells, [], ap, append-nil, append_assoc, arith, refl, subst, sym, ℕ, ◌++◌, ◌∙◌, ◌∷◌, ◌≡◌, ◌≤◌}
 use Rattle.rp_ports.specs.Fault.{Rose}
 use Rattle.trace_text.specs.declared.event.Event.{Event}
 use Rattle.trace_text.proofs.Sending.{rose_later}
@@ -10,13 +10,6 @@ TakesNone {T} took = (tape : T) → took tape [] tape
 
 abbrev pub TakesInTurn : {T : Type 0} → (T → List Event → T → Type 0) → Type 0
 TakesInTurn {T} took = (a b c : T) (first second : List Event) → took a first b → took b second c → took a (first ++ second) c
-
--- the first of some events were taken, these are left, and the count has not fallen
-pub record TakenBefore {T : Type 0} (took : T → List Event → T → Type 0) (old new : T) (before now : ℕ) (events rest : List Event) : Type 0 where
-  pub part : List Event
-  pub taken : took old part new
-  pub count : before ≤ now
-  pub whole : events ≡ part ++ rest
 
 -- nothing was taken yet
 pub taken_nothing : {T : Type 0} (took : T → List Event → T → Type 0) (a : T) (f : ℕ) (events : List Event) → TakesNone took → TakenBefore took a a f f events events

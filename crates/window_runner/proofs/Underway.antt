@@ -1,11 +1,11 @@
 -- A run by windows on its way, with what its tape took and what was counted: from one step to the next, and at its end.
-use Rattle.window_runner.proofs.Shared.{Err, List, None, Ok, Option, Position, Setting, SinkFault, Some, State, StepsTo, Tells, Why, all_shown, ap, arith, first_position, last_here, last_position, last_state, left_of, next_position, refl, run_shown, step_events, stop, subst, sym, true, ℕ, ◌++◌, ◌+◌, ◌<◌, ◌∙◌, ◌≡◌, ◌≤◌}
+use Rattle.window_runner.proofs.Shared.{Err, List, None, Ok, Option, Position, Setting, SinkFault, Some, State, StepsTo, TakenBefore, Tells, Why, all_shown, ap, arith, first_position, last_here, last_position, last_state, left_of, next_position, refl, run_shown, step_events, stop, subst, sym, true, ℕ, ◌++◌, ◌+◌, ◌<◌, ◌∙◌, ◌≡◌, ◌≤◌}
 use Rattle.trace_text.specs.declared.event.Event.{Event as Shown}
 use Rattle.window_runner.specs.declared.alone.Ran.{Ran}
 use Rattle.window_runner.specs.Windows.{Leaves}
 use Rattle.window_runner.proofs.Failing.{fails_in_step}
 use Rattle.window_runner.proofs.Reaching.{Reached, reached_first, reached_on, reached_nearer, reached_last, is_on_run, shown_on, taken_to_stop}
-use Rattle.window_runner.proofs.Telling.{TakesNone, TakesInTurn, TakenBefore, taken_nothing, taken_same, taken_more, taken_part}
+use Rattle.window_runner.proofs.Telling.{TakesNone, TakesInTurn, taken_nothing, taken_same, taken_more, taken_part}
 
 -- a run from a first state, and its tape, have come to this position
 pub record Underway {T : Type 0} (took : T → List Shown → T → Type 0) (a b : T) (f g : ℕ) (w : Setting) (first : State) (p : Position) (before now : ℕ) : Type 0 where

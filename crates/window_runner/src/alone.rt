@@ -30,6 +30,21 @@ pub struct Ran {
     pub cycles: u64,
 }
 
+impl Ran {
+    /// A run that counted no windows stopped for this cause.
+    pub(crate) fn uncounted(why: Why) -> Ran
+        ensures why { result.why ≡ why }
+        ensures windows { result.windows ≡ 0 }
+        ensures cycles { result.cycles ≡ 0 }
+    {
+        Ran {
+            why,
+            windows: 0,
+            cycles: 0,
+        }
+    }
+}
+
 /// What a run keeps of the windows that it tried.
 #[derive(Clone, Copy)]
 pub(crate) struct Counts {

@@ -41,7 +41,8 @@ const MOST: u64 = (1 << 62) - 6;
 
 /// Behind the first window that goes over the board so many cycles are made by the coordinator alone, and behind each later one twice as
 /// many as before it. A lane runs for 256 cycles at most, some ten microseconds; the copies that its job is made of, and two threads that
-/// wait for each other, take longer than that. Where no window is counted the first one waits as long, since many programs are over by then.
+/// wait for each other, take longer than that. Where no window is counted the first one waits as long, and so do the copies and the threads,
+/// since many programs are over by then.
 pub(crate) const APART: u64 = 0x4000;
 
 /// Draws tickets and passes those that are open, and keeps the first one that is not.
@@ -422,13 +423,7 @@ pub(crate) fn run_uncounted<'w, X: Device, G: Gate, H: Wait, T: Tape, L: Ledger>
         fact_limit_is_bounded(desk.world);
         let before = machine.pads();
         match go_on(desk, lead, machine, &mut marks, steps) {
-            Some(why) => {
-                return Ok(Ran {
-                    why,
-                    windows: 0,
-                    cycles: 0,
-                });
-            }
+            Some(why) => return Ok(Ran::uncounted(why)),
             None => {
                 let cycle = first_told(machine, &marks);
                 match tell_marks(cycle, before, &marks, tape) {

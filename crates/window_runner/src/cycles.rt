@@ -1,16 +1,16 @@
 //! A run cycle by cycle, which goes at once over cycles of which nothing is told: no window is made of it, and nothing is counted but
 //! its cycles.
 
-ghost use Rattle.std.specs.Prelude.{◌≡◌, ◌+◌, ◌<◌, ◌≤◌, Some, length, IfOk, IfNone, OnErr};
+ghost use Rattle.std.specs.Prelude.{◌≡◌, ◌+◌, ◌<◌, ◌≤◌, false, length, IfOk, IfNone, OnErr, OnOk};
 ghost use Rattle.outer_lane.specs.Setting.{setting};
 ghost use Rattle.trace_text.specs.Tape.{Tells};
-ghost use Rattle.rp_machine.specs.Cycle.{stop};
 ghost use Rattle.rp_machine.specs.Quiet.{IsQuiet};
 ghost use Rattle.rp_machine.specs.Run.{last_state, states};
 ghost use Rattle.window_runner.specs.Told.{run_shown};
-ghost use Rattle.window_runner.specs.Alone.{IsOnRun, FailsWithin};
-ghost use Rattle.window_runner.specs.Course.{Goes};
+ghost use Rattle.window_runner.specs.Alone.{IsRanFor, IsOnRun, FailsWithin};
+ghost use Rattle.window_runner.specs.Course.{Goes, IsCauseAt, OnItsWay};
 
+use crate::alone::Ran;
 use crate::events::tell_marks;
 use lane_look::{Device, Marks};
 use outer_lane::World;
@@ -70,8 +70,54 @@ pub(crate) fn first_told(machine: &Machine, marks: &Marks) -> u64
     machine.number() - u64::from(marks.count())
 }
 
-/// Runs a machine up to its first stop, tells the events of all its cycles to a tape, and answers the cause of the stop: cycle by cycle,
-/// and over as many as nobody has anything to do in at once. Each cycle counts as a step. It takes no memory.
+/// Runs a machine cycle by cycle, and over as many as nobody has anything to do in at once, up to its first stop, whose cause it answers, or
+/// to the first cycle behind a number that it comes to, and tells the events of all its cycles to a tape. It takes no memory.
+///
+/// # Errors
+///
+/// Those of `run_cycles`.
+pub(crate) fn run_to<X: Device, T: Tape, L: Ledger>(
+    machine: &mut Machine,
+    world: &World<'_, X>,
+    until: u64,
+    tape: &mut T,
+    steps: &mut Steps<L>,
+) -> Result<Option<Why>, SinkFault>
+    requires number { machine.old.cycle ≤ world.now.limit }
+    ensures way { OnOk result (OnItsWay T.took tape.old tape.new (T.faults tape.old) (T.faults
+        tape.new) (setting X.meaning world.now) machine.old machine.new steps.old steps.new) }
+    ensures cause { IsCauseAt (setting X.meaning world.now) until machine.new result }
+    ensures told { OnErr result (Tells T.took T.missed tape.old tape.new (T.faults tape.old)
+        (T.faults tape.new) (run_shown (setting X.meaning world.now) machine.old) result) }
+    ensures failed { OnErr result (FailsWithin T.took T.missed tape.old tape.new (setting X.meaning
+        world.now) 1 machine.old machine.new) }
+    ensures on_run { IsOnRun (setting X.meaning world.now) machine.old machine.new }
+    ensures steps { steps.new + machine.old.cycle ≡ steps.old + machine.new.cycle }
+{
+    let mut begun = Begun::nothing();
+    let mut marks = Marks::new();
+    let mut pace = Pace::default();
+    'cycles: loop {
+        if until < machine.number() {
+            return Ok(None);
+        }
+        fact_limit_is_bounded(world);
+        let before = machine.pads();
+        match go_by_cycle(machine, world, &mut begun, &mut pace, &mut marks, steps) {
+            Some(why) => return Ok(Some(why)),
+            None => {
+                let cycle = first_told(machine, &marks);
+                match tell_marks(cycle, before, &marks, tape) {
+                    Ok(()) => {}
+                    Err(fault) => return Err(fault),
+                }
+            }
+        }
+    }
+}
+
+/// Runs a machine up to its first stop, and tells the events of all its cycles to a tape: cycle by cycle, and over as many as nobody has
+/// anything to do in at once. Each cycle counts as a step, and no window is counted. It takes no memory.
 ///
 /// # Errors
 ///
@@ -82,34 +128,22 @@ pub fn run_cycles<X: Device, T: Tape, L: Ledger>(
     world: &World<'_, X>,
     tape: &mut T,
     steps: &mut Steps<L>,
-) -> Result<Why, SinkFault>
+) -> Result<Ran, SinkFault>
     requires number { machine.old.cycle ≤ world.now.limit }
     ensures told { Tells T.took T.missed tape.old tape.new (T.faults tape.old) (T.faults tape.new)
         (run_shown (setting X.meaning world.now) machine.old) result }
-    ensures why { IfOk result (λ why. stop (setting X.meaning world.now) (last_state (setting
-        X.meaning world.now) machine.old) ≡ Some why) }
-    ensures state { IfOk result (λ why. machine.new ≡ last_state (setting X.meaning world.now)
+    ensures ran { IfOk result (IsRanFor false (setting X.meaning world.now) machine.old) }
+    ensures state { IfOk result (λ ran. machine.new ≡ last_state (setting X.meaning world.now)
         machine.old) }
     ensures failed { OnErr result (FailsWithin T.took T.missed tape.old tape.new (setting X.meaning
         world.now) 1 machine.old machine.new) }
     ensures on_run { IsOnRun (setting X.meaning world.now) machine.old machine.new }
     ensures steps { steps.new + machine.old.cycle ≡ steps.old + machine.new.cycle }
 {
-    let mut begun = Begun::nothing();
-    let mut marks = Marks::new();
-    let mut pace = Pace::default();
-    'cycles: loop {
-        fact_limit_is_bounded(world);
-        let before = machine.pads();
-        match go_by_cycle(machine, world, &mut begun, &mut pace, &mut marks, steps) {
-            Some(why) => return Ok(why),
-            None => {
-                let cycle = first_told(machine, &marks);
-                match tell_marks(cycle, before, &marks, tape) {
-                    Ok(()) => {}
-                    Err(fault) => return Err(fault),
-                }
-            }
-        }
+    fact_limit_is_bounded(world);
+    match run_to(machine, world, u64::MAX, tape, steps) {
+        Ok(Some(why)) => Ok(Ran::uncounted(why)),
+        Ok(None) => unreachable!(),
+        Err(fault) => Err(fault),
     }
 }

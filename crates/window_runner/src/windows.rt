@@ -1,6 +1,6 @@
 //! A run by windows whose lanes are run by several threads.
 
-ghost use Rattle.std.specs.Prelude.{◌≡◌, ◌+◌, ◌≤◌, All, IfOk, IfSome, IsSome, is_none, true};
+ghost use Rattle.std.specs.Prelude.{◌≡◌, ◌+◌, ◌≤◌, All, IfOk, IfSome, IsSome, false, is_none, true};
 ghost use Rattle.outer_lane.specs.Setting.{setting};
 ghost use Rattle.trace_text.specs.Tape.{Tells};
 ghost use Rattle.rp_machine.specs.Run.{last_state};
@@ -12,6 +12,7 @@ ghost use Rattle.window_runner.specs.Windows.{answered, OnMemory, OnSink, Leaves
 
 use crate::alone::Ran;
 use crate::coordinator::{APART, Desk, Lead, run, run_uncounted};
+use crate::cycles::{run_cycles, run_to};
 use crate::piece::{Found, Piece};
 use crate::sets::sets_of;
 use crate::worker::Hall;
@@ -142,15 +143,6 @@ fn both<'b, 'w, X: Device, G: Gate, T: Tape, L: Ledger, R: Threads + Wait + Sync
     ran
 }
 
-/// The cycle from which on the first window goes over the board: the first of all where windows are counted.
-fn first_due(counted: bool, machine: &Machine) -> u64 {
-    if counted {
-        0
-    } else {
-        machine.number().saturating_add(APART)
-    }
-}
-
 /// Runs the machine with so many workers. None stands for want of memory, before anything has changed.
 fn run_at<'w, X: Device, G: Gate, T: Tape, L: Ledger, R: Threads + Wait + Sync>(
     rt: &R,
@@ -202,7 +194,7 @@ fn run_at<'w, X: Device, G: Gate, T: Tape, L: Ledger, R: Threads + Wait + Sync>(
         seat,
         kept: None,
         sets,
-        due: first_due(counted, machine),
+        due: 0,
         apart: APART,
     };
     let bench = Bench {
@@ -220,15 +212,47 @@ fn run_at<'w, X: Device, G: Gate, T: Tape, L: Ledger, R: Threads + Wait + Sync>(
     Some(both(rt, hall, bench, machine, tape, steps))
 }
 
+/// Runs the machine where no window is counted: at first on this thread alone, and with so many workers what is left then, or alone where
+/// there is no memory for them.
+fn run_first_alone<'w, X: Device, G: Gate, T: Tape, L: Ledger, R: Threads + Wait + Sync>(
+    rt: &R,
+    alloc: Global,
+    machine: &mut Machine,
+    world: &'w World<'w, X>,
+    workers: usize,
+    gate: &G,
+    tape: &mut T,
+    steps: &mut Steps<L>,
+) -> Result<Ran, SinkFault>
+    requires number { machine.old.cycle ≤ world.now.limit }
+    requires workers { workers ≤ 8 }
+    ensures told { Tells T.took T.missed tape.old tape.new (T.faults tape.old) (T.faults tape.new)
+        (run_shown (setting X.meaning world.now) machine.old) result }
+    ensures left { Leaves T.took T.missed tape.old tape.new false (setting X.meaning world.now)
+        machine.old machine.new steps.old steps.new result }
+{
+    let until = machine.number().saturating_add(APART);
+    match run_to(machine, world, until, tape, steps) {
+        Ok(Some(why)) => return Ok(Ran::uncounted(why)),
+        Ok(None) => {}
+        Err(fault) => return Err(fault),
+    }
+    match run_at(rt, false, alloc, machine, world, workers, gate, tape, steps) {
+        Some(result) => result,
+        None => run_cycles(machine, world, tape, steps),
+    }
+}
+
 /// Runs a machine up to its first stop, and tells the events of all its cycles to a tape. Where windows are counted it goes by windows and
-/// single cycles; elsewhere cycle by cycle, with a window now and then. The lanes of windows that go over the board are run by so many
-/// threads, 0 to 8, beside this one. Each cycle counts as a step. Whatever the number of workers, the gate and the order in which the
-/// threads go on, the answer is the same.
+/// single cycles; elsewhere cycle by cycle, alone at first, and with a window now and then. The lanes of windows that go over the board are
+/// run by so many threads, 0 to 8, beside this one, which are started when the first such window is due. Each cycle counts as a step.
+/// Whatever the number of workers, the gate and the order in which the threads go on, the answer is the same.
 ///
 /// # Errors
 ///
 /// `Sink`: the tape failed at an event, and its count of faults rose. It has the events before that one, and the machine stands
-/// behind the step of that event, at most 256 cycles behind it. `Memory`: there was none, before the first event; nothing has changed.
+/// behind the step of that event, at most 256 cycles behind it. `Memory`, only where windows are counted: there was none, before the
+/// first event; nothing has changed.
 pub fn run_beside<X: Device, G: Gate, T: Tape, L: Ledger, R: Threads + Wait + Sync>(
     rt: &R,
     counted: bool,
@@ -252,10 +276,15 @@ pub fn run_beside<X: Device, G: Gate, T: Tape, L: Ledger, R: Threads + Wait + Sy
     ensures on_run { IsOnRun (setting X.meaning world.now) machine.old machine.new }
     ensures steps { steps.new + machine.old.cycle ≡ steps.old + machine.new.cycle }
     ensures memory { OnMemory result ((machine.new ≡ machine.old) × (tape.new ≡ tape.old)) }
+    ensures counted { OnMemory result (counted ≡ true) }
 {
-    match run_at(
-        rt, counted, alloc, machine, world, workers, gate, tape, steps,
-    ) {
+    if !counted {
+        return match run_first_alone(rt, alloc, machine, world, workers, gate, tape, steps) {
+            Ok(ran) => Ok(ran),
+            Err(_) => Err(RunFault::Sink),
+        };
+    }
+    match run_at(rt, true, alloc, machine, world, workers, gate, tape, steps) {
         Some(Ok(ran)) => Ok(ran),
         Some(Err(_)) => Err(RunFault::Sink),
         None => Err(RunFault::Memory),

@@ -1,6 +1,7 @@
-use Rattle.window_runner.proofs.Shared.{arith, refl, setting_of}
-use Rattle.window_runner.proofs.Courses.{few_marks, few_cycles, goes_on_way, goes_fails, goes_stops}
+use Rattle.window_runner.proofs.Shared.{Some, ap, arith, setting_of, sym, ◌∙◌}
+use Rattle.window_runner.proofs.Courses.{few_marks, few_cycles, goes_on_way, goes_fails, goes_to_stop}
 use Rattle.window_runner.proofs.Cycling.{way_first}
+use Rattle.window_runner.proofs.Onward.{leaves_at_stop}
 use Rattle.window_runner.proofs.coordinator.run_uncounted.Goals as goal
 
 pub cycles-init : goal.cycles-init
@@ -25,8 +26,10 @@ cycles-preserved g c =
 pub returns-in-Some : goal.returns-in-Some
 returns-in-Some g c =
     let h = c.in-Some.ensures in
-    let k = goes_stops g.T.Tape.missed _ c.in-Some.why c.cycles.invariant.0 h.goes in
-    record { told = k.0; left = record { ran = record { why = k.1; counts = λ asked. absurd (cc asked); none = λ e. (refl, refl) }; state = k.2; failed = tt; on_run = k.3; steps = k.4 }; ready = h.ready }
+    let k = goes_to_stop c.cycles.invariant.0 h.goes in
+    let ran = c.uncounted.ensures in
+    let left = leaves_at_stop k.0 (k.1 ∙ ap Some (sym ran.why)) ran.windows ran.cycles in
+    record { told = left.0; left = left.1; ready = h.ready }
 
 pub returns-in-Err : goal.returns-in-Err
 returns-in-Err g c =

@@ -1,6 +1,5 @@
-use Rattle.window_runner.proofs.Shared.{setting_of, ◌-◌, ◌≡◌}
+use Rattle.window_runner.proofs.Shared.{OnItsWay, setting_of, ◌-◌, ◌≡◌}
 use Rattle.window_runner.specs.Seated.{IsReady}
-use Rattle.window_runner.proofs.Cycling.{OnItsWay}
 use Rattle.window_runner.proofs.coordinator.run_uncounted.Given as goal
 
 abbrev pub invariant-cycles : goal.invariant-cycles

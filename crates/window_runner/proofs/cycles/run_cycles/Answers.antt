@@ -1,31 +1,19 @@
-use Rattle.window_runner.proofs.Shared.{arith, setting_of}
-use Rattle.window_runner.proofs.Courses.{few_marks, few_cycles, goes_on_way, goes_fails, goes_stops}
-use Rattle.window_runner.proofs.Cycling.{way_first}
+use Rattle.window_runner.proofs.Shared.{Some, ap, arith, setting_of, sym, ◌∙◌}
+use Rattle.window_runner.proofs.Onward.{behind, cause_is, leaves_at_stop}
 use Rattle.window_runner.proofs.cycles.run_cycles.Goals as goal
 
-pub cycles-init : goal.cycles-init
-cycles-init g c =
+pub unreachable-requires : goal.unreachable-requires
+unreachable-requires g c =
     let w = setting_of c.args.world.now.script.now (g.X.Device.meaning c.args.world.now.device.now) c.args.world.now.limit in
-    way_first _ _ _ w c.args.machine.now _ g.met.T.Tape.takes_none c.requires.number
+    let past = behind w _ c.run_to.new.machine c.in-Ok-None.field-0-is c.in-Ok-None.ensures.cause in
+    let within = c.in-Ok-None.ensures.way.within in
+    let bound = c.fact_limit_is_bounded.ensures in
+    absurd (omega (arith, past, within, bound))
 
-pub first_told-cycle-requires : goal.first_told-cycle-requires
-first_told-cycle-requires g c = few_marks c.in-None.ensures.goes
-
-pub tell_marks-requires : goal.tell_marks-requires
-tell_marks-requires g c = few_cycles c.in-None.ensures.goes _ _ c.fact_limit_is_bounded.ensures c.cycles.invariant.within c.first_told-cycle.ensures
-
-pub cycles-smaller : goal.cycles-smaller
-cycles-smaller g c = let on = c.in-None.ensures.on in let within = c.in-None.ensures.within in omega (arith, on, within)
-
-pub cycles-preserved : goal.cycles-preserved
-cycles-preserved g c = goes_on_way _ _ g.met.T.Tape.takes_in_turn c.cycles.invariant c.in-None.ensures.goes c.first_told-cycle.ensures c.pads-before.ensures c.in-Ok.ensures
-
-pub returns-in-Some : goal.returns-in-Some
-returns-in-Some g c =
-    let k = goes_stops g.T.Tape.missed c.in-Some.why c.in-Some.why c.cycles.invariant c.in-Some.ensures.goes in
-    record { told = k.0; why = k.1; state = k.2; failed = tt; on_run = k.3; steps = k.4 }
-
-pub returns-in-Err : goal.returns-in-Err
-returns-in-Err g c =
-    let k = goes_fails _ _ g.met.T.Tape.takes_in_turn c.cycles.invariant c.in-None.ensures.goes c.first_told-cycle.ensures c.pads-before.ensures c.in-Err.ensures in
-    record { told = k.0; why = tt; state = tt; failed = k.1; on_run = k.2; steps = k.3 }
+pub returns-in-Ok-Some : goal.returns-in-Ok-Some
+returns-in-Ok-Some g c =
+    let w = setting_of c.args.world.now.script.now (g.X.Device.meaning c.args.world.now.device.now) c.args.world.now.limit in
+    let h = c.in-Ok-Some.ensures in
+    let ran = c.uncounted.ensures in
+    let k = leaves_at_stop {missed = g.T.Tape.missed} h.way (cause_is w _ c.run_to.new.machine c.in-Ok-Some.field-0-is h.cause ∙ ap Some (sym ran.why)) ran.windows ran.cycles in
+    record { told = k.0; ran = k.1.ran; state = k.1.state; failed = tt; on_run = k.1.on_run; steps = k.1.steps }

@@ -1,6 +1,5 @@
-use Rattle.window_runner.proofs.Shared.{all_shown, changes_of, ◌-◌}
+use Rattle.window_runner.proofs.Shared.{TakenBefore, all_shown, changes_of, ◌-◌}
 use Rattle.window_runner.proofs.CycleEvents.{shown_from}
-use Rattle.window_runner.proofs.Telling.{TakenBefore}
 use Rattle.window_runner.proofs.events.tell_changes.Given as goal
 
 -- the changes of the pins from this one on are left

@@ -1,6 +1,6 @@
 use Rattle.window_runner.specs.Told.{all_shown, events_by}
 use Rattle.window_runner.proofs.CycleEvents.{shown_behind}
-use Rattle.window_runner.proofs.Telling.{TakenBefore}
+use Rattle.window_runner.specs.Course.{TakenBefore}
 use Rattle.window_runner.proofs.events.tell_marks.Given as goal
 
 -- the events of the marks from this index on are left

@@ -1,6 +1,5 @@
-use Rattle.window_runner.proofs.Shared.{setting_of, ◌-◌}
-use Rattle.window_runner.proofs.Cycling.{OnItsWay}
-use Rattle.window_runner.proofs.cycles.run_cycles.Given as goal
+use Rattle.window_runner.proofs.Shared.{OnItsWay, setting_of, ◌-◌}
+use Rattle.window_runner.proofs.cycles.run_to.Given as goal
 
 abbrev pub invariant-cycles : goal.invariant-cycles
 invariant-cycles g l =
