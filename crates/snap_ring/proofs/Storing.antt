@@ -129,9 +129,9 @@ stores_start (Some f) old ram numbers whole = record {
   count = omega arith;
 }
 
-pub stored_anew-le : (n : ℕ) (pages : List (List ℕ)) (in_force : Option (List ℕ)) (ram : List ℕ) → stored_anew n pages in_force ram ≤ n
-stored_anew-le n pages None ram = omega arith
-stored_anew-le n pages (Some f) ram = differing-le n (sram_of pages f) ram
+pub stored_anew_le : (n : ℕ) (pages : List (List ℕ)) (in_force : Option (List ℕ)) (ram : List ℕ) → stored_anew n pages in_force ram ≤ n
+stored_anew_le n pages None ram = omega arith
+stored_anew_le n pages (Some f) ram = differing-le n (sram_of pages f) ram
 
 all_below : (count : ℕ) (ns : List ℕ) → ((k : ℕ) → k < length ns → get_or ns k 0 < count) → AllByRecursion (λ m. m < count) ns
 all_below count [] h = tt

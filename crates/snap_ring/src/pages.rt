@@ -67,6 +67,7 @@ fn number_in(in_force: &Option<[u32; 264]>, page: u32) -> Option<u32>
 }
 
 /// Stores the pages of SRAM that are not those in force, and gives the numbers of all.
+#[tactic(auto, using(crate::proofs::Storing::stored_anew_le))]
 pub(crate) fn store(
     pages: &mut Vec<[u32; 256]>,
     ram: &Ram,

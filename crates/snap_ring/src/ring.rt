@@ -72,6 +72,7 @@ impl Ring {
     /// # Errors
     ///
     /// Want of memory.
+    #[tactic(auto, using(crate::proofs::Keeping::spacing_is))]
     pub fn new(alloc: Global, machine: &Machine, limit: u64) -> Result<Ring, AllocError>
         requires { limit ≤ 1000000000 }
         ensures { IfOk result (λ ring. ring ≡ record { spacing = spacing_of limit; origin = 0; kept = [] }) }
@@ -86,6 +87,7 @@ impl Ring {
     /// # Errors
     ///
     /// Want of memory.
+    #[tactic(auto, using(crate::proofs::Keeping::near_is))]
     pub fn near(alloc: Global, machine: &Machine, spacing: u64) -> Result<Ring, AllocError>
         requires { spacing ≤ 15625000 }
         ensures { IfOk result (λ ring. ring ≡ record { spacing = near_spacing spacing; origin = 0; kept = [] }) }

@@ -59,6 +59,7 @@ pub fn find(snapshots: &[Snapshot], cycle: u64) -> Option<&Snapshot>
 }
 
 /// A snapshot of this cycle is among these.
+#[tactic(auto, using(crate::proofs::Finding::kept_at, crate::proofs::Finding::copied_some))]
 pub fn is_among(snapshots: &[Snapshot], cycle: u64) -> bool
     ensures { (pages : List (List ℕ)) → result ≡ is_kept cycle (states_in pages snapshots.now) }
 {

@@ -1,6 +1,6 @@
 use Rattle.std.proofs.Common.{ℕ, length-set, ◌∙◌, arith, subst}
 use Rattle.std.proofs.lemmas.List.{length-replicate}
-use Rattle.snap_ring.proofs.Storing.{Stores, stores_start, stores_step, stored_anew-le, all_stored, all_sram}
+use Rattle.snap_ring.proofs.Storing.{Stores, stores_start, stores_step, all_stored, all_sram}
 use Rattle.snap_ring.proofs.pages.store.Goals as goal
 
 pub loop-page-init : goal.loop-page-init
@@ -9,27 +9,6 @@ loop-page-init c = record {
   long = length-replicate {A = ℕ} 264 0;
   room = omega arith;
 }
-
-pub number_of-requires-clause-room : goal.number_of-requires-clause-room
-number_of-requires-clause-room c =
-    omega (
-      arith,
-      c.requires.room,
-      c.loop-page.invariant.room,
-      c.loop-page.invariant.stores.count,
-      c.loop-page-test.true,
-      stored_anew-le c.loop-page.page c.args.pages.now.items c.args.in_force c.args.ram.now,
-    )
-
-pub number_of-requires-clause-small : goal.number_of-requires-clause-small
-number_of-requires-clause-small c =
-    omega (
-      arith,
-      c.requires.small,
-      c.loop-page.invariant.stores.count,
-      c.loop-page-test.true,
-      stored_anew-le c.loop-page.page c.args.pages.now.items c.args.in_force c.args.ram.now,
-    )
 
 pub loop-page-preserved : goal.loop-page-preserved
 loop-page-preserved c = record {
