@@ -99,6 +99,7 @@ fn read<P: Part>(
 }
 
 /// Aims the probes that a reading names, loads its files, and writes the text, where a run has this device.
+#[tactic(auto, using(crate::proofs::Telling::out_converses))]
 fn serve_with<F: Shelf, I: Source, O: Sink, X: Device, L: Ledger>(
     alloc: Global,
     reading: &Reading,
@@ -135,6 +136,7 @@ fn serve_with<F: Shelf, I: Source, O: Sink, X: Device, L: Ledger>(
 }
 
 /// The same, where workers run the lanes of a run.
+#[tactic(auto, using(crate::proofs::Telling::out_converses))]
 fn serve_with_by<F: Shelf, I: Source, O: Sink, G: Gate, X: Device, L: Ledger, R>(
     alloc: Global,
     workers: &Workers<'_, G, R>,
@@ -174,6 +176,7 @@ where
 }
 
 /// Aims the probes and attaches the parts that a reading names, loads its files, and writes the text.
+#[tactic(auto, using(crate::proofs::Telling::out_converses))]
 fn serve<F: Shelf, I: Source, O: Sink, P: Part + Sync, X: Device, L: Ledger>(
     alloc: Global,
     reading: &Reading,
@@ -209,6 +212,7 @@ fn serve<F: Shelf, I: Source, O: Sink, P: Part + Sync, X: Device, L: Ledger>(
 }
 
 /// The same, where workers run the lanes of a run.
+#[tactic(auto, using(crate::proofs::Telling::out_converses))]
 fn serve_by<F: Shelf, I: Source, O: Sink, G: Gate, P: Part + Sync, X: Device, L: Ledger, R>(
     alloc: Global,
     workers: &Workers<'_, G, R>,
@@ -255,6 +259,7 @@ where
 /// handed in. All words of the parts and of the device are at most 128 together.
 ///
 /// The answer is the status, as that of `pico`; it is not 2. The clauses are those of `pico`, of what the reading stands for.
+#[tactic(auto, using(crate::proofs::Causing::causes, crate::proofs::Causing::completes))]
 pub fn pico_alone<F: Shelf, I: Source, O: Sink, X: Device, L: Ledger>(
     alloc: Global,
     reading: &Reading,
@@ -308,6 +313,7 @@ pub fn pico_alone<F: Shelf, I: Source, O: Sink, X: Device, L: Ledger>(
 /// Where the words name workers, so many threads take part in a run beside this one: they run the lanes of some of its windows, and
 /// the `gate` is entered and left round each piece of a lane; the call then waits for them and for the gate, and what is said here holds if it returns. The text is the
 /// same for each number of workers. Without workers nobody is waited for.
+#[tactic(auto, using(crate::proofs::Causing::causes, crate::proofs::Causing::completes, crate::proofs::Telling::out_converses, crate::proofs::Telling::read_converses))]
 pub fn pico<F: Shelf, I: Source, O: Sink, G: Gate, X: Device, L: Ledger, R>(
     rt: &R,
     alloc: Global,

@@ -72,6 +72,7 @@ fn load<F: Shelf>(
 }
 
 /// Loads an image file and reads it.
+#[tactic(auto, using(crate::proofs::Walking::leads_cut, crate::proofs::Walking::read_has_bytes))]
 fn open_image<F: Shelf>(alloc: Global, name: &str, files: &mut F) -> Result<Image, Unopened>
     ensures kept { F.files files.new ≡ F.files files.old }
     ensures answer { Passes (F.files files.old) (F.failed files.old) (F.failed files.new)
@@ -118,6 +119,7 @@ fn script_in(alloc: Global, bytes: &[u8]) -> Result<Script, Unopened>
 }
 
 /// Loads the script file of a run and reads it; without one the script is that of an empty file.
+#[tactic(auto, using(crate::proofs::Walking::leads_cut))]
 fn open_script<F: Shelf>(alloc: Global, run: &RunWords, files: &mut F) -> Result<Script, Unopened>
     ensures kept { F.files files.new ≡ F.files files.old }
     ensures answer { Passes (F.files files.old) (F.failed files.old) (F.failed files.new)
@@ -133,6 +135,7 @@ fn open_script<F: Shelf>(alloc: Global, run: &RunWords, files: &mut F) -> Result
 }
 
 /// Boots the machine of a run for a purpose.
+#[tactic(auto, using(crate::proofs::Walking::start_cycle))]
 fn boot<X: Device>(
     alloc: Global,
     purpose: Purpose,
@@ -170,6 +173,7 @@ fn boot<X: Device>(
 }
 
 /// Loads the image of a run, which is linked where that is asked for, its script and its programs, and boots the machine.
+#[tactic(auto, using(crate::proofs::Walking::leads_cut))]
 fn open_run<F: Shelf, X: Device>(
     alloc: Global,
     purpose: Purpose,
@@ -190,6 +194,7 @@ fn open_run<F: Shelf, X: Device>(
 }
 
 /// Loads a source and lists its programs.
+#[tactic(auto, using(crate::proofs::Walking::leads_cut))]
 fn open_source<F: Shelf>(alloc: Global, name: &str, files: &mut F) -> Result<Opened, Unopened>
     ensures kept { F.files files.new ≡ F.files files.old }
     ensures answer { (device : DeviceMeaning) → OpensFor (F.files files.old) (F.failed files.old)
@@ -204,6 +209,7 @@ fn open_source<F: Shelf>(alloc: Global, name: &str, files: &mut F) -> Result<Ope
 }
 
 /// Loads a Thumb source and makes the file of its image.
+#[tactic(auto, using(crate::proofs::Walking::leads_cut))]
 fn open_thumb<F: Shelf>(alloc: Global, name: &str, files: &mut F) -> Result<Opened, Unopened>
     ensures kept { F.files files.new ≡ F.files files.old }
     ensures answer { (device : DeviceMeaning) → OpensFor (F.files files.old) (F.failed files.old)
@@ -265,6 +271,7 @@ pub fn open_reading<F: Shelf, X: Device>(
 }
 
 /// The addresses of a block that are taken, one bit each.
+#[tactic(auto, using(crate::proofs::Walking::room_at))]
 fn taken(block: u8, loads: &[PioLoad]) -> u32
     requires { AreLoads loads.now }
     ensures { result ≡ taken_by 0 block loads.now }
@@ -279,6 +286,7 @@ fn taken(block: u8, loads: &[PioLoad]) -> u32
 }
 
 /// Loads the source of an entry, and adds its first program, if it has one, at its offset behind others.
+#[tactic(auto, using(crate::proofs::Walking::first_some, crate::proofs::Walking::loads_push))]
 fn open_program<F: Shelf>(
     alloc: Global,
     entry: &PioEntry,

@@ -58,6 +58,7 @@ fn hear_change(cycle: u64, pin: u8, level: bool, probes: &mut [Aimed])
 }
 
 /// All probes hear of a pin, if the event is its change.
+#[tactic(auto, using(crate::specs::Teller::after_none))]
 fn hear_event(event: &Event, probes: &mut [Aimed])
     ensures { seen probes.new (λ a. aim_of a.index a.pin (⟦<dyn Probe as Probe>⟧ a.probe.vtable) a.probe.value)
         ≡ after_events (event.now ∷ [])
@@ -102,6 +103,7 @@ impl<'a, O: Sink> Tape for Teller<'a, O> {
         × (new.out.ghost_name ≡ old.out.ghost_name)
         × (new.probes.ghost_name ≡ old.probes.ghost_name) };
 
+    #[tactic(auto, using(crate::specs::Teller::told_one))]
     fn event(&mut self, event: &Event) -> Result<(), SinkFault> {
         match send_event(event, self.out) {
             Ok(()) => {
@@ -137,6 +139,7 @@ pub struct Workers<'a, G: Gate, R: Threads + Wait + Sync> {
 /// # Errors
 ///
 /// `Sink`: the tape failed at an event. `Memory`: there was none for the windows; nothing has changed.
+#[tactic(auto, using(crate::proofs::Telling::ran_for))]
 pub fn run_by_one<X: Device, T: Tape, L: Ledger>(
     stats: bool,
     alloc: Global,

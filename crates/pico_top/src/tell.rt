@@ -75,6 +75,7 @@ fn send_probe<O: Sink>(probe: &Aimed, out: &mut O) -> Result<(), SinkFault>
 }
 
 /// Puts the lines of probes, in their order.
+#[tactic(auto, using(trace_text::proofs::Sending::sends_cut, trace_text::proofs::Sending::sends_part, board_parts::proofs::Viewing::viewed))]
 fn send_probes<O: Sink>(probes: &[Aimed], out: &mut O) -> Result<(), SinkFault>
     ensures { Writes (sunk ⟦<O as Sink>⟧ out.old) (sunk ⟦<O as Sink>⟧ out.new)
         (probe_lines (seen probes.now (λ a. aim_of a.index a.pin (⟦<dyn Probe as Probe>⟧ a.probe.vtable) a.probe.value))) result }
@@ -108,6 +109,7 @@ fn send_counts<O: Sink>(stats: bool, ran: &Ran, out: &mut O) -> Result<(), SinkF
 
 /// Puts the lines of a machine at which a run ended, those of the probes that heard it, and that of its counts, where it is asked
 /// for.
+#[tactic(auto, using(trace_text::proofs::Sending::sends_cut, trace_text::proofs::Sending::sends_part))]
 pub fn send_last<O: Sink>(
     stats: bool,
     ran: &Ran,

@@ -3,7 +3,7 @@ use Rattle.std.specs.String.{string_bytes}
 use Rattle.command_words.specs.declared.refusal.Refusal.TheVariants.{Words}
 use Rattle.pico_top.proofs.Shared.{BadWords, Refused, Refusing, read_parts_fit}
 use Rattle.pico_top.proofs.Causing.{causes, completes}
-use Rattle.pico_top.proofs.Telling.{out_converses, read_converses, unopened_converses}
+use Rattle.pico_top.proofs.Telling.{read_converses, unopened_converses}
 use Rattle.pico_top.proofs.pico.Goals as goal
 
 pub serve-requires-clause-fit : goal.serve-requires-clause-fit
@@ -12,23 +12,8 @@ serve-requires-clause-fit g c κs within = read_parts_fit _ _ _ (map string_byte
 pub serve_by-requires-clause-fit : goal.serve_by-requires-clause-fit
 serve_by-requires-clause-fit g c κs within = read_parts_fit _ _ _ (map string_bytes c.args.words.now, rw (c.deref.ensures.value, c.deref-2.ensures.value) at c.in-Ok.ensures)
 
-pub returns-then-count-eq0 : goal.returns-then-count-eq0
-returns-then-count-eq0 g c =
-    let h = read_converses _ _ _ _ _ _ (rw (c.deref.ensures.value, c.deref-2.ensures.value) at c.in-Ok.ensures) c.serve.ensures in
-    record { text = h; cause = causes _ _ _ _ _ h; complete = completes _ _ _ _ _ h }
-
-pub returns-in-Ok : goal.returns-in-Ok
-returns-in-Ok g c =
-    let h = read_converses _ _ _ _ _ _ (rw (c.deref.ensures.value, c.deref-2.ensures.value) at c.in-Ok.ensures) c.serve_by.ensures in
-    record { text = h; cause = causes _ _ _ _ _ h; complete = completes _ _ _ _ _ h }
-
 pub returns-in-Err-Words : goal.returns-in-Err-Words
 returns-in-Err-Words g c =
     let none = rw (c.in-Err-Words.field-0-is, c.deref.ensures.value, c.deref-2.ensures.value) at c.in-Err-Words.ensures in
     let h = read_converses _ _ None _ _ _ none (unopened_converses _ _ _ (Refusing Words) _ (Refused BadWords, inl refl, refl, refl) refl refl c.refuse.ensures refl) in
-    record { text = h; cause = causes _ _ _ _ _ h; complete = completes _ _ _ _ _ h }
-
-pub returns : goal.returns
-returns g c =
-    let h = out_converses _ _ _ _ refl refl refl c.refuse-in-Err-Memory.ensures refl in
     record { text = h; cause = causes _ _ _ _ _ h; complete = completes _ _ _ _ _ h }

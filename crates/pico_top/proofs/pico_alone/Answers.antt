@@ -1,9 +1,5 @@
 use Rattle.pico_top.proofs.Shared.{read_parts_fit}
-use Rattle.pico_top.proofs.Causing.{causes, completes}
 use Rattle.pico_top.proofs.pico_alone.Goals as goal
 
 pub serve-requires-clause-fit : goal.serve-requires-clause-fit
 serve-requires-clause-fit g c κs within = read_parts_fit _ _ _ c.requires.read
-
-pub returns : goal.returns
-returns g c = let h = c.serve.ensures in record { text = h; cause = causes _ _ _ _ _ h; complete = completes _ _ _ _ _ h }

@@ -1,5 +1,5 @@
-use Rattle.pico_top.proofs.Shared.{refl, board}
-use Rattle.pico_top.proofs.Telling.{beside_none, beside_some, out_converses, served}
+use Rattle.pico_top.proofs.Shared.{board}
+use Rattle.pico_top.proofs.Telling.{beside_none, beside_some, served}
 use Rattle.pico_top.proofs.serve.Goals as goal
 
 pub returns-in-empty : goal.returns-in-empty
@@ -7,6 +7,3 @@ returns-in-empty g c = served (board _ _ _) _ _ _ _ _ (beside_none _ _ _ _ c.in-
 
 pub returns-in-Ok : goal.returns-in-Ok
 returns-in-Ok g c = served (board _ _ _) _ _ _ _ _ (beside_some _ _ _ _ _ c.in_default.len_at_least c.wirings.ensures c.in-Ok.ensures.device) c.serve_with-in-Ok.ensures
-
-pub returns-in-Err : goal.returns-in-Err
-returns-in-Err g c = out_converses _ _ _ _ refl refl refl c.refuse.ensures refl

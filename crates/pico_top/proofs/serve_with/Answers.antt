@@ -1,10 +1,7 @@
 use Rattle.pico_top.proofs.Shared.{refl, sym}
 use Rattle.pico_top.specs.Dialogue.{drawn}
-use Rattle.pico_top.proofs.Telling.{out_converses, opened_converses, unopened_converses, tells_text}
+use Rattle.pico_top.proofs.Telling.{opened_converses, unopened_converses, tells_text}
 use Rattle.pico_top.proofs.serve_with.Goals as goal
-
-pub returns-in_default : goal.returns-in_default
-returns-in_default g c = out_converses _ _ _ _ refl refl refl c.refuse.ensures refl
 
 pub returns-in-Machine : goal.returns-in-Machine
 returns-in-Machine g c =

@@ -1,17 +1,11 @@
 use Rattle.std.proofs.Common.{rules, ◌≡◌, Err, refl}
 use Rattle.pico_top.proofs.Shared.{image_of, BadImage}
-use Rattle.pico_top.proofs.Walking.{file_leads, judge_leads, judge_refuses, leads_cut, leads_out, read_has_bytes}
+use Rattle.pico_top.proofs.Walking.{file_leads, judge_leads, judge_refuses, leads_out}
 use Rattle.pico_top.proofs.open.open_image.Goals as goal
-
-pub returns-in_err-bytes-clause-answer : goal.returns-in_err-bytes-clause-answer
-returns-in_err-bytes-clause-answer g c next = leads_cut _ c.from_residual.ensures.1 (c.in_err-bytes.ensures.answer _)
 
 pub returns-in-Ok-clause-answer : goal.returns-in-Ok-clause-answer
 returns-in-Ok-clause-answer g c next =
     file_leads image_of BadImage _ _ c.in_ok-bytes.ensures.answer (judge_leads _ BadImage _ next (λ fault. refl) (rw c.deref.ensures.value at c.in-Ok.ensures.image))
-
-pub returns-in-Ok-clause-have : goal.returns-in-Ok-clause-have
-returns-in-Ok-clause-have g c = read_has_bytes _ _ c.in_ok-bytes.ensures.within (rw c.deref.ensures.value at c.in-Ok.ensures.image)
 
 pub returns-in-Err-Memory-clause-answer : goal.returns-in-Err-Memory-clause-answer
 returns-in-Err-Memory-clause-answer g c next = file_leads image_of BadImage _ _ c.in_ok-bytes.ensures.answer (leads_out _ refl)

@@ -1,22 +1,10 @@
 use Rattle.pico_top.proofs.Shared.{rules, ◌≡◌, [], Err, Memory, BadSource, entry_in, plans_of, refl}
-use Rattle.pico_top.proofs.Walking.{file_leads, first_none, first_placed, first_refused, first_some, judge_refuses, leads_behind, leads_out, loads_push, places_end}
+use Rattle.pico_top.proofs.Walking.{file_leads, first_none, first_placed, first_refused, judge_refuses, leads_behind, leads_out, places_end}
 use Rattle.pico_top.proofs.open.open_program.Goals as goal
 
 pub returns-in_err-bytes-clause-answer : goal.returns-in_err-bytes-clause-answer
 returns-in_err-bytes-clause-answer g c before h =
     rw (← c.as_str.ensures.value) (places_end _ _ c.from_residual.ensures.1 (λ next. (c.in_err-bytes.ensures.answer _).ended))
-
-pub returns-in-Ok-push-clause-loads : goal.returns-in-Ok-push-clause-loads
-returns-in-Ok-push-clause-loads g c =
-    let runs = (first_some _ _ (rw c.in-Ok-Some.field-0-is at c.in-Ok-Some.ensures.ok)).4 in
-    rw c.in-Ok-push.ensures.items (loads_push _ _ c.requires (record {
-      block = c.args.entry.now.block_within;
-      machine = c.args.entry.now.machine_within;
-      room = c.in-Ok.ensures.room;
-      target = runs.target;
-      wrap = runs.wrap;
-      side = runs.side;
-    }))
 
 pub returns-in-Ok-push-clause-answer : goal.returns-in-Ok-push-clause-answer
 returns-in-Ok-push-clause-answer g c before h =

@@ -2,9 +2,6 @@ use Rattle.pico_top.proofs.Walking.{boots_leads, leads_behind, leads_cut}
 use Rattle.pico_top.proofs.Shared.{refl}
 use Rattle.pico_top.proofs.open.open_run.Goals as goal
 
-pub returns-in_err-image-clause-answer : goal.returns-in_err-image-clause-answer
-returns-in_err-image-clause-answer g c aims = rw (← c.as_str.ensures.value) (leads_cut _ c.from_residual.ensures.1 (c.in_err-image.ensures.answer _))
-
 pub returns-in_err-image-2-clause-answer : goal.returns-in_err-image-2-clause-answer
 returns-in_err-image-2-clause-answer g c aims =
     rw (← c.as_str.ensures.value)

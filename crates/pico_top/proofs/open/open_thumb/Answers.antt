@@ -1,10 +1,7 @@
-use Rattle.std.proofs.Common.{rules, ◌≡◌, Err, refl, rules}
+use Rattle.std.proofs.Common.{rules, ◌≡◌, Err, refl}
 use Rattle.pico_top.proofs.Shared.{image_of_source, BadThumb}
-use Rattle.pico_top.proofs.Walking.{file_leads, judge_refuses, leads_cut, leads_out}
+use Rattle.pico_top.proofs.Walking.{file_leads, judge_refuses, leads_out}
 use Rattle.pico_top.proofs.open.open_thumb.Goals as goal
-
-pub returns-in_err-bytes-clause-answer : goal.returns-in_err-bytes-clause-answer
-returns-in_err-bytes-clause-answer g c device aims = leads_cut _ c.from_residual.ensures.1 (c.in_err-bytes.ensures.answer _)
 
 pub returns-in_err-write_image-in-Ok-clause-answer : goal.returns-in_err-write_image-in-Ok-clause-answer
 returns-in_err-write_image-in-Ok-clause-answer g c device aims = file_leads image_of_source BadThumb _ _ c.in_ok-bytes.ensures.answer (leads_out _ c.from_residual-in_err-write_image-in-Ok.ensures.1)

@@ -1,10 +1,6 @@
 use Rattle.pico_top.proofs.Shared.{sends_cut, sends_part, sends_then}
 use Rattle.pico_top.proofs.tell.send_last.Goals as goal
 
-pub returns-in_err-send_stop : goal.returns-in_err-send_stop
-returns-in_err-send_stop g c =
-    sends_cut {T = Unit {0}} _ c.from_residual.ensures.1 (sends_part {T = Unit {0}} _ (sends_part {T = Unit {0}} _ (sends_part {T = Unit {0}} _ (sends_part {T = Unit {0}} _ (rw c.number.ensures at c.in_err-send_stop.ensures)))))
-
 pub returns-in_err-send_registers : goal.returns-in_err-send_registers
 returns-in_err-send_registers g c =
     let cut = sends_then _ (rw c.number.ensures at c.in_ok-send_stop.ensures) (rw c.registers.ensures at c.in_err-send_registers.ensures) in
