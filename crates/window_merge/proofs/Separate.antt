@@ -41,8 +41,6 @@ deed_stores : (w : Setting) (seen : SeenOutputs) (grant : Bool) (v : Want) (s : 
 unfolding deed_of
 deed_stores w seen grant v s h1 = grind arith
 
--- ---- SIO and what is known of it
-
 -- ---- the cycle
 
 -- what is wanted is nothing, or an access to SRAM

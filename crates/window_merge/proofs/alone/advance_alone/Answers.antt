@@ -3,9 +3,7 @@ use Rattle.window_merge.proofs.Going.{way_first, way_cycle, way_stopped}
 use Rattle.window_merge.proofs.alone.advance_alone.Goals as goal
 
 pub loop-marks-init : goal.loop-marks-init
-loop-marks-init g c =
-    let w = setting_of c.args.world.now.script.now (g.X.Device.meaning c.args.world.now.device.now) c.args.world.now.limit in
-    way_first w c.args.machine.now c.args.to _ c.requires.to c.requires.number
+loop-marks-init g c = search (arith, way_first)
 
 pub returns-in-Some-clause-state : goal.returns-in-Some-clause-state
 returns-in-Some-clause-state g c =

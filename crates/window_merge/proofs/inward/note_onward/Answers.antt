@@ -3,12 +3,7 @@ use Rattle.window_merge.proofs.InwardCycles.{keeps_none, keeps_on, noted_none, n
 use Rattle.window_merge.proofs.inward.note_onward.Goals as goal
 
 pub loop-done-init : goal.loop-done-init
-loop-done-init g c = record {
-  gone = has_gone_none _ _ _ _ _ c.lines-lines.ensures;
-  keeps = keeps_none c.args.machine.now;
-  notes = noted_none c.args.notes.now c.args.machine.now;
-  room = room_fewer c.args.notes.now (3 * c.args.most) (3 * (c.args.most - 0)) c.requires.room (omega arith);
-}
+loop-done-init g c = search (arith, has_gone_none, keeps_none, noted_none, room_fewer)
 
 pub loop-done-preserved : goal.loop-done-preserved
 loop-done-preserved g c =

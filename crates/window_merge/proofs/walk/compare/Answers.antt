@@ -12,10 +12,7 @@ returns-then-is_entry c =
     (c.is_entry.ensures.0 c.if-is_entry.true)
 
 pub returns-else-is_entry : goal.returns-else-is_entry
-returns-else-is_entry c =
-    now_other c.args.log.now (c.args.ask, c.args.answer) c.args.index c.args.same
-    (not_next c.args.log.now c.args.index c.entry.result (c.args.ask, c.args.answer) c.entry.ensures (not_from_Decides c.is_entry.result c.is_entry.ensures c.if-is_entry.false))
-    c.if-not-same.false
+returns-else-is_entry c = search (arith, now_other, not_next, not_from_Decides)
 
 pub returns-else-index-count : goal.returns-else-index-count
 returns-else-index-count c =

@@ -3,8 +3,7 @@ use Rattle.window_merge.proofs.Walking.{length_long, length_ends}
 use Rattle.window_merge.proofs.walk.is_length.Goals as goal
 
 pub returns-then-at_most-cycles : goal.returns-then-at_most-cycles
-returns-then-at_most-cycles g c = λ before first h.
-    length_long (meaning g.S.Lane.asks g.S.Lane.wanted g.S.Lane.next g.S.Lane.marked) before c.args.start first c.args.cycles c.args.at_most c.if-at_most-cycles.true
+returns-then-at_most-cycles g c = search (arith, length_long)
 
 pub returns : goal.returns
 returns g c = λ before first h.
