@@ -1,11 +1,11 @@
 -- What the proofs of this crate name of others and of the specifications.
-pub use Rattle.board_parts.specs.Hearing.{Aim, seen}
+pub use Rattle.board_parts.specs.Hearing.{Aim}
 pub use Rattle.board_parts.specs.Wiring.{Wired, counts_of, placed_by, wired_in}
 pub use Rattle.command_words.proofs.Fitting.{read_parts_fit}
 pub use Rattle.command_words.specs.Read.{entry_in}
 pub use Rattle.command_words.specs.Refusals.{Refusal, refused_line, status_of}
 pub use Rattle.command_words.specs.Refusals.Refusal.{BadImage, BadScript, BadSource, BadStart, BadThumb, BadWords, Lost, TooLarge}
-pub use Rattle.command_words.specs.Words.{Subcommand, Run, reading}
+pub use Rattle.command_words.specs.Words.{Subcommand, Run}
 pub use Rattle.command_words.specs.Words.Subcommand.{Assemble, AssembleThumb, DebugImage, Disassemble, Generate, RunImage}
 pub use Rattle.command_words.specs.declared.reading.PioEntry.{PioEntry}
 pub use Rattle.lane_look.specs.Device.{DeviceMeaning, paired}
@@ -33,7 +33,7 @@ pub use Rattle.rp_ports.specs.Shelf.{Answers, Files}
 pub use Rattle.rp_ports.specs.Sink.{Appends}
 pub use Rattle.rp_ports.specs.declared.shelf.Loaded.TheVariants.{Done, Failed, Large}
 pub use Rattle.std.proofs.Common.{Bool, Err, Global, IfErr, IfOk, IfSome, IsErrAnd, IsSomeAnd, List, None, Ok, Option, Result, Some, Vec, [], ap, ap₂, arith, drop, false, get_or, if◌then◌else◌, inl, inr, length, length-append, map, nat_le, not, refl, rules, subst, suc, sym, take, true, zero, ℕ, ◌&&◌, ◌++◌, ◌+◌, ◌-◌, ◌<◌, ◌==◌, ◌∙◌, ◌∷◌, ◌≡◌, ◌≤◌, ◌⊎◌}
-pub use Rattle.std.proofs.lemmas.List.{append-nil, at_drop_all, at_drop_more, length-map, take_at}
+pub use Rattle.std.proofs.lemmas.List.{append-nil, at_drop_all, at_drop_more, take_at}
 pub use Rattle.std.proofs.lemmas.Result.{err_from_is_err_and}
 pub use Rattle.thumb_asm.specs.Source.{image_of_source}
 pub use Rattle.trace_text.proofs.Sending.{SentTo, part_behind, part_of_longer, sends_cut, sends_part, sends_then, sent_on, sent_part}
