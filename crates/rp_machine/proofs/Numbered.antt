@@ -186,6 +186,7 @@ numbered_0 s small = record {
   where
     low : 0 < 2
     low = omega arith
+
     tick : (n : ℕ) → n < 4 → has_line 0 s n ≡ with_device s n (has_bit (timer.lines_of s.outer.timer.block) n)
     tick zero few = tick_at 0 0 s low refl refl refl
     tick (suc zero) few = tick_at 0 1 s low refl refl refl
@@ -211,6 +212,7 @@ numbered_1 s small = record {
   where
     low : 1 < 2
     low = omega arith
+
     tick : (n : ℕ) → n < 4 → has_line 1 s n ≡ with_device s n (has_bit (timer.lines_of s.outer.timer.block) n)
     tick zero few = tick_at 1 0 s low refl refl refl
     tick (suc zero) few = tick_at 1 1 s low refl refl refl
